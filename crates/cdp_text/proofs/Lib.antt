@@ -1,0 +1,6 @@
+pub mod Decimals
+pub mod LineTableLemmas
+pub mod LinesLemmas
+pub mod PartsLemmas
+pub mod PositionLemmas
+pub mod UnitsLemmas

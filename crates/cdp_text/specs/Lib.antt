@@ -1,0 +1,5 @@
+pub mod Decimal
+pub mod Lines
+pub mod Parts
+pub mod Position
+pub mod Units
