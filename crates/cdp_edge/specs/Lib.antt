@@ -1,0 +1,5 @@
+pub mod Blame
+pub mod FaultLog
+pub mod MemShelf
+pub mod MemSink
+pub mod Outside
