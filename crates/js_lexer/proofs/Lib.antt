@@ -1,0 +1,10 @@
+pub mod Leading
+pub mod Runs
+pub mod Spellings
+pub mod Gaps
+pub mod Numbers
+pub mod Tables
+pub mod Characters
+pub mod Literals
+pub mod Fronts
+pub mod Tiling

@@ -1,0 +1,12 @@
+pub mod Classes
+pub mod Spellings
+pub mod Pieces
+pub mod Gaps
+pub mod Words
+pub mod Punctuators
+pub mod Numbers
+pub mod Strings
+pub mod Characters
+pub mod Tokens
+pub mod Scanning
+pub mod State
