@@ -1,0 +1,4 @@
+mod Statements
+mod Scripts
+mod Parts
+pub mod PlainRun

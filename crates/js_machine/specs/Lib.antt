@@ -1,0 +1,4 @@
+pub mod Early
+pub mod Pending
+pub mod Plain
+pub mod PlainLaws
