@@ -1,0 +1,4 @@
+pub mod CommandLemmas
+pub mod RunLemmas
+pub mod HistoryLemmas
+pub mod RuleLemmas

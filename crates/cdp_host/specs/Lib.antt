@@ -1,0 +1,9 @@
+pub mod Command
+pub mod CommandRead
+pub mod Messages
+pub mod Kept
+pub mod Session
+pub mod Meaning
+pub mod Histories
+pub mod States
+pub mod Rules
