@@ -1,0 +1,6 @@
+pub mod LineLemmas
+pub mod PlayLemmas
+pub mod ReplayLemmas
+pub mod HeadlineLemmas
+pub mod ProgramLemmas
+pub mod AppliedLemmas

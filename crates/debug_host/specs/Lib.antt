@@ -1,0 +1,10 @@
+pub mod Lines
+pub mod LineRead
+pub mod Output
+pub mod Journal
+pub mod Words
+pub mod Ends
+pub mod Status
+pub mod RequestHeld
+pub mod Headline
+pub mod Applied

@@ -1,0 +1,42 @@
+//! `debug_host` runs scripts and lets clients debug the run.
+#![tactic(auto)]
+
+mod act;
+mod line;
+mod outcome;
+mod output;
+mod play;
+mod program;
+mod replay;
+mod report;
+#[cfg(test)]
+mod tests;
+mod words;
+
+use cdp_edge::{FileShelf, WriterSink, put};
+use program::debug_main;
+use std::alloc::AllocError;
+use std::io::ErrorKind;
+use std::process::ExitCode;
+use std::rt::Env;
+
+fn main(rt: HostRuntime) -> ExitCode {
+    let alloc = rt.alloc();
+    let mut out = WriterSink::new(rt.stdout());
+    let mut err = WriterSink::new(rt.stderr());
+    let Ok(words) = arguments(&rt) else {
+        let _ = put(&mut err, b"debug_host: out of memory\n");
+        return ExitCode::from(1);
+    };
+    let mut shelf = FileShelf::new(alloc, rt);
+    ExitCode::from(debug_main(alloc, &words, &mut shelf, &mut out, &mut err))
+}
+
+/// The words after the program's name. Where one isn't UTF-8 there are none, which is a faulty command line.
+fn arguments(rt: &(impl Env + AllocGlobal)) -> Result<Vec<String>, AllocError> {
+    match std::env::args(rt) {
+        Ok(args) => args.skip(1).collect(rt.alloc()),
+        Err(error) if error.kind() == ErrorKind::OutOfMemory => Err(AllocError),
+        Err(_) => Ok(Vec::new(rt.alloc())),
+    }
+}
