@@ -1,0 +1,3 @@
+mod Sources
+pub mod Views
+pub mod PlaceLemmas

@@ -1,0 +1,10 @@
+pub mod Trees
+pub mod Views
+pub mod Tokens
+pub mod Flat
+pub mod Well
+pub mod Height
+pub mod Language
+pub mod Spans
+pub mod Places
+pub mod Kept
