@@ -14,3 +14,7 @@ item_view (Err b) = Err b.at
 -- what an iterator has left
 abbrev pub tokens_left : Tokens → List (Result Lent ℕ)
 tokens_left s = if s.done then [] else items (suc (length s.left.now)) s.at s.left.now
+
+-- the tokens of a source, or at last the place of a bad one
+abbrev pub items_of : List ℕ → List (Result Lent ℕ)
+items_of source = items (suc (length source)) 0 source

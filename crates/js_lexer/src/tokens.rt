@@ -91,13 +91,15 @@ pub struct Tokens<'s> {
 }
 
 impl<'s> Tokens<'s> {
-    ghost use Rattle.js_lexer.specs.State.{tokens_left};
+    ghost use Rattle.std.specs.Prelude.{◌≡◌};
+    ghost use Rattle.js_lexer.specs.State.{items_of, tokens_left};
     ghost use Rattle.js_lexer.specs.Tokens.{Tile};
 
     /// The tokens of a source, in order, which tile it with the gaps between them. Where no token
     /// begins, the last item is the bad token's place.
     pub fn new(source: &'s [u16]) -> Tokens<'s>
-        ensures { Tile 0 source.now (tokens_left result) }
+        ensures tile { Tile 0 source.now (tokens_left result) }
+        ensures items { tokens_left result ≡ items_of source.now }
     {
         Tokens {
             left: source,

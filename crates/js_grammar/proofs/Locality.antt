@@ -1,0 +1,116 @@
+-- Answers depend on the tokens read, and stay the same where trees may be higher: of all that reads, by induction on the height that is allowed.
+use Rattle.std.proofs.Common.{ℕ, zero, suc, ◌≤◌, List, [], ◌∷◌, Err, refl, inl, arith}
+use Rattle.js_tree.specs.Trees as trees
+use Rattle.js_tree.specs.Trees.{Identifier, Expression, Statement}
+use Rattle.js_tree.specs.Tokens.{head_of}
+use Rattle.js_tree.specs.Well.{Context}
+use Rattle.js_syntax.specs.Reading.{deep, name_at}
+use Rattle.js_syntax.specs.Classes as classes
+use Rattle.js_syntax.specs.Classes.{Start, start}
+use Rattle.js_syntax.specs.Productions.{Below, parameters_at, items_at}
+use Rattle.js_syntax.specs.Parsing.{arrow_rest, arrow_of_one, function_at, below, function_code_by}
+use Rattle.js_grammar.proofs.Soundness.{sound_below}
+use Rattle.js_grammar.proofs.FrontAgain.{statement_starts}
+use Rattle.js_grammar.proofs.FollowsTools.{Follows, sticks, deepens, past, peeks, binds, Takes}
+use Rattle.js_grammar.proofs.FollowsParts.{FollowsBelow, Pair, name_follows, parameters_follows, items_at_follows, braces_follows, code_follows}
+use Rattle.js_grammar.proofs.FollowsExpressions.{call_follows, unary_follows, operation_follows, arrow_rest_follows, function_follows}
+use Rattle.js_grammar.proofs.FollowsAssignments.{Spans, assignment_follows, expression_follows, assignment_names, expression_closes}
+use Rattle.js_grammar.proofs.FollowsStatements.{statement_follows, list_item_follows}
+
+-- a statement takes a token at least
+item_takes : (n : ℕ) (context : Context) (taken : List Identifier) → Takes (λ ts. (below n).item context taken ts)
+item_takes n context taken ts x e =
+    let t = (sound_below n).item context taken ts x e in
+    let p = statement_starts context x.0 t.well ts x.1 t.marks in
+    let l = p.1 in
+    omega (arith, l)
+
+-- what reads below with itself
+record Own (b : Below) : Type 0 where
+  follows : FollowsBelow b b
+  spans : Spans b
+
+pair_of : (n m : ℕ) → FollowsBelow (below n) (below m) → Own (below m) → Pair (below n) (below m)
+pair_of n m h o = record { both = h; right = o.follows; takes = item_takes m }
+
+-- one step up on both sides
+one_more : (n m : ℕ) → n ≤ m → Pair (below n) (below m) → Pair (below n) (below n) → Spans (below n) → FollowsBelow (below (suc n)) (below (suc m))
+unfolding below
+one_more n m le p own s = record {
+  assignment = assignment_follows (below n) (below m) n m le p own s;
+  expression = expression_follows (below n) (below m) n m le p own s;
+  operation = λ low. operation_follows (below n) (below m) n m le p low;
+  unary = unary_follows (below n) (below m) n m le p;
+  call = call_follows (below n) (below m) n m le p;
+  statement = λ context. statement_follows (below n) (below m) p context;
+  item = λ context taken. list_item_follows (below n) (below m) p context taken;
+  block = λ context taken. braces_follows (below n) (below m) p context taken;
+  function = code_follows (below n) (below m) p;
+}
+
+-- nothing is told of what is too deep
+from_none : (c : Below) → FollowsBelow (below zero) c
+unfolding below
+from_none c = record {
+  assignment = deepens c.assignment;
+  expression = deepens c.expression;
+  operation = λ low. deepens (λ ts. c.operation low ts);
+  unary = deepens c.unary;
+  call = deepens c.call;
+  statement = λ context. deepens (λ ts. c.statement context ts);
+  item = λ context taken. deepens (λ ts. c.item context taken ts);
+  block = λ context taken. deepens (λ ts. c.block context taken ts);
+  function = deepens c.function;
+}
+
+own_zero : Own (below zero)
+unfolding below
+own_zero = record {
+  follows = from_none (below zero);
+  spans = record {
+    names = record { follows = deepens (λ ts. Err deep); alone = λ t ts e h. inl refl; past = λ t ts e. tt };
+    closes = λ ts e. tt;
+  };
+}
+
+own_suc : (n : ℕ) → Own (below n) → Own (below (suc n))
+unfolding below
+own_suc n o =
+    let p : Pair (below n) (below n) = pair_of n n o.follows o in
+    record {
+      follows = one_more n n (omega arith) p p o.spans;
+      spans = record { names = assignment_names (below n) n p o.spans; closes = expression_closes (below n) n p o.spans };
+    }
+
+own : (n : ℕ) → Own (below n)
+own zero = own_zero
+own (suc n) = own_suc n (own n)
+
+-- What reads trees that are at most n high answers as what reads those that are at most m high.
+pub follows_below : (n m : ℕ) → n ≤ m → FollowsBelow (below n) (below m)
+follows_below zero m le = from_none (below m)
+follows_below (suc n) zero le = absurd (omega arith)
+follows_below (suc n) (suc m) le =
+    let l : n ≤ m = omega arith in
+    one_more n m l (pair_of n m (follows_below n m l) (own m)) (pair_of n n (own n).follows (own n)) (own n).spans
+
+pub pair_below : (n m : ℕ) → n ≤ m → Pair (below n) (below m)
+pair_below n m le = pair_of n m (follows_below n m le) (own m)
+
+-- ---- what whole sources are read by
+
+pub items_follows_below : (n m : ℕ) → n ≤ m → (context : Context) (taken : List Identifier) → Follows (λ ts. items_at (below n) context taken ts) (λ ts. items_at (below m) context taken ts)
+items_follows_below n m le context taken = items_at_follows (below n) (below m) (pair_below n m le) context taken
+
+one_follows : (b c : Below) → Pair b c → Follows (λ ts. arrow_of_one b ts) (λ ts. arrow_of_one c ts)
+unfolding arrow_of_one
+one_follows b c p = binds (λ ts. name_at ts) (λ ts. name_at ts) (λ n ts. arrow_rest b (trees.one_name n) (n ∷ []) ts) (λ n ts. arrow_rest c (trees.one_name n) (n ∷ []) ts) name_follows (λ n. arrow_rest_follows b c p (trees.one_name n) (n ∷ []))
+
+code_by_follows : (b c : Below) → Pair b c → (v : Start) → Follows (λ ts. function_code_by b v ts) (λ ts. function_code_by c v ts)
+code_by_follows b c p classes.function_word = past (λ ts. function_at b ts) (λ ts. function_at c ts) (function_follows b c p)
+code_by_follows b c p (classes.a_name s) = one_follows b c p
+code_by_follows b c p classes.parenthesis = binds (λ ts. parameters_at ts) (λ ts. parameters_at ts) (λ ps ts. arrow_rest b (trees.name_list ps) ps ts) (λ ps ts. arrow_rest c (trees.name_list ps) ps ts) parameters_follows (λ ps. arrow_rest_follows b c p (trees.name_list ps) ps)
+code_by_follows b c p _ = sticks
+
+pub function_code_follows : (b c : Below) → Pair b c → Follows (λ ts. function_code_by b (start (head_of ts)) ts) (λ ts. function_code_by c (start (head_of ts)) ts)
+function_code_follows b c p = peeks start (λ v ts. function_code_by b v ts) (λ v ts. function_code_by c v ts) (code_by_follows b c p)

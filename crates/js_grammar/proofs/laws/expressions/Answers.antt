@@ -1,0 +1,9 @@
+use Rattle.js_grammar.proofs.Soundness.{expression_read}
+use Rattle.js_grammar.proofs.Exactness.{expression_leaves_at}
+use Rattle.js_grammar.proofs.laws.expressions.Goals as goal
+
+pub returns-clause-sound : goal.returns-clause-sound
+returns-clause-sound c = expression_read
+
+pub returns-clause-stuck : goal.returns-clause-stuck
+returns-clause-stuck c = expression_leaves_at

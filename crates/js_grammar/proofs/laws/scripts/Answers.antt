@@ -1,0 +1,9 @@
+use Rattle.js_grammar.proofs.Soundness.{script_read}
+use Rattle.js_grammar.proofs.Exactness.{script_leaves_at}
+use Rattle.js_grammar.proofs.laws.scripts.Goals as goal
+
+pub returns-clause-sound : goal.returns-clause-sound
+returns-clause-sound c = script_read
+
+pub returns-clause-stuck : goal.returns-clause-stuck
+returns-clause-stuck c = script_leaves_at

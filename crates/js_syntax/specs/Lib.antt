@@ -1,0 +1,10 @@
+pub mod Kinds
+pub mod Views
+pub mod Names
+pub mod Places
+pub mod Reading
+pub mod Classes
+pub mod Heads
+pub mod Productions
+pub mod Parsing
+pub mod Giving
