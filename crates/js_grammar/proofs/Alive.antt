@@ -16,7 +16,7 @@ use Rattle.js_grammar.proofs.AliveTools.{Counts, stuck_counts, deep_counts, soft
 use Rattle.js_grammar.proofs.AliveParts.{AliveBelow, IsBlock, items_at_lives}
 use Rattle.js_grammar.proofs.AliveExpressions.{IsFunctionOf}
 use Rattle.js_grammar.proofs.AliveAssignments.{function_code_lives, no_function_lives}
-use Rattle.js_grammar.proofs.AliveStatements.{alive_below}
+use Rattle.js_grammar.proofs.AliveBelow.{alive_below}
 
 -- The tokens before the fault begin a source of the language.
 pub record LivesIn {Tree : Type 0} (Is : List Token → Tree → Type 0) (ts : List Token) (e : Fault) : Type 0 where
@@ -27,7 +27,7 @@ pub record LivesIn {Tree : Type 0} (Is : List Token → Tree → Type 0) (ts : L
   pub begins : Begins Is before
 
 -- what lives begins a source
-begins_so : {Tree : Type 0} {Is : List Token → Tree → Type 0} {First : Option Token → Type 0} {flat_of : Tree → List Mark} {Good : Tree → Type 0} {ts : List Token} {e : Fault} → ((us : List Token) (t : Tree) → Good t → Matches (flat_of t) us [] → Is us t) → Lives First flat_of Good ts e → LivesIn Is ts e
+pub begins_so : {Tree : Type 0} {Is : List Token → Tree → Type 0} {First : Option Token → Type 0} {flat_of : Tree → List Mark} {Good : Tree → Type 0} {ts : List Token} {e : Fault} → ((us : List Token) (t : Tree) → Good t → Matches (flat_of t) us [] → Is us t) → Lives First flat_of Good ts e → LivesIn Is ts e
 begins_so is l = record {
   before = l.before;
   left = l.left;
@@ -88,7 +88,7 @@ script_alive n earlier ts e p =
 -- Where a function isn't read, the tokens before the fault begin one.
 pub function_alive : (n : ℕ) (ts : List Token) (e : Fault) → parse_function n ts ≡ Err e → LivesIn IsFunction ts e
 unfolding parse_function
-function_alive zero ts e p = begins_so (λ us t g m. record { form = g.1; well = g.0.0; spelled = m }) (no_function_lives ts e (deep_counts {A = Expression} ts e (let same : deep ≡ e = cc in ap (λ d. Err d) same)))
+function_alive zero ts e p = begins_so (λ us t g m. record { form = g.1; well = g.0.0; spelled = m }) (no_function_lives ts e (deep_counts {A = Expression} ts e (let same : deep (length ts) ≡ e = cc in ap (λ d. Err d) same)))
 function_alive (suc n) ts e p =
     let is : (us : List Token) (t : Expression) → IsFunctionOf 1 t → Matches (flat t) us [] → IsFunction us t = λ us t g m. record { form = g.1; well = g.0.0; spelled = m } in
     elim (whole_err (function_code_by (below n) (start (head_of ts)) ts) e p) [

@@ -145,7 +145,7 @@ no_names n ns e = absurd cc
 
 -- one name before others
 more_shaped : (only : Bool) (t u : Token) (us : List Token) (ns : List Identifier) (r : List Token) → t.kind ≡ kinds.Name → u.kind ≡ kinds.Comma → Shaped only ns us r → Shaped only (t.string_value ∷ ns) (t ∷ u ∷ us) r
-more_shaped true t u us [] r f c s = (t ∷ u ∷ s.0, s.1, ap (λ (us : List Token). t ∷ u ∷ us) s.2, λ x. ((f, refl), (c, let m = s.3 x in m)))
+more_shaped true t u us [] r f c s = (t ∷ u ∷ s.0, s.1, ap (λ (us : List Token). t ∷ u ∷ us) s.2, λ x. ((f, refl), (c, s.3 x)))
 more_shaped true t u us (n ∷ ns) r f c s = (t ∷ u ∷ s.0, s.1, ap (λ (us : List Token). t ∷ u ∷ us) s.2, λ x. ((f, refl), (c, subst (λ (ms : List Mark). Matches (token (identifier n) ∷ ms) (s.0 ++ (a_token kinds.Number ∷ x)) x) (sym (append-nil (more_expressions (with_zero ns)))) (s.3 x))))
 more_shaped false t u us [] r f c s = absurd (no_names s.1.0 s.1.1 s.1.2)
 more_shaped false t u us (n ∷ ns) r f c s = (((f, refl), (c, subst (λ (ms : List Mark). Matches (token (identifier n) ∷ (ms ++ (token (fixed kinds.RightParenthesis) ∷ []))) us r) (sym (append-nil (more_expressions (as_expressions ns)))) s.0)), (t.string_value, (n ∷ ns), refl))
@@ -361,21 +361,21 @@ zero_branches = token (numeric_literal 0) ∷ token (fixed kinds.Colon) ∷ toke
 joined_by_lives : (n : ℕ) (b : Below) → SoundBelow n b → AliveBelow b → (s : List Token) (t : Expression) (j : Joint) (ts : List Token) (e : Fault) → joint (head_of ts) ≡ j → TakesExpression 3 (suc n) s t ts → joined_by b n t j ts ≡ Err e → Lives Nothing flat (Fits 1) s e
 joined_by_lives n b snd a s t question ts e f l p =
     let is = tok kinds.Question ∷ an_assignment ∷ tok kinds.Colon ∷ an_assignment ∷ [] in
-    elim (low_err (height t) n (made b is (λ v. trees.conditional t v.1.0 v.1.1.1.0) ts) e p) [
+    elim (low_err (height t) n ts (made b is (λ v. trees.conditional t v.1.0 v.1.1.1.0) ts) e p) [
       | inl q ↦
           let m = anything (seq_lives n b snd a is refl ts e (made_err {A = Expression} b is (λ v. trees.conditional t v.1.0 v.1.1.1.0) ts e q.1)) in
           behind m (flat t) (expression_firm t l.well) s l.marks (trees.conditional t m.tree.1.0 m.tree.1.1.1.0) ((l.well, l.level, m.good.1.0.0, m.good.1.0.1, m.good.1.1.1.0.0, m.good.1.1.1.0.1), omega arith) refl
-      | inr c ↦ token_lives 3 (suc n) s t ts e l kinds.Question (joint_question (head_of ts) f) (c (tail_of ts)) (trees.conditional t (trees.number 0) (trees.number 0)) ((l.well, l.level, tt, omega arith, tt, omega arith), omega arith)
+      | inr c ↦ token_lives 3 (suc n) s t ts e l kinds.Question (joint_question (head_of ts) f) c (trees.conditional t (trees.number 0) (trees.number 0)) ((l.well, l.level, tt, omega arith, tt, omega arith), omega arith)
           zero_branches (a_token kinds.Number ∷ a_token kinds.Colon ∷ a_token kinds.Number ∷ []) (λ r. ((refl, refl), (refl, ((refl, refl), refl)))) refl
     ]
 joined_by_lives n b snd a s t (assigns_by o) ts e f l p =
     let is = tok (assign_kind o) ∷ an_assignment ∷ [] in
-    elim (cond_err (is_target t) (if_low (height t) n (made b is (λ v. trees.assign o t v.1.0) ts)) (Err (stuck (length ts))) e p) [
-      | inl w ↦ elim (low_err (height t) n (made b is (λ v. trees.assign o t v.1.0) ts) e w.1) [
+    elim (cond_err (is_target t) (if_low (height t) n ts (made b is (λ v. trees.assign o t v.1.0) ts)) (Err (stuck (length ts))) e p) [
+      | inl w ↦ elim (low_err (height t) n ts (made b is (λ v. trees.assign o t v.1.0) ts) e w.1) [
         | inl q ↦
             let m = anything (seq_lives n b snd a is refl ts e (made_err {A = Expression} b is (λ v. trees.assign o t v.1.0) ts e q.1)) in
             behind m (flat t) (expression_firm t l.well) s l.marks (trees.assign o t m.tree.1.0) ((l.well, w.0, m.good.1.0.0, m.good.1.0.1), omega arith) refl
-        | inr c ↦ token_lives 3 (suc n) s t ts e l (assign_kind o) (joint_assigns o (head_of ts) f) (c (tail_of ts)) (trees.assign o t (trees.number 0)) ((l.well, w.0, tt, omega arith), omega arith) zero_marks zero_token (λ r. ((refl, refl), refl)) refl
+        | inr c ↦ token_lives 3 (suc n) s t ts e l (assign_kind o) (joint_assigns o (head_of ts) f) c (trees.assign o t (trees.number 0)) ((l.well, w.0, tt, omega arith), omega arith) zero_marks zero_token (λ r. ((refl, refl), refl)) refl
       ]
       | inr w ↦ looser 3 1 (omega arith) (whole_lives 3 (suc n) s t ts e l (stuck_counts {A = Expression} ts e w.1))
     ]
@@ -419,16 +419,16 @@ further_lives n s t ts e k l (trees.an_expression f fs) is =
     behind l (flat t) (expression_firm t k.well) s k.marks (trees.comma (trees.an_expression t (trees.an_expression f fs))) ((refl, (k.well, k.level, subst (λ (es : Expressions). AreAssignments es) is l.good)), omega arith)
     (ap (λ (es : Expressions). flat t ++ more_expressions es) is)
 
-comma_by_lives : (n : ℕ) (b : Below) → SoundBelow n b → AliveBelow b → (s : List Token) (t : Expression) (c : Bool) (ts : List Token) (e : Fault) → is_kind kinds.Comma (head_of ts) ≡ c → TakesExpression 1 (suc n) s t ts → comma_by b n t c ts ≡ Err e → Lives Nothing flat (Fits 0) s e
+pub comma_by_lives : (n : ℕ) (b : Below) → SoundBelow n b → AliveBelow b → (s : List Token) (t : Expression) (c : Bool) (ts : List Token) (e : Fault) → is_kind kinds.Comma (head_of ts) ≡ c → TakesExpression 1 (suc n) s t ts → comma_by b n t c ts ≡ Err e → Lives Nothing flat (Fits 0) s e
 comma_by_lives n b snd a s t false ts e f k p = absurd cc
-comma_by_lives n b snd a s t true ts e f k p = elim (low_err (height t) n (more_assignments b ts >>= λ x. Ok (trees.comma (trees.an_expression t x.0), x.1)) e p) [
+comma_by_lives n b snd a s t true ts e f k p = elim (low_err (height t) n ts (more_assignments b ts >>= λ x. Ok (trees.comma (trees.an_expression t x.0), x.1)) e p) [
   | inl q ↦ elim (bind_err (more_assignments b ts) (λ x. Ok (trees.comma (trees.an_expression t x.0), x.1)) e q.1) [
     | inl w ↦
         let l = more_lives n b snd a ts e w in
         further_lives n s t ts e k l l.tree refl
     | inr w ↦ absurd cc
   ]
-  | inr c ↦ token_lives 1 (suc n) s t ts e k kinds.Comma (next_is kinds.Comma (head_of ts) f) (c (tail_of ts)) (trees.comma (trees.an_expression t (trees.an_expression (trees.number 0) trees.no_expressions))) ((refl, (k.well, k.level, (tt, omega arith, tt))), omega arith) zero_marks zero_token (λ r. ((refl, refl), refl)) refl
+  | inr c ↦ token_lives 1 (suc n) s t ts e k kinds.Comma (next_is kinds.Comma (head_of ts) f) c (trees.comma (trees.an_expression t (trees.an_expression (trees.number 0) trees.no_expressions))) ((refl, (k.well, k.level, (tt, omega arith, tt))), omega arith) zero_marks zero_token (λ r. ((refl, refl), refl)) refl
 ]
 
 pub expression_lives : (n : ℕ) (b : Below) → SoundBelow n b → AliveBelow b → (ts : List Token) (e : Fault) → expression b n ts ≡ Err e → Lives IsZero flat (Fits 0) ts e

@@ -1,5 +1,5 @@
 -- Where the readers of expressions stop, the tokens before begin well-formed expressions.
-use Rattle.std.proofs.Common.{◌≡◌, ℕ, zero, suc, ◌<◌, ◌≤◌, Bool, true, false, cond, List, [], ◌∷◌, ◌++◌, length, Option, Some, None, Ok, Err, refl, sym, ap, subst, ◌∙◌, ◌⊎◌, inl, inr, append_assoc, arith}
+use Rattle.std.proofs.Common.{◌≡◌, ℕ, zero, suc, ◌+◌, ◌<◌, ◌≤◌, Bool, true, false, cond, List, [], ◌∷◌, ◌++◌, length, Option, Some, None, Ok, Err, refl, sym, ap, subst, ◌∙◌, ◌⊎◌, inl, inr, append_assoc, arith}
 use Rattle.std.specs.Prelude.{nat_le}
 use Rattle.std.proofs.lemmas.List.{append-nil}
 use Rattle.std.proofs.lemmas.Bool.{leb-true}
@@ -19,10 +19,11 @@ use Rattle.js_tree.specs.Views.{properties}
 use Rattle.js_syntax.specs.Reading.{Fault, stuck, deep, Read, Reader, ◌>>=◌, name_at, text_of, is_word_next, word_at, elements, no_state}
 use Rattle.js_syntax.specs.Classes as classes
 use Rattle.js_syntax.specs.Classes.{Start, start_by, start, Link, dot, key, no_link, link_by, link, Prefix, deletes, a_unary, an_update, no_prefix, prefix, update_near, operator, Joint, question, assigns_by, no_joint, joint_by, joint, KeyStart, key_start, AfterKey, after_key_by, after_key, is_shorthand}
-use Rattle.js_syntax.specs.Productions.{Code, Below, one_of, tok, a_name, an_assignment, an_expression, arguments, code}
-use Rattle.js_syntax.specs.Parsing.{if_low, key_by, key_at, member_by, property_by, property_at, properties_at, is_name_next, function_by, function_at, primary_by, primary, linked_by, links_by, links, call, updated_by, postfix, unary_by, unary, operator_from, chain_by, chain, operation}
+use Rattle.js_syntax.specs.Productions.{Code, Below, one_of, Item, Values, made, seq, tok, a_name, an_assignment, an_expression, arguments, code}
+use Rattle.js_syntax.specs.Parsing.{if_low, key_by, key_at, member_by, property_by, property_at, properties_at, is_name_next, function_by, function_at, primary_by, primary, linked_by, is_link, links_by, links, call, updated_by, postfix, unary_by, unary, operator_from, chain_by, chain, operation}
 use Rattle.js_grammar.specs.Laws.{TakesExpression, SoundBelow, marks}
 use Rattle.js_grammar.proofs.MarkLaws.{joins}
+use Rattle.js_grammar.proofs.TokenLaws.{bind_ok, ok_is}
 use Rattle.js_grammar.proofs.ListSound.{AllGood, Reads}
 use Rattle.js_grammar.proofs.PartSound.{seq_sound}
 use Rattle.js_grammar.proofs.HeadLaws.{start_brace, start_function, link_dot, update_next, prefix_delete, prefix_unary, prefix_update, operator_next, strength_low, from_is, from_none, from_past}
@@ -36,10 +37,10 @@ use Rattle.js_grammar.proofs.FirmTrees.{expression_firm, key_firm, property_firm
 -- ---- tools
 
 -- a tree that is low enough, or the room is used up
-pub low_err : {A : Type 0} (h n : ℕ) (read : Read A) (e : Fault) → if_low h n read ≡ Err e → ((h ≤ n) × (read ≡ Err e)) ⊎ ((left : List Token) → Counts e left)
-low_err {A} h n read e p = elim (cond_err (nat_le h n) read (Err deep) e p) [
+pub low_err : {A : Type 0} (h n : ℕ) (ts : List Token) (read : Read A) (e : Fault) → if_low h n ts read ≡ Err e → ((h ≤ n) × (read ≡ Err e)) ⊎ Counts e (tail_of ts)
+low_err {A} h n ts read e p = elim (cond_err (nat_le h n) read (Err (deep (length (tail_of ts)))) e p) [
   | inl q ↦ inl (leb-true h n q.0, q.1)
-  | inr q ↦ inr (λ left. deep_counts {A = A} left e q.1)
+  | inr q ↦ inr (deep_counts {A = A} (tail_of ts) e q.1)
 ]
 
 -- where one of a level lives, one of a lower level does
@@ -82,7 +83,7 @@ bracket_by : (k : TokenKind) (s : List ℕ) (v : ℕ) → start_by k s v ≡ cla
 bracket_by kinds.LeftBracket s v e = refl
 bracket_by _ s v e = absurd cc
 
-start_bracket : (o : Option Token) → start o ≡ classes.bracket → IsNext (fixed kinds.LeftBracket) o
+pub start_bracket : (o : Option Token) → start o ≡ classes.bracket → IsNext (fixed kinds.LeftBracket) o
 start_bracket None e = absurd cc
 start_bracket (Some t) e = bracket_by t.kind t.string_value t.numeric_value e
 
@@ -157,7 +158,7 @@ member_by_lives n b snd a s k classes.colon ts e f t p =
     let is = tok kinds.Colon ∷ an_assignment ∷ [] in
     let l = anything (seq_lives n b snd a is refl ts e (made_err {A = Property} b is (λ v. trees.value k v.1.0) ts e p)) in
     behind l (flat_key k) (key_firm k) s t.marks (trees.value k l.tree.1.0) (t.well, l.good.1.0.0, l.good.1.0.1) refl
-member_by_lives n b snd a s k classes.parameters ts e f t p = elim (low_err (suc (height_of_key k)) n (b.function ts >>= λ f. Ok (trees.method k f.0.parameters f.0.body, f.1)) e p) [
+member_by_lives n b snd a s k classes.parameters ts e f t p = elim (low_err (suc (height_of_key k)) n ts (b.function ts >>= λ f. Ok (trees.method k f.0.parameters f.0.body, f.1)) e p) [
   | inl q ↦ elim (bind_err (b.function ts) (λ f. Ok (trees.method k f.0.parameters f.0.body, f.1)) e q.1) [
     | inl w ↦
         let l = a.function ts e w in
@@ -165,7 +166,7 @@ member_by_lives n b snd a s k classes.parameters ts e f t p = elim (low_err (suc
         (ap (λ (ms : List Mark). flat_key k ++ (flat_parameters l.tree.parameters ++ ms)) (sym (append-nil (flats.in_braces (flat_statements l.tree.body)))))
     | inr w ↦ absurd cc
   ]
-  | inr c ↦ method_lives n s k ts e t (after_parameters (head_of ts) f) (c (tail_of ts))
+  | inr c ↦ method_lives n s k ts e t (after_parameters (head_of ts) f) c
 ]
 member_by_lives n b snd a s k classes.no_member ts e f t p =
     stopped (flat_key k) (key_firm k) s ts t.marks e (stuck_counts {A = Property} ts e p) (trees.value k (trees.number 0)) (t.well, tt, omega arith) zero_value zero_value_tokens (λ r. (refl, ((refl, refl), refl))) refl
@@ -283,54 +284,73 @@ linked_by_lives n b snd a s f classes.arguments ts e g t p =
 linked_by_lives n b snd a s f no_link ts e g t p = whole_lives 15 (suc n) s f ts e t (stuck_counts {A = Expression} ts e p)
 
 -- no room for what the link makes
-deep_link : (n : ℕ) (s : List Token) (f : Expression) (l : Link) (ts : List Token) (e : Fault) → link (head_of ts) ≡ l → TakesExpression 15 (suc n) s f ts → ((left : List Token) → Counts e left) → Lives Nothing flat (Fits 15) s e
-deep_link n s f dot ts e g t c = token_lives 15 (suc n) s f ts e t kinds.Dot (link_dot (head_of ts) g) (c (tail_of ts)) (trees.member f x_name) ((t.well, t.level), omega arith) word_marks word_tokens (λ r. ((refl, refl), refl)) refl
-deep_link n s f key ts e g t c = token_lives 15 (suc n) s f ts e t kinds.LeftBracket (link_key (head_of ts) g) (c (tail_of ts)) (trees.index f (trees.number 0)) ((t.well, t.level, tt), omega arith) (token (numeric_literal 0) ∷ token (fixed kinds.RightBracket) ∷ []) (a_token kinds.Number ∷ a_token kinds.RightBracket ∷ []) (λ r. ((refl, refl), (refl, refl))) refl
-deep_link n s f classes.arguments ts e g t c = token_lives 15 (suc n) s f ts e t kinds.LeftParenthesis (link_arguments (head_of ts) g) (c (tail_of ts)) (trees.call f trees.no_expressions) ((t.well, t.level, tt), omega arith) (token (fixed kinds.RightParenthesis) ∷ []) (a_token kinds.RightParenthesis ∷ []) (λ r. (refl, refl)) refl
-deep_link n s f no_link ts e g t c = whole_lives 15 (suc n) s f ts e t (c ts)
+deep_link : (n : ℕ) (s : List Token) (f : Expression) (l : Link) (ts : List Token) (e : Fault) → link (head_of ts) ≡ l → TakesExpression 15 (suc n) s f ts → is_link l ≡ true → Counts e (tail_of ts) → Lives Nothing flat (Fits 15) s e
+deep_link n s f dot ts e g t i c = token_lives 15 (suc n) s f ts e t kinds.Dot (link_dot (head_of ts) g) c (trees.member f x_name) ((t.well, t.level), omega arith) word_marks word_tokens (λ r. ((refl, refl), refl)) refl
+deep_link n s f key ts e g t i c = token_lives 15 (suc n) s f ts e t kinds.LeftBracket (link_key (head_of ts) g) c (trees.index f (trees.number 0)) ((t.well, t.level, tt), omega arith) (token (numeric_literal 0) ∷ token (fixed kinds.RightBracket) ∷ []) (a_token kinds.Number ∷ a_token kinds.RightBracket ∷ []) (λ r. ((refl, refl), (refl, refl))) refl
+deep_link n s f classes.arguments ts e g t i c = token_lives 15 (suc n) s f ts e t kinds.LeftParenthesis (link_arguments (head_of ts) g) c (trees.call f trees.no_expressions) ((t.well, t.level, tt), omega arith) (token (fixed kinds.RightParenthesis) ∷ []) (a_token kinds.RightParenthesis ∷ []) (λ r. (refl, refl)) refl
+deep_link n s f no_link ts e g t i c = absurd cc
 
--- where what goes on with links stops, the tokens before begin an expression
-abbrev GoesAlive : ℕ → List Token → (Expression → Reader Expression) → Type 0
-GoesAlive n s go = (f : Expression) (ts : List Token) (e : Fault) → TakesExpression 15 (suc n) s f ts → go f ts ≡ Err e → Lives Nothing flat (Fits 15) s e
+-- each expression counts one at least
+height_some : (e : Expression) → 1 ≤ height e
+height_some trees.this = omega arith
+height_some _ = omega arith
 
-one_link_lives : (n : ℕ) (b : Below) → SoundBelow n b → AliveBelow b → (s : List Token) (go : Expression → Reader Expression) → GoesAlive n s go → (f : Expression) (l : Link) (ts : List Token) (e : Fault) → link (head_of ts) ≡ l → TakesExpression 15 (suc n) s f ts
-    → if_low (height f) n (linked_by b f l ts >>= λ x. go x.0 x.1) ≡ Err e → Lives Nothing flat (Fits 15) s e
-one_link_lives n b snd a s go h f l ts e g t p = elim (low_err (height f) n (linked_by b f l ts >>= λ x. go x.0 x.1) e p) [
+-- what a link makes is higher than what it goes on with
+higher : (is : List Item) (b : Below) (f : Expression) (make : Values is → Expression) → ((v : Values is) → suc (height f) ≤ height (make v)) → (ts : List Token) (x : Expression × List Token) → made b is make ts ≡ Ok x → suc (height f) ≤ height x.0
+higher is b f make h ts x p =
+    let q = bind_ok (seq b is ts) (λ x. Ok (make x.0, x.1)) x p in
+    subst (λ (x : Expression × List Token). suc (height f) ≤ height x.0) (ok_is (make q.0.0, q.0.1) x q.2) (h q.0.0)
+
+linked_higher : (b : Below) (f : Expression) (l : Link) (ts : List Token) (x : Expression × List Token) → linked_by b f l ts ≡ Ok x → suc (height f) ≤ height x.0
+linked_higher b f dot ts x p =
+    let q = bind_ok (word_at (tail_of ts)) (λ x. Ok (trees.member f x.0, x.1)) x p in
+    subst (λ (x : Expression × List Token). suc (height f) ≤ height x.0) (ok_is (trees.member f q.0.0, q.0.1) x q.2) (omega arith)
+linked_higher b f key ts x p = higher (tok kinds.LeftBracket ∷ an_expression ∷ tok kinds.RightBracket ∷ []) b f (λ v. trees.index f v.1.0) (λ v. omega arith) ts x p
+linked_higher b f classes.arguments ts x p = higher (tok kinds.LeftParenthesis ∷ arguments kinds.RightParenthesis ∷ []) b f (λ v. trees.call f v.1.0) (λ v. omega arith) ts x p
+linked_higher b f no_link ts x p = absurd cc
+
+-- Where what goes on with links stops, the tokens before begin an expression. There are turns enough for all that is low enough.
+abbrev GoesAlive : ℕ → ℕ → List Token → (Expression → Reader Expression) → Type 0
+GoesAlive n k s go = (f : Expression) (ts : List Token) (e : Fault) → TakesExpression 15 (suc n) s f ts → suc (suc n) ≤ height f + k → go f ts ≡ Err e → Lives Nothing flat (Fits 15) s e
+
+one_link_lives : (n : ℕ) (b : Below) → SoundBelow n b → AliveBelow b → (s : List Token) (k : ℕ) (go : Expression → Reader Expression) → GoesAlive n k s go → (f : Expression) (l : Link) (ts : List Token) (e : Fault) → link (head_of ts) ≡ l → TakesExpression 15 (suc n) s f ts → is_link l ≡ true
+    → suc (suc n) ≤ height f + suc k → if_low (height f) n ts (linked_by b f l ts >>= λ x. go x.0 x.1) ≡ Err e → Lives Nothing flat (Fits 15) s e
+one_link_lives n b snd a s k go h f l ts e g t i turns p = elim (low_err (height f) n ts (linked_by b f l ts >>= λ x. go x.0 x.1) e p) [
   | inl q ↦ elim (bind_err (linked_by b f l ts) (λ x. go x.0 x.1) e q.1) [
     | inl w ↦ linked_by_lives n b snd a s f l ts e g t w
-    | inr w ↦ h w.0.0 w.0.1 e (linked_by_sound seq_sound n b snd s f l ts w.0 g t q.0 w.1) w.2
+    | inr w ↦ h w.0.0 w.0.1 e (linked_by_sound seq_sound n b snd s f l ts w.0 g t q.0 w.1) (omega (arith, turns, linked_higher b f l ts w.0 w.1)) w.2
   ]
-  | inr c ↦ deep_link n s f l ts e g t c
+  | inr c ↦ deep_link n s f l ts e g t i c
 ]
 
-links_by_lives : (n : ℕ) (b : Below) → SoundBelow n b → AliveBelow b → (s : List Token) (go : Expression → Reader Expression) → GoesAlive n s go → (f : Expression) (l : Link) (ts : List Token) (e : Fault) → link (head_of ts) ≡ l → TakesExpression 15 (suc n) s f ts → links_by b n go f l ts ≡ Err e → Lives Nothing flat (Fits 15) s e
-links_by_lives n b snd a s go h f no_link ts e g t p = absurd cc
-links_by_lives n b snd a s go h f dot ts e g t p = one_link_lives n b snd a s go h f dot ts e g t p
-links_by_lives n b snd a s go h f key ts e g t p = one_link_lives n b snd a s go h f key ts e g t p
-links_by_lives n b snd a s go h f classes.arguments ts e g t p = one_link_lives n b snd a s go h f classes.arguments ts e g t p
+links_by_lives : (n : ℕ) (b : Below) → SoundBelow n b → AliveBelow b → (s : List Token) (k : ℕ) (go : Expression → Reader Expression) → GoesAlive n k s go → (f : Expression) (l : Link) (ts : List Token) (e : Fault) → link (head_of ts) ≡ l → TakesExpression 15 (suc n) s f ts → suc (suc n) ≤ height f + suc k → links_by b n go f l ts ≡ Err e → Lives Nothing flat (Fits 15) s e
+links_by_lives n b snd a s k go h f no_link ts e g t turns p = absurd cc
+links_by_lives n b snd a s k go h f dot ts e g t turns p = one_link_lives n b snd a s k go h f dot ts e g t refl turns p
+links_by_lives n b snd a s k go h f key ts e g t turns p = one_link_lives n b snd a s k go h f key ts e g t refl turns p
+links_by_lives n b snd a s k go h f classes.arguments ts e g t turns p = one_link_lives n b snd a s k go h f classes.arguments ts e g t refl turns p
 
-links_lives : (n : ℕ) (b : Below) → SoundBelow n b → AliveBelow b → (s : List Token) (k : ℕ) (f : Expression) (ts : List Token) (e : Fault) → TakesExpression 15 (suc n) s f ts → links b n k f ts ≡ Err e → Lives Nothing flat (Fits 15) s e
+links_lives : (n : ℕ) (b : Below) → SoundBelow n b → AliveBelow b → (s : List Token) (k : ℕ) (f : Expression) (ts : List Token) (e : Fault) → TakesExpression 15 (suc n) s f ts → suc (suc n) ≤ height f + k → links b n k f ts ≡ Err e → Lives Nothing flat (Fits 15) s e
 unfolding links
-links_lives n b snd a s zero f ts e t p = whole_lives 15 (suc n) s f ts e t (deep_counts {A = Expression} ts e p)
-links_lives n b snd a s (suc k) f ts e t p = links_by_lives n b snd a s (λ f r. links b n k f r) (λ f r d u g. links_lives n b snd a s k f r d u g) f (link (head_of ts)) ts e refl t p
+links_lives n b snd a s zero f ts e t turns p = absurd (omega (arith, turns, t.height))
+links_lives n b snd a s (suc k) f ts e t turns p = links_by_lives n b snd a s k (λ f r. links b n k f r) (λ f r d u v g. links_lives n b snd a s k f r d u v g) f (link (head_of ts)) ts e refl t turns p
 
 pub call_lives : (n : ℕ) (b : Below) → SoundBelow n b → AliveBelow b → (ts : List Token) (e : Fault) → call b n ts ≡ Err e → Lives IsZero flat (Fits 15) ts e
 unfolding call
 call_lives n b s a ts e p = elim (bind_err (primary b n ts) (λ x. links b n (suc n) x.0 x.1) e p) [
   | inl q ↦ primary_lives n b s a ts e q
-  | inr q ↦ from_nothing (links_lives n b s a ts (suc n) q.0.0 q.0.1 e (primary_sound seq_sound n b s ts q.0 q.1) q.2)
+  | inr q ↦ from_nothing (links_lives n b s a ts (suc n) q.0.0 q.0.1 e (primary_sound seq_sound n b s ts q.0 q.1) (omega (arith, height_some q.0.0)) q.2)
 ]
 
 -- ---- updates
 
 updated_by_lives : (n : ℕ) (s : List Token) (f : Expression) (o : Option UpdateOperator) (ts : List Token) (e : Fault) → update_near (head_of ts) ≡ o → TakesExpression 15 (suc n) s f ts → updated_by n f o ts ≡ Err e → Lives Nothing flat (Fits 14) s e
 updated_by_lives n s f None ts e g t p = absurd cc
-updated_by_lives n s f (Some o) ts e g t p = elim (cond_err (is_target f) (if_low (height f) n (Ok (trees.postfix o f, tail_of ts))) (Err (stuck (length ts))) e p) [
-  | inl q ↦ elim (low_err (height f) n (Ok (trees.postfix o f, tail_of ts)) e q.1) [
+updated_by_lives n s f (Some o) ts e g t p = elim (cond_err (is_target f) (if_low (height f) n ts (Ok (trees.postfix o f, tail_of ts))) (Err (stuck (length ts))) e p) [
+  | inl q ↦ elim (low_err (height f) n ts (Ok (trees.postfix o f, tail_of ts)) e q.1) [
     | inl w ↦ absurd cc
     | inr c ↦
         let next = update_next o (head_of ts) g in
-        stopped (flat f ++ (beside (fixed (update_kind o)) ∷ [])) (firm_append (flat f) (beside (fixed (update_kind o)) ∷ []) refl) s (tail_of ts) (joins (flat f) (beside (fixed (update_kind o)) ∷ []) s ts (tail_of ts) t.marks (next.0, next.1, refl)) e (c (tail_of ts))
+        stopped (flat f ++ (beside (fixed (update_kind o)) ∷ [])) (firm_append (flat f) (beside (fixed (update_kind o)) ∷ []) refl) s (tail_of ts) (joins (flat f) (beside (fixed (update_kind o)) ∷ []) s ts (tail_of ts) t.marks (next.0, next.1, refl)) e c
         (trees.postfix o f) ((t.well, q.0), omega arith) [] [] (λ r. refl) (append-nil (flat f ++ (beside (fixed (update_kind o)) ∷ [])))
   ]
   | inr q ↦ looser 15 14 (omega arith) (whole_lives 15 (suc n) s f ts e t (stuck_counts {A = Expression} ts e q.1))
@@ -413,27 +433,27 @@ right_lives n b a s m f o ts e next low tight t p =
     around l (flat f ++ (token (fixed (binary_kind o)) ∷ [])) (firm_append (flat f) (token (fixed (binary_kind o)) ∷ []) refl) s (joins (flat f) (token (fixed (binary_kind o)) ∷ []) s ts (tail_of ts) t.marks (operator_next o (head_of ts) next, refl))
     (trees.binary o f l.tree) ((t.well, tight, l.good.0, l.good.1), low) [] [] (λ r. refl) (append_assoc (flat f) (token (fixed (binary_kind o)) ∷ []) (flat l.tree ++ []))
 
-chain_by_lives : (n : ℕ) (b : Below) → SoundBelow n b → AliveBelow b → (s : List Token) (m : ℕ) (go : Expression → Reader Expression)
-    → ((l : Expression) (ts : List Token) (e : Fault) → TakesExpression m (suc n) s l ts → Ended (suc (level l)) ts → go l ts ≡ Err e → Lives Nothing flat (Fits m) s e)
-    → (l : Expression) (o : Option BinaryOperator) (ts : List Token) (e : Fault) → operator_from m (operator (head_of ts)) ≡ o → TakesExpression m (suc n) s l ts → Ended (suc (level l)) ts → chain_by b n go l o ts ≡ Err e → Lives Nothing flat (Fits m) s e
-chain_by_lives n b snd a s m go h l None ts e f t g p = absurd cc
-chain_by_lives n b snd a s m go h l (Some o) ts e f t g p =
+chain_by_lives : (n : ℕ) (b : Below) → SoundBelow n b → AliveBelow b → (s : List Token) (m k : ℕ) (go : Expression → Reader Expression)
+    → ((l : Expression) (ts : List Token) (e : Fault) → TakesExpression m (suc n) s l ts → Ended (suc (level l)) ts → suc (suc n) ≤ height l + k → go l ts ≡ Err e → Lives Nothing flat (Fits m) s e)
+    → (l : Expression) (o : Option BinaryOperator) (ts : List Token) (e : Fault) → operator_from m (operator (head_of ts)) ≡ o → TakesExpression m (suc n) s l ts → Ended (suc (level l)) ts → suc (suc n) ≤ height l + suc k → chain_by b n go l o ts ≡ Err e → Lives Nothing flat (Fits m) s e
+chain_by_lives n b snd a s m turns go h l None ts e f t g less p = absurd cc
+chain_by_lives n b snd a s m turns go h l (Some o) ts e f t g less p =
     let is = from_is m (operator (head_of ts)) o f in
     let tight : strength o < suc (level l) = from_none (suc (level l)) o (subst (λ (p : Option BinaryOperator). operator_from (suc (level l)) p ≡ None) is.0 g) in
-    elim (low_err (height l) n (b.operation (suc (strength o)) (tail_of ts) >>= λ x. go (trees.binary o l x.0) x.1) e p) [
+    elim (low_err (height l) n ts (b.operation (suc (strength o)) (tail_of ts) >>= λ x. go (trees.binary o l x.0) x.1) e p) [
       | inl q ↦ elim (bind_err (b.operation (suc (strength o)) (tail_of ts)) (λ x. go (trees.binary o l x.0) x.1) e q.1) [
         | inl k ↦ right_lives n b a s m l o ts e is.0 is.1 (omega (arith, tight)) t k
         | inr k ↦
             let w = binary_takes n b snd s m l o ts f t g q.0 k.0 k.1 in
-            h (trees.binary o l k.0.0) k.0.1 e w.0 w.1 k.2
+            h (trees.binary o l k.0.0) k.0.1 e w.0 w.1 (omega (arith, less)) k.2
       ]
-      | inr c ↦ token_lives m (suc n) s l ts e t (binary_kind o) (operator_next o (head_of ts) is.0) (c (tail_of ts)) (trees.binary o l (trees.number 0)) ((t.well, omega (arith, tight), tt, omega (arith, strength_low o)), is.1) zero_marks zero_token (λ r. ((refl, refl), refl)) refl
+      | inr c ↦ token_lives m (suc n) s l ts e t (binary_kind o) (operator_next o (head_of ts) is.0) c (trees.binary o l (trees.number 0)) ((t.well, omega (arith, tight), tt, omega (arith, strength_low o)), is.1) zero_marks zero_token (λ r. ((refl, refl), refl)) refl
     ]
 
-chain_lives : (n : ℕ) (b : Below) → SoundBelow n b → AliveBelow b → (s : List Token) (m k : ℕ) (l : Expression) (ts : List Token) (e : Fault) → TakesExpression m (suc n) s l ts → Ended (suc (level l)) ts → chain b n m k l ts ≡ Err e → Lives Nothing flat (Fits m) s e
+chain_lives : (n : ℕ) (b : Below) → SoundBelow n b → AliveBelow b → (s : List Token) (m k : ℕ) (l : Expression) (ts : List Token) (e : Fault) → TakesExpression m (suc n) s l ts → Ended (suc (level l)) ts → suc (suc n) ≤ height l + k → chain b n m k l ts ≡ Err e → Lives Nothing flat (Fits m) s e
 unfolding chain
-chain_lives n b snd a s m zero l ts e t g p = whole_lives m (suc n) s l ts e t (deep_counts {A = Expression} ts e p)
-chain_lives n b snd a s m (suc k) l ts e t g p = chain_by_lives n b snd a s m (λ l r. chain b n m k l r) (λ l r d v w u. chain_lives n b snd a s m k l r d v w u) l (operator_from m (operator (head_of ts))) ts e refl t g p
+chain_lives n b snd a s m zero l ts e t g turns p = absurd (omega (arith, turns, t.height))
+chain_lives n b snd a s m (suc k) l ts e t g turns p = chain_by_lives n b snd a s m k (λ l r. chain b n m k l r) (λ l r d v w u i. chain_lives n b snd a s m k l r d v w u i) l (operator_from m (operator (head_of ts))) ts e refl t g turns p
 
 pub operation_lives : (n : ℕ) (b : Below) → SoundBelow n b → AliveBelow b → (m : ℕ) → m ≤ 13 → (ts : List Token) (e : Fault) → operation b n m ts ≡ Err e → Lives IsZero flat (Fits m) ts e
 unfolding operation
@@ -441,5 +461,5 @@ operation_lives n b s a m le ts e p = elim (bind_err (unary b n ts) (λ x. chain
   | inl q ↦ looser 13 m le (unary_lives n b s a ts e q)
   | inr q ↦
       let u = unary_sound n b s (call_sound seq_sound n b s) ts q.0 q.1 in
-      from_nothing (chain_lives n b s a ts m (suc n) q.0.0 q.0.1 e (weaker 13 m (suc n) ts q.0.0 q.0.1 le u) (from_past (suc (level q.0.0)) (operator (head_of q.0.1)) (omega (arith, u.level))) q.2)
+      from_nothing (chain_lives n b s a ts m (suc n) q.0.0 q.0.1 e (weaker 13 m (suc n) ts q.0.0 q.0.1 le u) (from_past (suc (level q.0.0)) (operator (head_of q.0.1)) (omega (arith, u.level))) (omega (arith, height_some q.0.0)) q.2)
 ]

@@ -9,7 +9,7 @@ use Rattle.js_syntax.specs.Reading.{Fault, Reader, ◌>>=◌, After, goes_on, en
 use Rattle.js_syntax.proofs.KindLemmas.{next_is}
 use Rattle.js_grammar.proofs.MarkLaws.{joins}
 use Rattle.js_grammar.proofs.ListSound.{behind_commas, up_to, in_a_row, AllGood, Reads, after_goes}
-use Rattle.js_grammar.proofs.AliveTools.{bind_err, Counts, stuck_counts, spent_counts, a_token, Anything, Starts, Softer, is_firm, firmly, Lives, fills, grows, from_nothing, anything, ends_in, around, around_softly, stopped, firm_behind}
+use Rattle.js_grammar.proofs.AliveTools.{bind_err, Counts, stuck_counts, deep_counts, a_token, Anything, Starts, Softer, is_firm, firmly, Lives, fills, grows, from_nothing, anything, ends_in, around, around_softly, stopped, firm_behind}
 
 -- where an element's reader stops, an element lives that is good in the state
 abbrev pub LivesOne : {S A : Type 0} → (Option Token → Type 0) → (S → Reader A) → (A → List Mark) → (S → A → Type 0) → Type 0
@@ -74,7 +74,7 @@ elements_by_lives {S} {A} First one next flat_of Good reads firm lives closer go
 pub elements_lives : {S A : Type 0} (First : Option Token → Type 0) (one : S → Reader A) (next : S → A → S) (flat_of : A → List Mark) (Good : S → A → Type 0) → Reads one flat_of Good → AreFirm flat_of Good → LivesOne First one flat_of Good
     → (closer : TokenKind) (k : ℕ) (s : S) (ts : List Token) (e : Fault) → elements one next closer k s ts ≡ Err e → Lives Anything (up_to flat_of closer) (AllGood next Good s) ts e
 unfolding elements
-elements_lives {S} {A} First one next flat_of Good reads firm lives closer zero s ts e p = fills ts e (spent_counts {A = List A} ts e p) [] tt (a_token closer ∷ []) (λ r. (refl, refl)) (λ r. tt)
+elements_lives {S} {A} First one next flat_of Good reads firm lives closer zero s ts e p = fills ts e (deep_counts {A = List A} ts e p) [] tt (a_token closer ∷ []) (λ r. (refl, refl)) (λ r. tt)
 elements_lives First one next flat_of Good reads firm lives closer (suc k) s ts e p =
     elements_by_lives First one next flat_of Good reads firm lives closer (λ s r. elements one next closer k s r) (λ s r d. elements_lives First one next flat_of Good reads firm lives closer k s r d) (is_kind closer (head_of ts)) s ts e p
 
@@ -102,7 +102,7 @@ others_by_lives {S} {A} First one next flat_of Good reads firm lives go h true s
 pub others_lives : {S A : Type 0} (First : Option Token → Type 0) (one : S → Reader A) (next : S → A → S) (flat_of : A → List Mark) (Good : S → A → Type 0) → Reads one flat_of Good → AreFirm flat_of Good → LivesOne First one flat_of Good
     → (k : ℕ) (s : S) (ts : List Token) (e : Fault) → others one next k s ts ≡ Err e → Lives Anything (behind_commas flat_of) (AllGood next Good s) ts e
 unfolding others
-others_lives {S} {A} First one next flat_of Good reads firm lives zero s ts e p = fills ts e (spent_counts {A = List A} ts e p) [] tt [] (λ r. refl) (λ r. tt)
+others_lives {S} {A} First one next flat_of Good reads firm lives zero s ts e p = fills ts e (deep_counts {A = List A} ts e p) [] tt [] (λ r. refl) (λ r. tt)
 others_lives First one next flat_of Good reads firm lives (suc k) s ts e p =
     others_by_lives First one next flat_of Good reads firm lives (λ s r. others one next k s r) (λ s r d. others_lives First one next flat_of Good reads firm lives k s r d) (is_kind kinds.Comma (head_of ts)) s ts refl e p
 
@@ -131,7 +131,7 @@ pub items_lives : {S A : Type 0} (First : Option Token → Type 0) → ((ts us :
     → (k : ℕ) (s : S) (ts : List Token) (e : Fault) → items one next k s ts ≡ Err e → Lives First (in_a_row flat_of) (AllGood next Good s) ts e
 unfolding items
 items_lives {S} {A} First soft one next flat_of Good reads lives fill zero s ts e p =
-    let l = fill s ts e (spent_counts {A = List A} ts e p) in
+    let l = fill s ts e (deep_counts {A = List A} ts e p) in
     ends_in l (l.tree ∷ []) (l.good, tt) [] [] (λ r. refl) refl
 items_lives First soft one next flat_of Good reads lives fill (suc k) s ts e p =
     items_by_lives First soft one next flat_of Good reads lives (λ s r. items one next k s r) (λ s r d. items_lives First soft one next flat_of Good reads lives fill k s r d) (ends_list (head_of ts)) s ts e p

@@ -307,16 +307,16 @@ abbrev pub IsDeclarator : Bool → List Identifier → Declarator → Type 0
 IsDeclarator constant taken d = WellDeclarator d × InitializedOne constant d × (is_among taken (name_of d) ≡ false)
 
 -- = 0 behind a name
-abbrev zero_initializer : List Mark
+abbrev pub zero_initializer : List Mark
 zero_initializer = token (fixed kinds.Assign) ∷ token (numeric_literal 0) ∷ []
 
-abbrev zero_initialized : List Token
+abbrev pub zero_initialized : List Token
 zero_initialized = a_token kinds.Assign ∷ a_token kinds.Number ∷ []
 
 zero_initializes : (r : List Token) → Matches zero_initializer (zero_initialized ++ r) r
 zero_initializes r = (refl, ((refl, refl), refl))
 
-abbrev zero_declarator : Identifier → Declarator
+abbrev pub zero_declarator : Identifier → Declarator
 zero_declarator n = trees.declarator n (trees.present (trees.number 0))
 
 initializer_lives : (b : Below) → AliveBelow b → (constant : Bool) (taken : List Identifier) (ts : List Token) (m : Identifier) (r : List Token) → Matches (token (identifier m) ∷ []) ts r → is_among taken m ≡ false
@@ -353,7 +353,7 @@ all_declarators constant taken (d ∷ ds) g =
     let r = all_declarators constant (with_declarator taken d) ds g.1 in
     ((g.0.0, r.0), initialized_more constant d (declarators ds) g.0.1 r.1, fresh_more taken d (declarators ds) g.0.2 r.2)
 
-declared_more : (constant : Bool) (taken : List Identifier) (d : Declarator) (ds : List Declarator) → IsDeclarator constant taken d → AllGood with_declarator (IsDeclarator constant) (with_declarator taken d) ds → AreDeclared constant taken (trees.a_declarator d (declarators ds))
+pub declared_more : (constant : Bool) (taken : List Identifier) (d : Declarator) (ds : List Declarator) → IsDeclarator constant taken d → AllGood with_declarator (IsDeclarator constant) (with_declarator taken d) ds → AreDeclared constant taken (trees.a_declarator d (declarators ds))
 declared_more constant taken d ds g h =
     let r = all_declarators constant (with_declarator taken d) ds h in
     (refl, (g.0, r.0), initialized_more constant d (declarators ds) g.1 r.1, fresh_more taken d (declarators ds) g.2 r.2)

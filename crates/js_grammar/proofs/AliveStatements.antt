@@ -1,5 +1,5 @@
 -- Where the readers of statements, blocks and functions stop, the tokens before begin well-formed ones.
-use Rattle.std.proofs.Common.{◌≡◌, ℕ, zero, suc, Bool, true, false, List, [], ◌∷◌, ◌++◌, length, Option, Some, None, Ok, Err, refl, sym, ap, subst, ◌∙◌, inl, inr, append_assoc, arith}
+use Rattle.std.proofs.Common.{◌≡◌, ℕ, Bool, true, false, List, [], ◌∷◌, ◌++◌, length, Option, Some, None, Ok, Err, refl, sym, ap, subst, ◌∙◌, inl, inr, append_assoc}
 use Rattle.std.specs.Prelude.{codes, if◌then◌else◌}
 use Rattle.std.proofs.lemmas.List.{append-nil}
 use Rattle.js_lexer.specs.declared.token.TokenKind.{TokenKind}
@@ -12,26 +12,25 @@ use Rattle.js_tree.specs.Well.{Context, Well, WellHandler, WellFinalizer, is_han
 use Rattle.js_syntax.specs.Kinds.{is_kind}
 use Rattle.js_syntax.specs.Classes as classes
 use Rattle.js_syntax.specs.Classes.{First, first_by, first, ends_return, ForHead, each, declares, plain_head, for_head}
-use Rattle.js_syntax.specs.Reading.{Fault, stuck, deep, Read, ◌>>=◌, expect, fresh_name, semicolon_at}
-use Rattle.js_syntax.specs.Productions.{Code, Below, braces, code_at, declarators_at, ended_expression, Item, tok, an_expression, ended, an_end, a_statement, a_block, in_braces, Values, seq, made}
-use Rattle.js_syntax.specs.Parsing.{else_by, if_items, if_at, let_kind, do_items, while_items, for_items, for_lexical_items, for_of_items, for_by, for_at, return_by, throw_by, catch_by, handler_by, handler_at, finalizer_by, finalizer_at, try_at, statement_by, statement, lexical_at, declaration_at, item_by, item, below}
+use Rattle.js_syntax.specs.Reading.{Fault, stuck, Read, ◌>>=◌, expect, fresh_name, semicolon_at}
+use Rattle.js_syntax.specs.Productions.{Below, braces, code_at, declarators_at, ended_expression, Item, tok, an_expression, ended, an_end, a_statement, a_block, in_braces, Values, seq, made}
+use Rattle.js_syntax.specs.Parsing.{else_by, if_items, if_at, let_kind, do_items, while_items, for_items, for_lexical_items, for_of_items, for_by, for_at, return_by, throw_by, catch_by, handler_by, handler_at, finalizer_by, finalizer_at, try_at, statement_by, statement, lexical_at, declaration_at, item_by, item}
 use Rattle.js_syntax.proofs.KindLemmas.{next_is}
 use Rattle.js_grammar.specs.Laws.{SoundBelow, marks, AllSane, TakesAll}
 use Rattle.js_grammar.proofs.MarkLaws.{joins, parts}
-use Rattle.js_grammar.proofs.TokenLaws.{faulty, expect_sound, expect_again, fresh_sound}
+use Rattle.js_grammar.proofs.TokenLaws.{expect_sound, expect_again, fresh_sound}
 use Rattle.js_grammar.proofs.PartSound.{seq_sound, declarators_sound}
 use Rattle.js_grammar.proofs.ExpressionSound.{no_brace}
 use Rattle.js_grammar.proofs.StatementSound.{no_function, on_line_is, behind_if, no_open_if, let_is, tails_are, next_optional, given_on_line, catch_items, handler_sound, finally_handled, try_items, alone, declares_none}
-use Rattle.js_grammar.proofs.AliveTools.{bind_err, cond_err, Counts, stuck_counts, deep_counts, a_token, a_near_token, Anything, Nothing, IsZero, Starts, nothing_softer, is_firm, firm_behind, firm_append, Lives, fills, grows, anything, from_nothing, ends_in, around, around_softly, stopped, renamed, behind, begun}
-use Rattle.js_grammar.proofs.AliveParts.{AliveBelow, IsStatement, IsItem, flat_block, zero_statement, zero_expression, zero_item, empty_block, empty_code, fresh_lives, semicolon_err, opened_lives, braces_lives, code_lives, declarators_lives, flat_ended, ended_lives, seq_lives, lively, known_lives, made_err}
-use Rattle.js_grammar.proofs.AliveExpressions.{unary_lives, call_lives, operation_lives}
-use Rattle.js_grammar.proofs.AliveAssignments.{other_kind, assignment_lives, expression_lives}
+use Rattle.js_grammar.proofs.AliveTools.{bind_err, cond_err, Counts, stuck_counts, a_token, a_near_token, Anything, Nothing, IsZero, Starts, nothing_softer, is_firm, firm_behind, firm_append, Lives, fills, grows, anything, from_nothing, ends_in, around, around_softly, stopped, renamed, behind, begun}
+use Rattle.js_grammar.proofs.AliveParts.{AliveBelow, IsStatement, IsItem, flat_block, zero_statement, fresh_lives, semicolon_err, opened_lives, code_lives, declarators_lives, flat_ended, ended_lives, seq_lives, lively, known_lives, made_err}
+use Rattle.js_grammar.proofs.AliveAssignments.{other_kind}
 use Rattle.js_grammar.proofs.FirmTrees.{declarators_firm, firm_braces, firm_nil}
 
 -- ---- what begins a statement
 
 -- the first token of a class
-abbrev FirstNext : First → Option Token → Type 0
+abbrev pub FirstNext : First → Option Token → Type 0
 FirstNext classes.a_block o = IsNext (fixed kinds.LeftBrace) o
 FirstNext (classes.a_lexical constant) o = IsNext (fixed (let_kind constant)) o
 FirstNext classes.a_semicolon o = IsNext (fixed kinds.Semicolon) o
@@ -48,7 +47,7 @@ FirstNext classes.a_debugger o = IsNext (fixed kinds.Debugger) o
 FirstNext classes.a_function o = IsNext (fixed kinds.Function) o
 FirstNext classes.an_expression o = (is_kind kinds.LeftBrace o ≡ false) × (is_kind kinds.Function o ≡ false)
 
-first_next : (o : Option Token) → FirstNext (first o) o
+pub first_next : (o : Option Token) → FirstNext (first o) o
 first_next None = (refl, refl)
 first_next (Some t) = by_kind t.kind
   where
@@ -207,10 +206,10 @@ throw_lives n b s a context false ts e f h p = zero_throw_lives context ts e f (
 abbrev IsHandler : Context → Handler → Type 0
 IsHandler context h = WellHandler context h × (is_handled h trees.no_finally ≡ true)
 
-abbrev empty_braces : List Mark
+abbrev pub empty_braces : List Mark
 empty_braces = token (fixed kinds.LeftBrace) ∷ token (fixed kinds.RightBrace) ∷ []
 
-abbrev empty_brace_tokens : List Token
+abbrev pub empty_brace_tokens : List Token
 empty_brace_tokens = a_token kinds.LeftBrace ∷ a_token kinds.RightBrace ∷ []
 
 catch_lives : (n : ℕ) (b : Below) → SoundBelow n b → AliveBelow b → (context : Context) (c : Bool) (ts : List Token) (e : Fault) → IsNext (fixed kinds.Catch) (head_of ts) → catch_by b context c (tail_of ts) ≡ Err e → Lives Nothing flat_handler (IsHandler context) ts e
@@ -358,7 +357,7 @@ statement_lives n b s a context ts e p = statement_by_lives n b s a context (fir
 
 -- ---- declarations
 
-let_marks : (constant : Bool) (ms : List Mark) → token (fixed (let_kind constant)) ∷ ms ≡ let_or_const constant ++ ms
+pub let_marks : (constant : Bool) (ms : List Mark) → token (fixed (let_kind constant)) ∷ ms ≡ let_or_const constant ++ ms
 let_marks constant ms = ap (λ (l : List Mark). l ++ ms) (let_is constant)
 
 lexical_lives : (n : ℕ) (b : Below) → SoundBelow n b → AliveBelow b → (context : Context) (constant : Bool) (taken : List Identifier) (ts : List Token) (e : Fault) → IsNext (fixed (let_kind constant)) (head_of ts) → lexical_at b constant taken ts ≡ Err e → Lives Nothing flat_statement (IsItem context taken) ts e
@@ -398,7 +397,7 @@ declaration_lives n b s a context taken ts e f p = elim (bind_err (fresh_name ta
 ]
 
 -- a statement declares no name in its list
-as_item : (context : Context) (taken : List Identifier) (ts : List Token) (e : Fault) → Lives IsZero flat_statement (IsStatement context) ts e → Lives IsZero flat_statement (IsItem context taken) ts e
+pub as_item : (context : Context) (taken : List Identifier) (ts : List Token) (e : Fault) → Lives IsZero flat_statement (IsStatement context) ts e → Lives IsZero flat_statement (IsItem context taken) ts e
 as_item context taken ts e l = renamed l l.tree (l.good.0, declares_none taken l.tree l.good.1) refl
 
 item_by_lives : (n : ℕ) (b : Below) → SoundBelow n b → AliveBelow b → (context : Context) (taken : List Identifier) (c : First) (ts : List Token) (e : Fault) → FirstNext c (head_of ts) → item_by b context taken c ts ≡ Err e → Lives IsZero flat_statement (IsItem context taken) ts e
@@ -409,41 +408,3 @@ item_by_lives n b s a context taken _ ts e f p = as_item context taken ts e (sta
 pub list_item_lives : (n : ℕ) (b : Below) → SoundBelow n b → AliveBelow b → (context : Context) (taken : List Identifier) (ts : List Token) (e : Fault) → item b context taken ts ≡ Err e → Lives IsZero flat_statement (IsItem context taken) ts e
 unfolding item
 list_item_lives n b s a context taken ts e p = item_by_lives n b s a context taken (first (head_of ts)) ts e (first_next (head_of ts)) p
-
--- ---- what reads trees that are at most n high
-
--- the room is used up
-no_room : {A : Type 0} (ts : List Token) (e : Fault) → faulty {A = A} deep ≡ faulty e → Counts e ts
-no_room {A} ts e p = deep_counts {A = A} ts e p
-
-alive_none : AliveBelow (below zero)
-unfolding below
-alive_none = record {
-  assignment = λ ts e p. zero_expression 1 (omega arith) ts e (no_room {A = Expression} ts e p);
-  expression = λ ts e p. zero_expression 0 (omega arith) ts e (no_room {A = Expression} ts e p);
-  operation = λ m h ts e p. zero_expression m (omega (arith, h)) ts e (no_room {A = Expression} ts e p);
-  unary = λ ts e p. zero_expression 13 (omega arith) ts e (no_room {A = Expression} ts e p);
-  call = λ ts e p. zero_expression 15 (omega arith) ts e (no_room {A = Expression} ts e p);
-  statement = λ context ts e p. zero_statement context ts e (no_room {A = Statement} ts e p);
-  item = λ context taken ts e p. zero_item context taken ts e (no_room {A = Statement} ts e p);
-  block = λ context taken ts e p. empty_block context taken ts e (no_room {A = Statements} ts e p);
-  function = λ ts e p. empty_code ts e (no_room {A = Code} ts e p);
-}
-
-alive_one : (n : ℕ) → SoundBelow n (below n) → AliveBelow (below n) → AliveBelow (below (suc n))
-unfolding below
-alive_one n s a = record {
-  assignment = λ ts e p. assignment_lives n (below n) s a ts e p;
-  expression = λ ts e p. expression_lives n (below n) s a ts e p;
-  operation = λ m h ts e p. operation_lives n (below n) s a m h ts e p;
-  unary = λ ts e p. unary_lives n (below n) s a ts e p;
-  call = λ ts e p. call_lives n (below n) s a ts e p;
-  statement = λ context ts e p. statement_lives n (below n) s a context ts e p;
-  item = λ context taken ts e p. list_item_lives n (below n) s a context taken ts e p;
-  block = λ context taken ts e p. braces_lives n (below n) s a context taken ts e p;
-  function = λ ts e p. code_lives n (below n) s a ts e p;
-}
-
-pub alive_below : ((n : ℕ) → SoundBelow n (below n)) → (n : ℕ) → AliveBelow (below n)
-alive_below sound zero = alive_none
-alive_below sound (suc n) = alive_one n (sound n) (alive_below sound n)

@@ -4,7 +4,7 @@ use Rattle.std.proofs.lemmas.List.{append-nil}
 use Rattle.js_lexer.specs.declared.token.TokenKind.{TokenKind}
 use Rattle.js_lexer.specs.declared.token.TokenKind.TheVariants as kinds
 use Rattle.js_tree.specs.Tokens.{Token, Mark, token, beside, semicolon, trailing_comma, End, after_expression, after_word, after_do, plain, braces, update, absent, head_of, Matches}
-use Rattle.js_syntax.specs.Reading.{Fault, stuck, deep, spent, Read, ◌>>=◌}
+use Rattle.js_syntax.specs.Reading.{Fault, stuck, deep, Read, ◌>>=◌}
 use Rattle.js_grammar.proofs.MarkLaws.{joins}
 use Rattle.js_grammar.proofs.TokenLaws.{faulty}
 
@@ -21,20 +21,16 @@ cond_err false p q e h = inr (refl, h)
 pub fault_is : {A : Type 0} (d e : Fault) → faulty {A = A} d ≡ faulty e → d ≡ e
 fault_is d e h = cc
 
--- a fault says how many tokens are left, if it is that no token goes on
+-- a fault says how many tokens are left
 abbrev pub Counts : Fault → List Token → Type 0
 Counts (stuck k) left = length left ≡ k
-Counts deep left = Unit {0}
-Counts spent left = Unit {0}
+Counts (deep k) left = length left ≡ k
 
 pub stuck_counts : {A : Type 0} (left : List Token) (e : Fault) → faulty {A = A} (stuck (length left)) ≡ faulty e → Counts e left
 stuck_counts {A} left e h = subst (λ (e : Fault). Counts e left) (fault_is {A = A} (stuck (length left)) e h) refl
 
-pub deep_counts : {A : Type 0} (left : List Token) (e : Fault) → faulty {A = A} deep ≡ faulty e → Counts e left
-deep_counts {A} left e h = subst (λ (e : Fault). Counts e left) (fault_is {A = A} deep e h) tt
-
-pub spent_counts : {A : Type 0} (left : List Token) (e : Fault) → faulty {A = A} spent ≡ faulty e → Counts e left
-spent_counts {A} left e h = subst (λ (e : Fault). Counts e left) (fault_is {A = A} spent e h) tt
+pub deep_counts : {A : Type 0} (left : List Token) (e : Fault) → faulty {A = A} (deep (length left)) ≡ faulty e → Counts e left
+deep_counts {A} left e h = subst (λ (e : Fault). Counts e left) (fault_is {A = A} (deep (length left)) e h) refl
 
 -- ---- tokens that are added
 

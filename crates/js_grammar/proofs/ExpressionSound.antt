@@ -112,7 +112,7 @@ arrow_of_list_sound q n b s only ts x e =
 
 joined_by_sound : (q : SeqSound) (n : ℕ) (b : Below) → SoundBelow n b → (s : List Token) (t : Expression) (j : Joint) (ts : List Token) (x : Expression × List Token) → TakesExpression 3 (suc n) s t ts → joined_by b n t j ts ≡ Ok x → TakesExpression 1 (suc n) s x.0 x.1
 joined_by_sound q n b snd s t question ts x l e =
-    let p = low_ok (height t) n (made b (tok kinds.Question ∷ an_assignment ∷ tok kinds.Colon ∷ an_assignment ∷ []) (λ v. trees.conditional t v.1.0 v.1.1.1.0) ts) x e in
+    let p = low_ok (height t) n ts (made b (tok kinds.Question ∷ an_assignment ∷ tok kinds.Colon ∷ an_assignment ∷ []) (λ v. trees.conditional t v.1.0 v.1.1.1.0) ts) x e in
     made_takes q n b snd (tok kinds.Question ∷ an_assignment ∷ tok kinds.Colon ∷ an_assignment ∷ []) (λ v. trees.conditional t v.1.0 v.1.1.1.0) ts x (λ e r. TakesExpression 1 (suc n) s e r) (λ v r a. record {
       marks = joins (flat t) (token (fixed kinds.Question) ∷ (flat v.1.0 ++ (token (fixed kinds.Colon) ∷ (flat v.1.1.1.0 ++ [])))) s ts r l.marks a.marks;
       well = (l.well, l.level, a.sane.1.0.0, a.sane.1.0.1, a.sane.1.1.1.0.0, a.sane.1.1.1.0.1);
@@ -120,8 +120,8 @@ joined_by_sound q n b snd s t question ts x l e =
       height = omega (arith, a.height, p.0);
     }) p.1
 joined_by_sound q n b snd s t (assigns_by o) ts x l e =
-    let c = test_ok (is_target t) (if_low (height t) n (made b (tok (assign_kind o) ∷ an_assignment ∷ []) (λ v. trees.assign o t v.1.0) ts)) (stuck (length ts)) x e in
-    let p = low_ok (height t) n (made b (tok (assign_kind o) ∷ an_assignment ∷ []) (λ v. trees.assign o t v.1.0) ts) x c.1 in
+    let c = test_ok (is_target t) (if_low (height t) n ts (made b (tok (assign_kind o) ∷ an_assignment ∷ []) (λ v. trees.assign o t v.1.0) ts)) (stuck (length ts)) x e in
+    let p = low_ok (height t) n ts (made b (tok (assign_kind o) ∷ an_assignment ∷ []) (λ v. trees.assign o t v.1.0) ts) x c.1 in
     made_takes q n b snd (tok (assign_kind o) ∷ an_assignment ∷ []) (λ v. trees.assign o t v.1.0) ts x (λ e r. TakesExpression 1 (suc n) s e r) (λ v r a. record {
       marks = joins (flat t) (token (fixed (assign_kind o)) ∷ (flat v.1.0 ++ [])) s ts r l.marks a.marks;
       well = (l.well, c.0, a.sane.1.0.0, a.sane.1.0.1);
@@ -155,7 +155,7 @@ two_by e (trees.an_expression d es) ts r f g m = refl
 comma_by_sound : (n : ℕ) (b : Below) → SoundBelow n b → (s : List Token) (f : Expression) (c : Bool) (ts : List Token) (x : Expression × List Token) → is_kind kinds.Comma (head_of ts) ≡ c → TakesExpression 1 (suc n) s f ts → comma_by b n f c ts ≡ Ok x → TakesExpression 0 (suc n) s x.0 x.1
 comma_by_sound n b snd s f false ts x g t e = takes_ok 0 (suc n) s f ts x e (weaker 1 0 (suc n) s f ts (omega arith) t)
 comma_by_sound n b snd s f true ts x g t e =
-    let l = low_ok (height f) n (more_assignments b ts >>= λ x. Ok (trees.comma (trees.an_expression f x.0), x.1)) x e in
+    let l = low_ok (height f) n ts (more_assignments b ts >>= λ x. Ok (trees.comma (trees.an_expression f x.0), x.1)) x e in
     let p = bind_ok (more_assignments b ts) (λ x. Ok (trees.comma (trees.an_expression f x.0), x.1)) x l.1 in
     let a = more_sound n b snd ts p.0 p.1 in
     takes_ok 0 (suc n) s (trees.comma (trees.an_expression f p.0.0)) p.0.1 x p.2 (record {

@@ -25,6 +25,7 @@ firm_braces ms = firm_append (token (fixed kinds.LeftBrace) ∷ ms) (token (fixe
 pub firm_parameters : (ns : List (List ℕ)) → is_firm (flat_parameters ns) ≡ true
 firm_parameters ns = firm_append (token (fixed kinds.LeftParenthesis) ∷ flat_names ns) (token (fixed kinds.RightParenthesis) ∷ []) refl
 
+-- one expression at least
 abbrev is_some : Expressions → Bool
 is_some trees.no_expressions = false
 is_some (trees.an_expression e es) = true
@@ -33,6 +34,7 @@ some_of : (es : Expressions) → is_two_expressions es ≡ true → is_some es �
 some_of trees.no_expressions t = absurd cc
 some_of (trees.an_expression e es) t = refl
 
+-- of an expression, of a list that isn't empty, and of a list behind such marks
 mutual
   pub expression_firm : (e : Expression) → Well e → is_firm (flat e) ≡ true
   expression_firm trees.this w = refl

@@ -6,7 +6,7 @@ use Rattle.js_lexer.specs.declared.token.TokenKind.TheVariants as kinds
 use Rattle.js_tree.specs.Trees.{Identifier}
 use Rattle.js_tree.specs.Tokens.{Token, head_of}
 use Rattle.js_syntax.specs.Kinds.{is_kind}
-use Rattle.js_syntax.specs.Reading.{stuck, deep, spent, Read, Reader, ◌>>=◌, expect, name_at, after, go_after, elements, others_by, others, no_state}
+use Rattle.js_syntax.specs.Reading.{stuck, deep, Read, Reader, ◌>>=◌, expect, name_at, after, go_after, elements, others_by, others, no_state}
 use Rattle.js_syntax.specs.Classes.{is_arrow, past_names, listed, no_arrow, listed_by}
 use Rattle.js_syntax.specs.Productions.{one_of}
 use Rattle.js_syntax.proofs.KindLemmas.{kind_not}
@@ -19,14 +19,12 @@ use Rattle.js_grammar.proofs.FollowsParts.{expect_follows, others_from}
 abbrev pub Within : {A : Type 0} → Read A → ℕ → Type 0
 Within (Ok x) k = length x.1 ≤ k
 Within (Err (stuck j)) k = j ≤ k
-Within (Err deep) k = Unit {0}
-Within (Err spent) k = Unit {0}
+Within (Err (deep j)) k = Unit {0}
 
 pub within_more : {A : Type 0} (x : Read A) (k j : ℕ) → k ≤ j → Within x k → Within x j
 within_more (Ok x) k j le w = omega arith
 within_more (Err (stuck n)) k j le w = omega arith
-within_more (Err deep) k j le w = tt
-within_more (Err spent) k j le w = tt
+within_more (Err (deep n)) k j le w = tt
 
 -- what is left of a list is no longer than it
 pub not_longer : {A : Type 0} (f g : Reader A) → Follows f g → (ts : List Token) → Within (f ts) (length ts)
@@ -38,22 +36,19 @@ not_longer {A} f g h ts = by_answer (f ts) (h.at ts)
     by_answer : (x : Read A) → (Clear x → Seen g ts x) → Within x (length ts)
     by_answer (Ok (a, r)) s = let q = s tt in omega (arith, left_is (Ok (a, r)) q, ap (λ (l : List Token). length l) (same_left a q.left r q.same))
     by_answer (Err (stuck n)) s = let q = s tt in omega (arith, left_is (Err (stuck n)) q, same_count {A = A} (length q.left) n q.same)
-    by_answer (Err deep) s = tt
-    by_answer (Err spent) s = tt
+    by_answer (Err (deep n)) s = tt
 
 -- what is left is within a bound
 pub left_within : {A : Type 0} (g : Reader A) (ts : List Token) (x : Read A) (k : ℕ) → Clear x → Within x k → (s : Seen g ts x) → length s.left ≤ k
 left_within {A} g ts (Ok (a, r)) k c w s = omega (arith, ap (λ (l : List Token). length l) (same_left a s.left r s.same))
 left_within {A} g ts (Err (stuck n)) k c w s = omega (arith, same_count {A = A} (length s.left) n s.same)
-left_within g ts (Err deep) k c w s = absurd c
-left_within g ts (Err spent) k c w s = absurd c
+left_within g ts (Err (deep n)) k c w s = absurd c
 
 -- one after the other
 pub within_then : {A B : Type 0} (x : Read A) (f g : A → Reader B) (k : ℕ) → Within x k → ((a : A) → Follows (f a) (g a)) → Within (x >>= λ y. f y.0 y.1) k
 within_then (Ok (a, r)) f g k w h = within_more (f a r) (length r) k w (not_longer (f a) (g a) (h a) r)
 within_then (Err (stuck n)) f g k w h = w
-within_then (Err deep) f g k w h = tt
-within_then (Err spent) f g k w h = tt
+within_then (Err (deep n)) f g k w h = tt
 
 -- ---- where one stops to look for names
 
@@ -213,7 +208,7 @@ ends_name o = is_kind kinds.Comma o || is_kind kinds.RightParenthesis o
 pub record Names {A : Type 0} (one : Reader A) : Type 0 where
   pub follows : Follows one one
   -- a name alone is read, or it is too deep
-  pub alone : (t : Token) (ts : List Token) → is_kind kinds.Name (Some t) ≡ true → ends_name (head_of ts) ≡ true → (one (t ∷ ts) ≡ Err deep) ⊎ ((a : A) × (one (t ∷ ts) ≡ Ok (a, ts)))
+  pub alone : (t : Token) (ts : List Token) → is_kind kinds.Name (Some t) ≡ true → ends_name (head_of ts) ≡ true → ((k : ℕ) × (one (t ∷ ts) ≡ Err (deep k))) ⊎ ((a : A) × (one (t ∷ ts) ≡ Ok (a, ts)))
   -- a name is always gone past
   pub past : (t : Token) (ts : List Token) → is_kind kinds.Name (Some t) ≡ true → Within (one (t ∷ ts)) (length ts)
 
@@ -240,7 +235,7 @@ end_within (t ∷ ts) e = by_kind (is_kind kinds.RightParenthesis (Some t)) (is_
     by_kind false false e = omega arith
 
 -- where neither a comma nor the parenthesis follows
-not_ended : (ts : List Token) → ends_name (head_of ts) ≡ false → scan_end false ts ≡ ts
+pub not_ended : (ts : List Token) → ends_name (head_of ts) ≡ false → scan_end false ts ≡ ts
 not_ended [] e = refl
 not_ended (t ∷ ts) e = by_kind (is_kind kinds.RightParenthesis (Some t)) (is_kind kinds.Comma (Some t)) e
   where
@@ -263,7 +258,7 @@ names_within {A} {B} one s go go' f (t ∷ ts) e h = by_kind (is_kind kinds.Righ
     by_end : (v : Bool) → ends_name (head_of ts) ≡ v → is_kind kinds.Name (Some t) ≡ true → listed_by (past_names false ts) ≡ no_arrow → Within (closing (one (t ∷ ts) >>= λ x. go x.0 x.1)) (length (scan_end false ts))
     by_end false v n q = subst (λ (l : List Token). Within (closing (one (t ∷ ts) >>= λ x. go x.0 x.1)) (length l)) (sym (not_ended ts v)) (all_within (length ts) (s.past t ts n))
     by_end true v n q = elim (s.alone t ts n v) [
-      | inl d ↦ rw d tt
+      | inl d ↦ rw d.1 tt
       | inr o ↦ rw o.1 (h o.0 ts (omega arith) q)
     ]
 

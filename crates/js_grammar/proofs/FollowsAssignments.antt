@@ -30,11 +30,11 @@ pub record Spans (b : Below) : Type 0 where
 
 -- ---- what goes on behind the first primary expression
 
-abbrev behind : Below → ℕ → Expression → Reader Expression
+abbrev pub behind : Below → ℕ → Expression → Reader Expression
 behind b n e ts =
     ((links b n (suc n) e ts >>= λ x. updated_by n x.0 (update_near (head_of x.1)) x.1) >>= λ x. chain b n 3 (suc n) x.0 x.1) >>= λ x. joined b n x.0 x.1
 
-behind_follows : (b c : Below) (n m : ℕ) → n ≤ m → Pair b c → (e : Expression) → Follows (λ ts. behind b n e ts) (λ ts. behind c m e ts)
+pub behind_follows : (b c : Below) (n m : ℕ) → n ≤ m → Pair b c → (e : Expression) → Follows (λ ts. behind b n e ts) (λ ts. behind c m e ts)
 behind_follows b c n m le p e =
     let one : Reader Expression = λ ts. links b n (suc n) e ts in
     let one' : Reader Expression = λ ts. links c m (suc m) e ts in
@@ -52,7 +52,7 @@ behind_follows b c n m le p e =
 -- ---- names
 
 -- behind a name: an arrow, or what goes on with an expression
-abbrev named_form : Below → ℕ → Identifier → Bool → Reader Expression
+abbrev pub named_form : Below → ℕ → Identifier → Bool → Reader Expression
 named_form b n s true ts = arrow_rest b (trees.one_name s) (s ∷ []) ts
 named_form b n s false ts = behind b n (trees.name s) ts
 
@@ -65,10 +65,10 @@ named_follows b c n m le p s = peeks is_arrow (λ v ts. named_form b n s v ts) (
 -- ---- parentheses
 
 -- an expression and the parenthesis behind it
-abbrev enclosed : Below → Reader Expression
+abbrev pub enclosed : Below → Reader Expression
 enclosed b ts = made b (an_expression ∷ tok kinds.RightParenthesis ∷ []) (λ v. trees.parenthesized v.0) ts
 
-abbrev covered : Below → ℕ → Reader Expression
+abbrev pub covered : Below → ℕ → Reader Expression
 covered b n ts =
     (((enclosed b ts >>= λ x. links b n (suc n) x.0 x.1) >>= λ x. updated_by n x.0 (update_near (head_of x.1)) x.1) >>= λ x. chain b n 3 (suc n) x.0 x.1) >>= λ x. joined b n x.0 x.1
 
@@ -89,23 +89,23 @@ covered_follows b c n m le p =
     (λ f. chain_follows b c n m le p 3 (suc n) (suc m) (omega arith) f))
     (joined_follows b c n m le p)
 
-abbrev paren_items : List Item
+abbrev pub paren_items : List Item
 paren_items = tok kinds.RightParenthesis ∷ []
 
-abbrev paren_value : Read (Unit {0}) → Read (Values paren_items)
+abbrev pub paren_value : Read (Unit {0}) → Read (Values paren_items)
 paren_value z = z >>= λ x. Ok ((x.0, tt), x.1)
 
-abbrev with_paren : Expression → Read (Values paren_items) → Read (Values (an_expression ∷ paren_items))
+abbrev pub with_paren : Expression → Read (Values paren_items) → Read (Values (an_expression ∷ paren_items))
 with_paren e z = z >>= λ x. Ok ((e, x.0), x.1)
 
-abbrev as_enclosed : Read (Values (an_expression ∷ paren_items)) → Read Expression
+abbrev pub as_enclosed : Read (Values (an_expression ∷ paren_items)) → Read Expression
 as_enclosed v = v >>= λ x. Ok (trees.parenthesized x.0.0, x.1)
 
 paren_within : (e : Expression) (z : Read (Unit {0})) (k : ℕ) → Within z k → Within (as_enclosed (with_paren e (paren_value z))) k
 paren_within e (Ok z) k w = w
 paren_within e (Err z) k w = w
 
-enclosed_by : (x : Read Expression) (k : ℕ) → Within (closing x) k → Within (as_enclosed (x >>= λ y. with_paren y.0 (paren_value (expect kinds.RightParenthesis y.1)))) k
+pub enclosed_by : (x : Read Expression) (k : ℕ) → Within (closing x) k → Within (as_enclosed (x >>= λ y. with_paren y.0 (paren_value (expect kinds.RightParenthesis y.1)))) k
 enclosed_by (Ok y) k w = paren_within y.0 (expect kinds.RightParenthesis y.1) k w
 enclosed_by (Err z) k w = w
 
@@ -124,12 +124,12 @@ covered_within b n p s ts e =
     within_then three (λ f r. joined b n f r) (λ f r. joined b n f r) k third (joined_follows b b n n same p)
 
 -- behind a parenthesis: parameters, or an expression
-abbrev paren_form : Below → ℕ → Head → Reader Expression
+abbrev pub paren_form : Below → ℕ → Head → Reader Expression
 paren_form b n one_parameter ts = Err (stuck (length ts))
 paren_form b n (listed only) ts = names_before ts >>= λ ns. arrow_of_names b only ns.0 ns.1
 paren_form b n no_arrow ts = covered b n ts
 
-abbrev paren_at : Below → ℕ → Reader Expression
+abbrev pub paren_at : Below → ℕ → Reader Expression
 paren_at b n ts = paren_form b n (listed_by (past_names true ts)) ts
 
 -- no arrow follows
@@ -153,11 +153,11 @@ names_read : (ts : List Token) (w : Bool) (rest r : List Token) → (c : Closed 
 unfolding names_before
 names_read ts w rest r c = c.read (suc (length (c.front ++ (c.last ∷ r)))) r (omega arith)
 
-listed_is : (b : Below) (n : ℕ) (ts : List Token) (w : Bool) (rest r : List Token) (c : Closed true ts w rest) → listed_by (Some (w, r)) ≡ listed w → paren_at b n (c.front ++ (c.last ∷ r)) ≡ arrow_of_names b w c.names r
+pub listed_is : (b : Below) (n : ℕ) (ts : List Token) (w : Bool) (rest r : List Token) (c : Closed true ts w rest) → listed_by (Some (w, r)) ≡ listed w → paren_at b n (c.front ++ (c.last ∷ r)) ≡ arrow_of_names b w c.names r
 listed_is b n ts w rest r c h =
     ap (λ (v : Head). paren_form b n v (c.front ++ (c.last ∷ r))) (ap (λ (o : Option (Bool × List Token)). listed_by o) (c.looked r) ∙ h) ∙ ap (λ (x : Read (List Identifier)). x >>= λ ns. arrow_of_names b w ns.0 ns.1) (names_read ts w rest r c)
 
-listed_alike : (w : Bool) (r rest : List Token) → head_of r ≡ head_of rest → listed_by (Some (w, rest)) ≡ listed w → listed_by (Some (w, r)) ≡ listed w
+pub listed_alike : (w : Bool) (r rest : List Token) → head_of r ≡ head_of rest → listed_by (Some (w, rest)) ≡ listed w → listed_by (Some (w, r)) ≡ listed w
 listed_alike true r rest h e = refl
 listed_alike false r rest h e = ap (λ (o : Option Token). cond (is_arrow o) (listed false) no_arrow) h ∙ e
 
@@ -239,11 +239,11 @@ paren_follows b c n m le p own s = record { at = λ ts. paren_by b c n m le p ow
 
 -- ---- assignments
 
-abbrev plain_form : Below → ℕ → Reader Expression
+abbrev pub plain_form : Below → ℕ → Reader Expression
 plain_form b n ts = operation b n 3 ts >>= λ x. joined b n x.0 x.1
 
 -- an assignment with its first token looked at before the others
-abbrev assignment_form : Below → ℕ → Start → Reader Expression
+abbrev pub assignment_form : Below → ℕ → Start → Reader Expression
 assignment_form b n (classes.a_name s) ts = named_form b n s (is_arrow (head_of (tail_of ts))) (tail_of ts)
 assignment_form b n classes.parenthesis ts = paren_at b n (tail_of ts)
 assignment_form b n _ ts = plain_form b n ts
@@ -260,7 +260,7 @@ one_of_name : (b : Below) (n : ℕ) (s : List ℕ) (ts : List Token) → start (
 unfolding arrow_of_one
 one_of_name b n s ts e = rw (name_again s ts (tail_of ts) (start_name s (head_of ts) e, refl)) refl
 
-named_is : (b : Below) (n : ℕ) (s : List ℕ) (ts : List Token) → start (head_of ts) ≡ classes.a_name s → (v : Bool) → assignment_by b n (cond v one_parameter no_arrow) ts ≡ named_form b n s v (tail_of ts)
+pub named_is : (b : Below) (n : ℕ) (s : List ℕ) (ts : List Token) → start (head_of ts) ≡ classes.a_name s → (v : Bool) → assignment_by b n (cond v one_parameter no_arrow) ts ≡ named_form b n s v (tail_of ts)
 named_is b n s ts e true = one_of_name b n s ts e
 named_is b n s ts e false = plain_of_name b n s ts e
 
@@ -318,7 +318,7 @@ assignment_is_by b n ts (classes.a_name s) e = named_is b n s ts e (is_arrow (he
 assignment_is_by b n ts classes.parenthesis e = paren_is b n ts e (listed_by (past_names true (tail_of ts))) refl
 assignment_is_by b n ts _ e = refl
 
-assignment_is : (b : Below) (n : ℕ) (ts : List Token) → assignment b n ts ≡ assignment_form b n (start (head_of ts)) ts
+pub assignment_is : (b : Below) (n : ℕ) (ts : List Token) → assignment b n ts ≡ assignment_form b n (start (head_of ts)) ts
 unfolding assignment
 assignment_is b n ts = assignment_is_by b n ts (start (head_of ts)) refl
 
@@ -342,7 +342,7 @@ comma_by_follows b c n m le p e true =
     low_enough (height e) n m (λ ts. more_assignments b ts >>= λ x. Ok (trees.comma (trees.an_expression e x.0), x.1)) (λ ts. more_assignments c ts >>= λ x. Ok (trees.comma (trees.an_expression e x.0), x.1)) le
     (makes (λ ts. more_assignments b ts) (λ ts. more_assignments c ts) (λ es. trees.comma (trees.an_expression e es)) (more_assignments_follows b c p))
 
-comma_follows : (b c : Below) (n m : ℕ) → n ≤ m → Pair b c → (e : Expression) → Follows (λ ts. comma_by b n e (is_kind kinds.Comma (head_of ts)) ts) (λ ts. comma_by c m e (is_kind kinds.Comma (head_of ts)) ts)
+pub comma_follows : (b c : Below) (n m : ℕ) → n ≤ m → Pair b c → (e : Expression) → Follows (λ ts. comma_by b n e (is_kind kinds.Comma (head_of ts)) ts) (λ ts. comma_by c m e (is_kind kinds.Comma (head_of ts)) ts)
 comma_follows b c n m le p e = peeks (λ o. is_kind kinds.Comma o) (λ v ts. comma_by b n e v ts) (λ v ts. comma_by c m e v ts) (comma_by_follows b c n m le p e)
 
 pub expression_follows : (b c : Below) (n m : ℕ) → n ≤ m → Pair b c → Pair b b → Spans b → Follows (λ ts. expression b n ts) (λ ts. expression c m ts)
@@ -359,12 +359,12 @@ ended_kind t e = by_test (is_kind kinds.Comma (Some t)) refl e
     by_test false c e = inr (kind_is kinds.RightParenthesis t e)
 
 -- nothing goes on with an expression there
-record Ended (o : Option Token) : Type 0 where
-  unlinked : link o ≡ no_link
-  not_updated : update_near o ≡ None
-  last_operand : operator o ≡ None
-  not_joined : joint o ≡ no_joint
-  not_arrow : is_arrow o ≡ false
+pub record Ended (o : Option Token) : Type 0 where
+  pub unlinked : link o ≡ no_link
+  pub not_updated : update_near o ≡ None
+  pub last_operand : operator o ≡ None
+  pub not_joined : joint o ≡ no_joint
+  pub not_arrow : is_arrow o ≡ false
 
 abbrev no_update : Option UpdateOperator
 no_update = None
@@ -386,22 +386,22 @@ ended_of t k e a b c d f = record {
   not_arrow = rw (e, f) (and_false (not t.newline_before));
 }
 
-ended_at : (t : Token) → ends_name (Some t) ≡ true → Ended (Some t)
+pub ended_at : (t : Token) → ends_name (Some t) ≡ true → Ended (Some t)
 ended_at t e = elim (ended_kind t e) [
   | inl k ↦ ended_of t kinds.Comma k refl refl refl refl refl
   | inr k ↦ ended_of t kinds.RightParenthesis k refl refl refl refl refl
 ]
 
-named_assignment : (b : Below) (n : ℕ) (t : Token) (ts : List Token) → is_kind kinds.Name (Some t) ≡ true → assignment b n (t ∷ ts) ≡ named_form b n t.string_value (is_arrow (head_of ts)) ts
+pub named_assignment : (b : Below) (n : ℕ) (t : Token) (ts : List Token) → is_kind kinds.Name (Some t) ≡ true → assignment b n (t ∷ ts) ≡ named_form b n t.string_value (is_arrow (head_of ts)) ts
 named_assignment b n t ts e =
     let is : start (Some t) ≡ classes.a_name t.string_value = rw (kind_is kinds.Name t e) refl in
     assignment_is b n (t ∷ ts) ∙ ap (λ (v : Start). assignment_form b n v (t ∷ ts)) is
 
-behind_alone : (b : Below) (n : ℕ) (e : Expression) (t : Token) (ts : List Token) → ends_name (Some t) ≡ true → behind b n e (t ∷ ts) ≡ Ok (e, t ∷ ts)
+pub behind_alone : (b : Below) (n : ℕ) (e : Expression) (t : Token) (ts : List Token) → ends_name (Some t) ≡ true → behind b n e (t ∷ ts) ≡ Ok (e, t ∷ ts)
 unfolding links chain joined
 behind_alone b n e t ts h = let d = ended_at t h in rw (d.unlinked, d.not_updated, d.last_operand, d.not_joined) refl
 
-name_alone : (b : Below) (n : ℕ) (t : Token) (ts : List Token) → is_kind kinds.Name (Some t) ≡ true → ends_name (head_of ts) ≡ true → assignment b n (t ∷ ts) ≡ Ok (trees.name t.string_value, ts)
+pub name_alone : (b : Below) (n : ℕ) (t : Token) (ts : List Token) → is_kind kinds.Name (Some t) ≡ true → ends_name (head_of ts) ≡ true → assignment b n (t ∷ ts) ≡ Ok (trees.name t.string_value, ts)
 name_alone b n t [] e h = absurd cc
 name_alone b n t (u ∷ ts) e h =
     let d = ended_at u h in
@@ -418,18 +418,18 @@ assignment_names b n p s =
           subst (λ (x : Read Expression). Within x (length ts)) (sym (named_assignment b n t ts e)) (not_longer form form (named_follows b b n n same p t.string_value) ts);
     }
 
-comma_within : (b : Below) (n : ℕ) → Pair b b → Spans b → (e : Expression) (ts : List Token) → listed_by (past_names false ts) ≡ no_arrow → (v : Bool) → is_kind kinds.Comma (head_of ts) ≡ v → Within (closing (comma_by b n e v ts)) (length (scan_end false ts))
+pub comma_within : (b : Below) (n : ℕ) → Names b.assignment → (e : Expression) (ts : List Token) → listed_by (past_names false ts) ≡ no_arrow → (v : Bool) → is_kind kinds.Comma (head_of ts) ≡ v → Within (closing (comma_by b n e v ts)) (length (scan_end false ts))
 unfolding more_assignments
-comma_within b n p s e ts q false c = end_within ts c
-comma_within b n p s e ts q true c = by_depth (nat_le (height e) n)
+comma_within b n s e ts q false c = end_within ts c
+comma_within b n s e ts q true c = by_depth (nat_le (height e) n)
   where
     more : Read Expressions
     more = others (one_of b.assignment) no_state (suc (length ts)) tt ts >>= λ x. Ok (expressions x.0, x.1)
 
     more_within : Within (closing more) (length (scan_end false ts))
-    more_within = closing_makes (others (one_of b.assignment) no_state (suc (length ts)) tt ts) expressions (length (scan_end false ts)) (others_within b.assignment s.names (suc (length ts)) ts q)
+    more_within = closing_makes (others (one_of b.assignment) no_state (suc (length ts)) tt ts) expressions (length (scan_end false ts)) (others_within b.assignment s (suc (length ts)) ts q)
 
-    by_depth : (v : Bool) → Within (closing (cond v (more >>= λ x. Ok (trees.comma (trees.an_expression e x.0), x.1)) (Err deep))) (length (scan_end false ts))
+    by_depth : (v : Bool) → Within (closing (cond v (more >>= λ x. Ok (trees.comma (trees.an_expression e x.0), x.1)) (Err (deep (length (tail_of ts)))))) (length (scan_end false ts))
     by_depth true = closing_makes more (λ es. trees.comma (trees.an_expression e es)) (length (scan_end false ts)) more_within
     by_depth false = tt
 
@@ -438,4 +438,4 @@ unfolding expression
 expression_closes b n p s ts e =
     let go : Expression → Reader Expression = λ f r. comma_by b n f (is_kind kinds.Comma (head_of r)) r in
     names_within (λ r. assignment b n r) (assignment_names b n p s) go go (comma_follows b b n n (omega arith) p) ts e
-    (λ f r l q. comma_within b n p s f r q (is_kind kinds.Comma (head_of r)) refl)
+    (λ f r l q. comma_within b n s.names f r q (is_kind kinds.Comma (head_of r)) refl)

@@ -45,15 +45,15 @@ member_form b c n m le p k classes.parameters = method_follows b c n m le p k
 member_form b c n m le p k classes.no_member = sticks
 
 -- what stands behind a name: it is a key or a shorthand
-abbrev named_member : Below → ℕ → Identifier → AfterKey → Reader Property
+abbrev pub named_member : Below → ℕ → Identifier → AfterKey → Reader Property
 named_member b n s classes.no_member ts = Ok (trees.shorthand s, ts)
 named_member b n s v ts = member_by b n (trees.word_key s) v ts
 
-abbrev name_next : Option Token → Option Identifier
+abbrev pub name_next : Option Token → Option Identifier
 name_next o = cond (is_kind kinds.Name o) (Some (text_of o)) None
 
 -- a property with its first token looked at before the second
-abbrev property_form : Below → ℕ → Option Identifier → Reader Property
+abbrev pub property_form : Below → ℕ → Option Identifier → Reader Property
 property_form b n (Some s) ts = named_member b n s (after_key (head_of (tail_of ts))) (tail_of ts)
 property_form b n None ts = key_at b ts >>= λ k. member_by b n k.0 (after_key (head_of k.1)) k.1
 
@@ -72,7 +72,7 @@ property_is_by : (b : Below) (n : ℕ) (ts : List Token) (v : Bool) → is_kind 
 property_is_by b n ts true e = named_property b n ts e (after_key (head_of (tail_of ts))) refl
 property_is_by b n ts false e = refl
 
-property_is : (b : Below) (n : ℕ) (ts : List Token) → property_at b n ts ≡ property_form b n (name_next (head_of ts)) ts
+pub property_is : (b : Below) (n : ℕ) (ts : List Token) → property_at b n ts ≡ property_form b n (name_next (head_of ts)) ts
 unfolding property_at
 property_is b n ts = property_is_by b n ts (is_kind kinds.Name (head_of ts)) refl
 
@@ -128,14 +128,14 @@ primary_follows b c n m le p = peeks start (λ v ts. primary_by b n v ts) (λ v 
 
 -- ---- members and calls
 
-linked_follows : (b c : Below) → Pair b c → (e : Expression) (l : Link) → Follows (λ ts. linked_by b e l ts) (λ ts. linked_by c e l ts)
+pub linked_follows : (b c : Below) → Pair b c → (e : Expression) (l : Link) → Follows (λ ts. linked_by b e l ts) (λ ts. linked_by c e l ts)
 linked_follows b c p e dot = makes (λ ts. word_at (tail_of ts)) (λ ts. word_at (tail_of ts)) (λ x. trees.member e x) (past (λ ts. word_at ts) (λ ts. word_at ts) word_follows)
 linked_follows b c p e key = made_follows b c p (tok kinds.LeftBracket ∷ an_expression ∷ tok kinds.RightBracket ∷ []) (λ v. trees.index e v.1.0)
 linked_follows b c p e classes.arguments = made_follows b c p (tok kinds.LeftParenthesis ∷ arguments kinds.RightParenthesis ∷ []) (λ v. trees.call e v.1.0)
 linked_follows b c p e no_link = sticks
 
 link_turn : (b c : Below) (n m : ℕ) → n ≤ m → Pair b c → (go go' : Expression → Reader Expression) → ((e : Expression) → Follows (go e) (go' e)) → (e : Expression) (l : Link)
-    → Follows (λ ts. cond (nat_le (height e) n) (linked_by b e l ts >>= λ x. go x.0 x.1) (Err deep)) (λ ts. cond (nat_le (height e) m) (linked_by c e l ts >>= λ x. go' x.0 x.1) (Err deep))
+    → Follows (λ ts. cond (nat_le (height e) n) (linked_by b e l ts >>= λ x. go x.0 x.1) (Err (deep (length (tail_of ts))))) (λ ts. cond (nat_le (height e) m) (linked_by c e l ts >>= λ x. go' x.0 x.1) (Err (deep (length (tail_of ts)))))
 link_turn b c n m le p go go' h e l =
     low_enough (height e) n m (λ ts. linked_by b e l ts >>= λ x. go x.0 x.1) (λ ts. linked_by c e l ts >>= λ x. go' x.0 x.1) le
     (binds (λ ts. linked_by b e l ts) (λ ts. linked_by c e l ts) go go' (linked_follows b c p e l) h)
@@ -163,7 +163,7 @@ call_follows b c n m le p = binds (λ ts. primary b n ts) (λ ts. primary c m ts
 updated_by_follows : (n m : ℕ) → n ≤ m → (e : Expression) (v : Option UpdateOperator) → Follows (λ ts. updated_by n e v ts) (λ ts. updated_by m e v ts)
 updated_by_follows n m le e None = gives e
 updated_by_follows n m le e (Some o) =
-    tests (is_target e) (λ ts. cond (nat_le (height e) n) (Ok (trees.postfix o e, tail_of ts)) (Err deep)) (λ ts. cond (nat_le (height e) m) (Ok (trees.postfix o e, tail_of ts)) (Err deep)) (λ ts. Err (stuck (length ts))) (λ ts. Err (stuck (length ts)))
+    tests (is_target e) (λ ts. cond (nat_le (height e) n) (Ok (trees.postfix o e, tail_of ts)) (Err (deep (length (tail_of ts))))) (λ ts. cond (nat_le (height e) m) (Ok (trees.postfix o e, tail_of ts)) (Err (deep (length (tail_of ts))))) (λ ts. Err (stuck (length ts))) (λ ts. Err (stuck (length ts)))
     (low_enough (height e) n m (λ ts. Ok (trees.postfix o e, tail_of ts)) (λ ts. Ok (trees.postfix o e, tail_of ts)) le (one_token (trees.postfix o e))) sticks
 
 pub updated_follows : (n m : ℕ) → n ≤ m → (e : Expression) → Follows (λ ts. updated_by n e (update_near (head_of ts)) ts) (λ ts. updated_by m e (update_near (head_of ts)) ts)
@@ -174,10 +174,10 @@ unfolding postfix
 postfix_follows b c n m le p = binds (λ ts. call b n ts) (λ ts. call c m ts) (λ e ts. updated_by n e (update_near (head_of ts)) ts) (λ e ts. updated_by m e (update_near (head_of ts)) ts) (call_follows b c n m le p) (updated_follows n m le)
 
 -- an operand that is tested
-abbrev tested : Bool → Expression → Reader Expression
+abbrev pub tested : Bool → Expression → Reader Expression
 tested v e ts = cond v (Ok (e, ts)) (Err (stuck (length ts)))
 
-tested_follows : (v : Bool) (e : Expression) → Follows (tested v e) (tested v e)
+pub tested_follows : (v : Bool) (e : Expression) → Follows (tested v e) (tested v e)
 tested_follows true e = gives e
 tested_follows false e = sticks
 
@@ -218,7 +218,7 @@ joined_by_follows b c n m le p t question =
 joined_by_follows b c n m le p t (assigns_by o) =
     let left : Reader Expression = λ ts. made b (tok (assign_kind o) ∷ an_assignment ∷ []) (λ v. trees.assign o t v.1.0) ts in
     let right : Reader Expression = λ ts. made c (tok (assign_kind o) ∷ an_assignment ∷ []) (λ v. trees.assign o t v.1.0) ts in
-    tests (is_target t) (λ ts. cond (nat_le (height t) n) (left ts) (Err deep)) (λ ts. cond (nat_le (height t) m) (right ts) (Err deep)) (λ ts. Err (stuck (length ts))) (λ ts. Err (stuck (length ts)))
+    tests (is_target t) (λ ts. cond (nat_le (height t) n) (left ts) (Err (deep (length (tail_of ts))))) (λ ts. cond (nat_le (height t) m) (right ts) (Err (deep (length (tail_of ts))))) (λ ts. Err (stuck (length ts))) (λ ts. Err (stuck (length ts)))
     (low_enough (height t) n m left right le (made_follows b c p (tok (assign_kind o) ∷ an_assignment ∷ []) (λ v. trees.assign o t v.1.0))) sticks
 joined_by_follows b c n m le p t no_joint = gives t
 

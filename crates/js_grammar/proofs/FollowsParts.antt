@@ -122,10 +122,10 @@ go_after_local go go' closer n goes_on ts e le h = h (tail_of ts) (omega (arith,
 go_after_local go go' closer n ends ts e le h = refl
 go_after_local go go' closer n neither ts e le h = refl
 
-abbrev elements_body : {S A : Type 0} → (S → Reader A) → (S → A → S) → TokenKind → (S → Reader (List A)) → S → Reader (List A)
+abbrev pub elements_body : {S A : Type 0} → (S → Reader A) → (S → A → S) → TokenKind → (S → Reader (List A)) → S → Reader (List A)
 elements_body one next closer go s ts = elements_by one next go closer s (is_kind closer (head_of ts)) ts
 
-elements_local : {S A : Type 0} (one : S → Reader A) (next : S → A → S) (closer : TokenKind) → ((s : S) → Shortens (one s)) → Local (elements_body one next closer)
+pub elements_local : {S A : Type 0} (one : S → Reader A) (next : S → A → S) (closer : TokenKind) → ((s : S) → Shortens (one s)) → Local (elements_body one next closer)
 elements_local {S} {A} one next closer sh = λ go go' s ts h. by_close go go' s ts h (is_kind closer (head_of ts))
   where
     by_first : (go go' : S → Reader (List A)) (s : S) (ts : List Token) → ((u : S) (r : List Token) → suc (length r) ≤ length ts → go u r ≡ go' u r) → (x : Read A) → one s ts ≡ x
@@ -137,21 +137,21 @@ elements_local {S} {A} one next closer sh = λ go go' s ts h. by_close go go' s 
     by_close go go' s ts h true = refl
     by_close go go' s ts h false = by_first go go' s ts h (one s ts) refl
 
-go_after_follows : {A : Type 0} (closer : TokenKind) (go go' : Reader (List A)) → Follows go go' → Follows (λ ts. go_after go (after closer (head_of ts)) ts) (λ ts. go_after go' (after closer (head_of ts)) ts)
+pub go_after_follows : {A : Type 0} (closer : TokenKind) (go go' : Reader (List A)) → Follows go go' → Follows (λ ts. go_after go (after closer (head_of ts)) ts) (λ ts. go_after go' (after closer (head_of ts)) ts)
 go_after_follows closer go go' h = peeks (λ o. after closer o) (λ a ts. go_after go a ts) (λ a ts. go_after go' a ts) (elim [
   | goes_on ↦ past go go' h
   | ends ↦ past (λ ts. Ok ([], ts)) (λ ts. Ok ([], ts)) (gives [])
   | neither ↦ sticks
 ])
 
-elements_turn : {S A : Type 0} (one one' : S → Reader A) (next : S → A → S) (closer : TokenKind) → ((s : S) → Follows (one s) (one' s)) → (f f' : S → Reader (List A)) → ((s : S) → Follows (f s) (f' s)) → (s : S) → Follows (elements_body one next closer f s) (elements_body one' next closer f' s)
+pub elements_turn : {S A : Type 0} (one one' : S → Reader A) (next : S → A → S) (closer : TokenKind) → ((s : S) → Follows (one s) (one' s)) → (f f' : S → Reader (List A)) → ((s : S) → Follows (f s) (f' s)) → (s : S) → Follows (elements_body one next closer f s) (elements_body one' next closer f' s)
 elements_turn one one' next closer h f f' k s = peeks (λ o. is_kind closer o) (λ c ts. elements_by one next f closer s c ts) (λ c ts. elements_by one' next f' closer s c ts) (elim [
   | true ↦ past (λ ts. Ok ([], ts)) (λ ts. Ok ([], ts)) (gives [])
   | false ↦ binds (one s) (one' s) (λ a ts. go_after (f (next s a)) (after closer (head_of ts)) ts >>= λ y. Ok (a ∷ y.0, y.1)) (λ a ts. go_after (f' (next s a)) (after closer (head_of ts)) ts >>= λ y. Ok (a ∷ y.0, y.1)) (h s)
       (λ a. makes (λ ts. go_after (f (next s a)) (after closer (head_of ts)) ts) (λ ts. go_after (f' (next s a)) (after closer (head_of ts)) ts) (λ ys. a ∷ ys) (go_after_follows closer (f (next s a)) (f' (next s a)) (k (next s a))))
 ])
 
-elements_turns : {S A : Type 0} (one : S → Reader A) (next : S → A → S) (closer : TokenKind) → Turns (elements_body one next closer) (λ k s ts. elements one next closer k s ts)
+pub elements_turns : {S A : Type 0} (one : S → Reader A) (next : S → A → S) (closer : TokenKind) → Turns (elements_body one next closer) (λ k s ts. elements one next closer k s ts)
 unfolding elements
 elements_turns one next closer = record { none = λ s ts. refl; one = λ k s ts. refl }
 
@@ -161,14 +161,14 @@ elements_follows one one' next closer h sh s =
 
 -- ---- further elements
 
-abbrev others_body : {S A : Type 0} → (S → Reader A) → (S → A → S) → (S → Reader (List A)) → S → Reader (List A)
+abbrev pub others_body : {S A : Type 0} → (S → Reader A) → (S → A → S) → (S → Reader (List A)) → S → Reader (List A)
 others_body one next go s ts = others_by one next go s (is_kind kinds.Comma (head_of ts)) ts
 
 kind_shorter : (k : TokenKind) (ts : List Token) → is_kind k (head_of ts) ≡ true → suc (length (tail_of ts)) ≡ length ts
 kind_shorter k [] e = absurd cc
 kind_shorter k (t ∷ ts) e = refl
 
-others_local : {S A : Type 0} (one : S → Reader A) (next : S → A → S) → ((s : S) → Shortens (one s)) → Local (others_body one next)
+pub others_local : {S A : Type 0} (one : S → Reader A) (next : S → A → S) → ((s : S) → Shortens (one s)) → Local (others_body one next)
 others_local {S} {A} one next sh = λ go go' s ts h. by_comma go go' s ts h (is_kind kinds.Comma (head_of ts)) refl
   where
     by_first : (go go' : S → Reader (List A)) (s : S) (ts : List Token) → is_kind kinds.Comma (head_of ts) ≡ true → ((u : S) (r : List Token) → suc (length r) ≤ length ts → go u r ≡ go' u r) → (x : Read A) → one s (tail_of ts) ≡ x
@@ -180,14 +180,14 @@ others_local {S} {A} one next sh = λ go go' s ts h. by_comma go go' s ts h (is_
     by_comma go go' s ts h true e = by_first go go' s ts e h (one s (tail_of ts)) refl
     by_comma go go' s ts h false e = refl
 
-others_turn : {S A : Type 0} (one one' : S → Reader A) (next : S → A → S) → ((s : S) → Follows (one s) (one' s)) → (f f' : S → Reader (List A)) → ((s : S) → Follows (f s) (f' s)) → (s : S) → Follows (others_body one next f s) (others_body one' next f' s)
+pub others_turn : {S A : Type 0} (one one' : S → Reader A) (next : S → A → S) → ((s : S) → Follows (one s) (one' s)) → (f f' : S → Reader (List A)) → ((s : S) → Follows (f s) (f' s)) → (s : S) → Follows (others_body one next f s) (others_body one' next f' s)
 others_turn one one' next h f f' k s = peeks (λ o. is_kind kinds.Comma o) (λ c ts. others_by one next f s c ts) (λ c ts. others_by one' next f' s c ts) (elim [
   | true ↦ binds (λ ts. one s (tail_of ts)) (λ ts. one' s (tail_of ts)) (λ a ts. f (next s a) ts >>= λ y. Ok (a ∷ y.0, y.1)) (λ a ts. f' (next s a) ts >>= λ y. Ok (a ∷ y.0, y.1)) (past (one s) (one' s) (h s))
       (λ a. makes (f (next s a)) (f' (next s a)) (λ ys. a ∷ ys) (k (next s a)))
   | false ↦ gives []
 ])
 
-others_turns : {S A : Type 0} (one : S → Reader A) (next : S → A → S) → Turns (others_body one next) (λ k s ts. others one next k s ts)
+pub others_turns : {S A : Type 0} (one : S → Reader A) (next : S → A → S) → Turns (others_body one next) (λ k s ts. others one next k s ts)
 unfolding others
 others_turns one next = record { none = λ s ts. refl; one = λ k s ts. refl }
 
@@ -202,10 +202,10 @@ others_from one one' next h sh k s =
 
 -- ---- elements up to what ends a list of statements
 
-abbrev items_body : {S A : Type 0} → (S → Reader A) → (S → A → S) → (S → Reader (List A)) → S → Reader (List A)
+abbrev pub items_body : {S A : Type 0} → (S → Reader A) → (S → A → S) → (S → Reader (List A)) → S → Reader (List A)
 items_body one next go s ts = items_by one next go s (ends_list (head_of ts)) ts
 
-items_local : {S A : Type 0} (one : S → Reader A) (next : S → A → S) → ((s : S) → Takes (one s)) → Local (items_body one next)
+pub items_local : {S A : Type 0} (one : S → Reader A) (next : S → A → S) → ((s : S) → Takes (one s)) → Local (items_body one next)
 items_local {S} {A} one next sh = λ go go' s ts h. by_end go go' s ts h (ends_list (head_of ts))
   where
     by_first : (go go' : S → Reader (List A)) (s : S) (ts : List Token) → ((u : S) (r : List Token) → suc (length r) ≤ length ts → go u r ≡ go' u r) → (x : Read A) → one s ts ≡ x
@@ -217,14 +217,14 @@ items_local {S} {A} one next sh = λ go go' s ts h. by_end go go' s ts h (ends_l
     by_end go go' s ts h true = refl
     by_end go go' s ts h false = by_first go go' s ts h (one s ts) refl
 
-items_turn : {S A : Type 0} (one one' : S → Reader A) (next : S → A → S) → ((s : S) → Follows (one s) (one' s)) → (f f' : S → Reader (List A)) → ((s : S) → Follows (f s) (f' s)) → (s : S) → Follows (items_body one next f s) (items_body one' next f' s)
+pub items_turn : {S A : Type 0} (one one' : S → Reader A) (next : S → A → S) → ((s : S) → Follows (one s) (one' s)) → (f f' : S → Reader (List A)) → ((s : S) → Follows (f s) (f' s)) → (s : S) → Follows (items_body one next f s) (items_body one' next f' s)
 items_turn one one' next h f f' k s = peeks ends_list (λ c ts. items_by one next f s c ts) (λ c ts. items_by one' next f' s c ts) (elim [
   | true ↦ gives []
   | false ↦ binds (one s) (one' s) (λ a ts. f (next s a) ts >>= λ y. Ok (a ∷ y.0, y.1)) (λ a ts. f' (next s a) ts >>= λ y. Ok (a ∷ y.0, y.1)) (h s)
       (λ a. makes (f (next s a)) (f' (next s a)) (λ ys. a ∷ ys) (k (next s a)))
 ])
 
-items_turns : {S A : Type 0} (one : S → Reader A) (next : S → A → S) → Turns (items_body one next) (λ k s ts. items one next k s ts)
+pub items_turns : {S A : Type 0} (one : S → Reader A) (next : S → A → S) → Turns (items_body one next) (λ k s ts. items one next k s ts)
 unfolding items
 items_turns one next = record { none = λ s ts. refl; one = λ k s ts. refl }
 

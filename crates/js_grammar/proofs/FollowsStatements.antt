@@ -70,7 +70,7 @@ abbrev return_items : Bool → List Item
 return_items true = an_end after_word ∷ []
 return_items false = ended ∷ []
 
-abbrev return_rest : Below → Bool → Reader Statement
+abbrev pub return_rest : Below → Bool → Reader Statement
 return_rest b true ts = made b (an_end after_word ∷ []) (λ v. trees.return trees.omitted) ts
 return_rest b false ts = made b (ended ∷ []) (λ v. trees.return (trees.present v.0)) ts
 
@@ -81,7 +81,7 @@ return_is_by b false ts = lead b (tok kinds.Return) (ended ∷ []) (λ v. trees.
 abbrev ends_next : List Token → Bool
 ends_next ts = ends_return (head_of ts)
 
-return_is : (b : Below) (ts : List Token) → return_by b (ends_return (head_of (tail_of ts))) ts ≡ (expect kinds.Return ts >>= λ x. return_rest b (ends_return (head_of x.1)) x.1)
+pub return_is : (b : Below) (ts : List Token) → return_by b (ends_return (head_of (tail_of ts))) ts ≡ (expect kinds.Return ts >>= λ x. return_rest b (ends_return (head_of x.1)) x.1)
 return_is b ts = return_is_by b (ends_return (head_of (tail_of ts))) ts ∙ behind_kind kinds.Return ends_next (return_rest b) ts
 
 return_follows : (b c : Below) → Pair b c → Follows (λ ts. return_by b (ends_return (head_of (tail_of ts))) ts) (λ ts. return_by c (ends_return (head_of (tail_of ts))) ts)
@@ -94,7 +94,7 @@ return_follows b c p =
     ])))
 
 -- behind throw
-abbrev throw_rest : Below → Bool → Reader Statement
+abbrev pub throw_rest : Below → Bool → Reader Statement
 throw_rest b true ts = made b (ended ∷ []) (λ v. trees.throw v.0) ts
 throw_rest b false ts = Err (stuck (length ts))
 
@@ -126,7 +126,7 @@ catch_follows b c p context true =
     (λ n. makes (λ ts. b.block context (n.1.0 ∷ []) ts) (λ ts. c.block context (n.1.0 ∷ []) ts) (λ ss. trees.catch (Some n.1.0) ss) (p.both.block context (n.1.0 ∷ [])))
 catch_follows b c p context false = makes (λ ts. b.block context [] ts) (λ ts. c.block context [] ts) (λ ss. trees.catch None ss) (p.both.block context [])
 
-handler_follows : (b c : Below) → Pair b c → (context : Context) → Follows (λ ts. handler_at b context ts) (λ ts. handler_at c context ts)
+pub handler_follows : (b c : Below) → Pair b c → (context : Context) → Follows (λ ts. handler_at b context ts) (λ ts. handler_at c context ts)
 unfolding handler_at
 handler_follows b c p context = peeks (λ o. is_kind kinds.Catch o) (λ v ts. handler_by b context v ts) (λ v ts. handler_by c context v ts) (elim [
   | true ↦ past (λ ts. catch_by b context (is_kind kinds.LeftParenthesis (head_of ts)) ts) (λ ts. catch_by c context (is_kind kinds.LeftParenthesis (head_of ts)) ts)
@@ -139,7 +139,7 @@ finalizer_by_follows b c p context h true = made_follows b c p (tok kinds.Finall
 finalizer_by_follows b c p context trees.no_catch false = sticks
 finalizer_by_follows b c p context (trees.catch n ss) false = gives trees.no_finally
 
-finalizer_follows : (b c : Below) → Pair b c → (context : Context) (h : Handler) → Follows (λ ts. finalizer_at b context h ts) (λ ts. finalizer_at c context h ts)
+pub finalizer_follows : (b c : Below) → Pair b c → (context : Context) (h : Handler) → Follows (λ ts. finalizer_at b context h ts) (λ ts. finalizer_at c context h ts)
 unfolding finalizer_at
 finalizer_follows b c p context h = peeks (λ o. is_kind kinds.Finally o) (λ v ts. finalizer_by b context h v ts) (λ v ts. finalizer_by c context h v ts) (finalizer_by_follows b c p context h)
 
@@ -169,17 +169,17 @@ declaration_follows b c p taken =
 
 -- ---- for
 
-abbrev plain_items : Context → List Item
+abbrev pub plain_items : Context → List Item
 plain_items context = optional kinds.Semicolon ∷ optional kinds.Semicolon ∷ optional kinds.RightParenthesis ∷ a_statement (loop_body context) ∷ []
 
-abbrev after_declared : Context → List Item
+abbrev pub after_declared : Context → List Item
 after_declared context = tok kinds.Semicolon ∷ optional kinds.Semicolon ∷ optional kinds.RightParenthesis ∷ a_statement (loop_body context) ∷ []
 
-abbrev after_of : Context → List Item
+abbrev pub after_of : Context → List Item
 after_of context = an_assignment ∷ tok kinds.RightParenthesis ∷ a_statement (loop_body context) ∷ []
 
 -- behind for and its parenthesis
-abbrev for_rest : Below → Context → ForHead → Reader Statement
+abbrev pub for_rest : Below → Context → ForHead → Reader Statement
 for_rest b context (each k) ts = made b (tok (let_kind k) ∷ a_name ∷ the_name (codes "of") ∷ after_of context) (λ v. trees.for_of k v.1.0 v.1.1.1.0 v.1.1.1.1.1.0) ts
 for_rest b context (declares k) ts = made b (tok (let_kind k) ∷ declared k [] ∷ after_declared context) (λ v. trees.for_lexical k v.1.0 v.1.1.1.0 v.1.1.1.1.0 v.1.1.1.1.1.0) ts
 for_rest b context plain_head ts = made b (plain_items context) (λ v. trees.for v.0 v.1.0 v.1.1.0 v.1.1.1.0) ts
@@ -202,10 +202,10 @@ for_is_by b context plain_head ts = leads_two b kinds.For kinds.LeftParenthesis 
 abbrev for_head_behind : List Token → ForHead
 for_head_behind ts = for_head (tail_of ts)
 
-abbrev for_form : Below → Context → Reader Statement
+abbrev pub for_form : Below → Context → Reader Statement
 for_form b context ts = expect kinds.For ts >>= λ x. expect kinds.LeftParenthesis x.1 >>= λ y. for_rest b context (for_head y.1) y.1
 
-for_is : (b : Below) (context : Context) (ts : List Token) → for_at b context ts ≡ for_form b context ts
+pub for_is : (b : Below) (context : Context) (ts : List Token) → for_at b context ts ≡ for_form b context ts
 unfolding for_at
 for_is b context ts =
     for_is_by b context (for_head (tail_of (tail_of ts))) ts
@@ -214,10 +214,10 @@ for_is b context ts =
     (λ u r. behind_kind kinds.LeftParenthesis for_head (for_rest b context) r)
 
 -- behind let or const: a name and of, or declarations
-abbrev named_of : List Token → Bool
+abbrev pub named_of : List Token → Bool
 named_of ts = is_kind kinds.Name (head_of ts) && is_name (codes "of") (head_of (tail_of ts))
 
-abbrev for_third : Below → Context → Bool → Bool → Reader Statement
+abbrev pub for_third : Below → Context → Bool → Bool → Reader Statement
 for_third b context k true ts = made b (a_name ∷ the_name (codes "of") ∷ after_of context) (λ v. trees.for_of k v.0 v.1.1.0 v.1.1.1.1.0) ts
 for_third b context k false ts = made b (declared k [] ∷ after_declared context) (λ v. trees.for_lexical k v.0 v.1.1.0 v.1.1.1.0 v.1.1.1.1.0) ts
 
@@ -225,17 +225,17 @@ let_is_by : (b : Below) (context : Context) (k w : Bool) (ts : List Token) → f
 let_is_by b context k true ts = lead b (tok (let_kind k)) (a_name ∷ the_name (codes "of") ∷ after_of context) (λ v. trees.for_of k v.1.0 v.1.1.1.0 v.1.1.1.1.1.0) ts
 let_is_by b context k false ts = lead b (tok (let_kind k)) (declared k [] ∷ after_declared context) (λ v. trees.for_lexical k v.1.0 v.1.1.1.0 v.1.1.1.1.0 v.1.1.1.1.1.0) ts
 
-let_is : (b : Below) (context : Context) (k : Bool) (ts : List Token) → for_rest b context (for_head_by (classes.a_lexical k) (tail_of ts)) ts ≡ (expect (let_kind k) ts >>= λ x. for_third b context k (named_of x.1) x.1)
+pub let_is : (b : Below) (context : Context) (k : Bool) (ts : List Token) → for_rest b context (for_head_by (classes.a_lexical k) (tail_of ts)) ts ≡ (expect (let_kind k) ts >>= λ x. for_third b context k (named_of x.1) x.1)
 let_is b context k ts = let_is_by b context k (named_of (tail_of ts)) ts ∙ behind_kind (let_kind k) named_of (for_third b context k) ts
 
 -- behind the first name
-abbrev more_declarators : Below → Bool → Declarator → Reader Declarators
+abbrev pub more_declarators : Below → Bool → Declarator → Reader Declarators
 more_declarators b k d ts = others (λ names r. declarator_at b k names r) with_declarator (suc (length ts)) (with_declarator [] d) ts >>= λ ds. Ok (trees.a_declarator d (declarators ds.0), ds.1)
 
-abbrev all_declarators : Below → Bool → Identifier → Reader Declarators
+abbrev pub all_declarators : Below → Bool → Identifier → Reader Declarators
 all_declarators b k n ts = initializer_by b k n (is_kind kinds.Assign (head_of ts)) ts >>= λ d. more_declarators b k d.0 d.1
 
-abbrev for_fourth : Below → Context → Bool → Identifier → Bool → Reader Statement
+abbrev pub for_fourth : Below → Context → Bool → Identifier → Bool → Reader Statement
 for_fourth b context k n true ts = made b (the_name (codes "of") ∷ after_of context) (λ v. trees.for_of k n v.1.0 v.1.1.1.0) ts
 for_fourth b context k n false ts = all_declarators b k n ts >>= λ ds. made b (after_declared context) (λ v. trees.for_lexical k ds.0 v.1.0 v.1.1.0 v.1.1.1.0) ds.1
 
@@ -249,7 +249,7 @@ unfolding declarators_at declarator_at fresh_name
 third_is b context k true ts = lead b a_name (the_name (codes "of") ∷ after_of context) (λ v. trees.for_of k v.0 v.1.1.0 v.1.1.1.1.0) ts
 third_is b context k false ts = lead b (declared k []) (after_declared context) (λ v. trees.for_lexical k v.0 v.1.1.0 v.1.1.1.0 v.1.1.1.1.0) ts ∙ declared_by b context k (name_at ts)
 
-abbrev of_next : List Token → Bool
+abbrev pub of_next : List Token → Bool
 of_next ts = is_name (codes "of") (head_of ts)
 
 abbrev a_name_if : Bool → Reader Identifier
@@ -263,23 +263,26 @@ behind_name : {A : Type 0} (look : List Token → Bool) (f : Identifier → Bool
 unfolding name_at
 behind_name look f ts = behind_name_by look f ts (is_kind kinds.Name (head_of ts))
 
-abbrev third_form : Below → Context → Bool → Reader Statement
+abbrev pub third_form : Below → Context → Bool → Reader Statement
 third_form b context k ts = name_at ts >>= λ n. for_fourth b context k n.0 (of_next n.1) n.1
 
-named_is : (b : Below) (context : Context) (k : Bool) (ts : List Token) → for_third b context k (named_of ts) ts ≡ third_form b context k ts
+pub named_is : (b : Below) (context : Context) (k : Bool) (ts : List Token) → for_third b context k (named_of ts) ts ≡ third_form b context k ts
 named_is b context k ts = third_is b context k (named_of ts) ts ∙ behind_name of_next (for_fourth b context k) ts
 
-more_follows : (b c : Below) → Pair b c → (k : Bool) (d : Declarator) → Follows (λ ts. more_declarators b k d ts) (λ ts. more_declarators c k d ts)
+pub more_follows : (b c : Below) → Pair b c → (k : Bool) (d : Declarator) → Follows (λ ts. more_declarators b k d ts) (λ ts. more_declarators c k d ts)
 more_follows b c p k d =
     makes (λ ts. others (λ names r. declarator_at b k names r) with_declarator (suc (length ts)) (with_declarator [] d) ts) (λ ts. others (λ names r. declarator_at c k names r) with_declarator (suc (length ts)) (with_declarator [] d) ts) (λ ds. trees.a_declarator d (declarators ds))
     (others_follows (λ names r. declarator_at b k names r) (λ names r. declarator_at c k names r) with_declarator (λ names. declarator_follows b c p k names)
     (λ names. shortens (λ r. declarator_at c k names r) (λ r. declarator_at c k names r) (declarator_follows c c (on_right b c p) k names)) (with_declarator [] d))
 
+pub all_follows : (b c : Below) → Pair b c → (k : Bool) (n : Identifier) → Follows (λ ts. all_declarators b k n ts) (λ ts. all_declarators c k n ts)
+all_follows b c p k n = binds (λ ts. initializer_by b k n (is_kind kinds.Assign (head_of ts)) ts) (λ ts. initializer_by c k n (is_kind kinds.Assign (head_of ts)) ts) (λ d ts. more_declarators b k d ts) (λ d ts. more_declarators c k d ts) (initializer_follows b c p k n) (more_follows b c p k)
+
 fourth_follows : (b c : Below) → Pair b c → (context : Context) (k : Bool) (n : Identifier) (w : Bool) → Follows (λ ts. for_fourth b context k n w ts) (λ ts. for_fourth c context k n w ts)
 fourth_follows b c p context k n true = made_follows b c p (the_name (codes "of") ∷ after_of context) (λ v. trees.for_of k n v.1.0 v.1.1.1.0)
 fourth_follows b c p context k n false =
     binds (λ ts. all_declarators b k n ts) (λ ts. all_declarators c k n ts) (λ ds ts. made b (after_declared context) (λ v. trees.for_lexical k ds v.1.0 v.1.1.0 v.1.1.1.0) ts) (λ ds ts. made c (after_declared context) (λ v. trees.for_lexical k ds v.1.0 v.1.1.0 v.1.1.1.0) ts)
-    (binds (λ ts. initializer_by b k n (is_kind kinds.Assign (head_of ts)) ts) (λ ts. initializer_by c k n (is_kind kinds.Assign (head_of ts)) ts) (λ d ts. more_declarators b k d ts) (λ d ts. more_declarators c k d ts) (initializer_follows b c p k n) (more_follows b c p k))
+    (all_follows b c p k n)
     (λ ds. made_follows b c p (after_declared context) (λ v. trees.for_lexical k ds v.1.0 v.1.1.0 v.1.1.1.0))
 
 third_follows : (b c : Below) → Pair b c → (context : Context) (k : Bool) → Follows (λ ts. for_third b context k (named_of ts) ts) (λ ts. for_third c context k (named_of ts) ts)
@@ -287,7 +290,7 @@ third_follows b c p context k = alike (third_form b context k) (λ ts. for_third
     (binds (λ ts. name_at ts) (λ ts. name_at ts) (λ n ts. for_fourth b context k n (of_next ts) ts) (λ n ts. for_fourth c context k n (of_next ts) ts) name_follows
     (λ n. peeks (λ o. is_name (codes "of") o) (λ w ts. for_fourth b context k n w ts) (λ w ts. for_fourth c context k n w ts) (fourth_follows b c p context k n)))
 
-abbrev let_form : Below → Context → Bool → Reader Statement
+abbrev pub let_form : Below → Context → Bool → Reader Statement
 let_form b context k ts = expect (let_kind k) ts >>= λ x. for_third b context k (named_of x.1) x.1
 
 let_follows : (b c : Below) → Pair b c → (context : Context) (k : Bool) → Follows (λ ts. for_rest b context (for_head_by (classes.a_lexical k) (tail_of ts)) ts) (λ ts. for_rest c context (for_head_by (classes.a_lexical k) (tail_of ts)) ts)
@@ -306,7 +309,7 @@ for_follows b c p context = alike (for_form b context) (λ ts. for_at b context 
 
 -- ---- any statement
 
-abbrev statement_form : Below → Context → First → Reader Statement
+abbrev pub statement_form : Below → Context → First → Reader Statement
 statement_form b context classes.a_throw ts = throw_rest b (is_on_line (head_of (tail_of ts))) (tail_of ts)
 statement_form b context v ts = statement_by b context v ts
 
@@ -314,7 +317,7 @@ statement_is_by : (b : Below) (context : Context) (ts : List Token) (v : First) 
 statement_is_by b context ts classes.a_throw e = throw_is b ts e (is_on_line (head_of (tail_of ts)))
 statement_is_by b context ts _ e = refl
 
-statement_is : (b : Below) (context : Context) (ts : List Token) → statement b context ts ≡ statement_form b context (first (head_of ts)) ts
+pub statement_is : (b : Below) (context : Context) (ts : List Token) → statement b context ts ≡ statement_form b context (first (head_of ts)) ts
 unfolding statement
 statement_is b context ts = statement_is_by b context ts (first (head_of ts)) refl
 

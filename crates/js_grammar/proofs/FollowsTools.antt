@@ -4,15 +4,14 @@ use Rattle.std.specs.Prelude.{nat_le}
 use Rattle.std.proofs.lemmas.List.{length-append}
 use Rattle.std.proofs.lemmas.Bool.{leb-true, le-leb}
 use Rattle.js_tree.specs.Tokens.{Token, head_of, tail_of}
-use Rattle.js_syntax.specs.Reading.{stuck, deep, spent, Read, Reader, ◌>>=◌}
+use Rattle.js_syntax.specs.Reading.{stuck, deep, Read, Reader, ◌>>=◌}
 use Rattle.js_grammar.proofs.TokenLaws.{got, faulty}
 
 -- the answer, with other tokens left
 abbrev pub moved : {A : Type 0} → Read A → List Token → Read A
 moved (Ok x) r = Ok (x.0, r)
 moved (Err (stuck k)) r = Err (stuck (length r))
-moved (Err deep) r = Err deep
-moved (Err spent) r = Err spent
+moved (Err (deep k)) r = Err (deep k)
 
 -- Reading f gives this answer with what was left, whatever else is left, if it begins alike.
 pub record Seen {A : Type 0} (f : Reader A) (ts : List Token) (x : Read A) : Type 0 where
@@ -26,8 +25,7 @@ pub record Seen {A : Type 0} (f : Reader A) (ts : List Token) (x : Read A) : Typ
 abbrev pub Clear : {A : Type 0} → Read A → Type 0
 Clear (Ok x) = Unit {0}
 Clear (Err (stuck k)) = Unit {0}
-Clear (Err deep) = ⊥
-Clear (Err spent) = ⊥
+Clear (Err (deep k)) = ⊥
 
 abbrev pub FollowsAt : {A : Type 0} → Read A → Reader A → List Token → Type 0
 FollowsAt x g ts = Clear x → Seen g ts x
@@ -68,11 +66,8 @@ gives a = record { at = λ ts c. record { pre = []; left = ts; parts = refl; sam
 pub sticks : {A : Type 0} → Follows {A = A} (λ ts. Err (stuck (length ts))) (λ ts. Err (stuck (length ts)))
 sticks = record { at = λ ts c. record { pre = []; left = ts; parts = refl; same = refl; again = λ r h. refl } }
 
-pub deepens : {A : Type 0} (g : Reader A) → Follows (λ ts. Err deep) g
+pub deepens : {A : Type 0} (g : Reader A) → Follows (λ ts. Err (deep (length ts))) g
 deepens g = record { at = λ ts c. absurd c }
-
-pub spends : {A : Type 0} (g : Reader A) → Follows (λ ts. Err spent) g
-spends g = record { at = λ ts c. absurd c }
 
 -- behind the next token
 pub past : {A : Type 0} (f g : Reader A) → Follows f g → Follows (λ ts. f (tail_of ts)) (λ ts. g (tail_of ts))
@@ -135,8 +130,7 @@ binds {A = A} {B = B} f f' g g' h k = record { at = λ ts. by_answer ts (f ts) (
     by_answer : (ts : List Token) (x : Read A) → FollowsAt x f' ts → FollowsAt (x >>= λ x. g x.0 x.1) (λ ts. f' ts >>= λ x. g' x.0 x.1) ts
     by_answer ts (Ok x) s = λ c. then_ok ts x.0 x.1 (g x.0 x.1) (s tt) ((k x.0).at x.1 c)
     by_answer ts (Err (stuck n)) s = λ c. then_stuck ts n (s tt)
-    by_answer ts (Err deep) s = λ c. absurd c
-    by_answer ts (Err spent) s = λ c. absurd c
+    by_answer ts (Err (deep k)) s = λ c. absurd c
 
 -- a value made of what is read
 pub makes : {A B : Type 0} (f f' : Reader A) (make : A → B) → Follows f f' → Follows (λ ts. f ts >>= λ x. Ok (make x.0, x.1)) (λ ts. f' ts >>= λ x. Ok (make x.0, x.1))
@@ -148,10 +142,10 @@ tests true f f' g g' h k = h
 tests false f f' g g' h k = k
 
 -- a test of the depth, which may be looser on the right
-pub low_enough : {A : Type 0} (h n m : ℕ) (f g : Reader A) → n ≤ m → Follows f g → Follows (λ ts. cond (nat_le h n) (f ts) (Err deep)) (λ ts. cond (nat_le h m) (g ts) (Err deep))
+pub low_enough : {A : Type 0} (h n m : ℕ) (f g : Reader A) → n ≤ m → Follows f g → Follows (λ ts. cond (nat_le h n) (f ts) (Err (deep (length (tail_of ts))))) (λ ts. cond (nat_le h m) (g ts) (Err (deep (length (tail_of ts)))))
 low_enough h n m f g le k = record { at = λ ts. by_test ts (nat_le h n) refl }
   where
-    by_test : (ts : List Token) (b : Bool) → nat_le h n ≡ b → FollowsAt (cond b (f ts) (Err deep)) (λ ts. cond (nat_le h m) (g ts) (Err deep)) ts
+    by_test : (ts : List Token) (b : Bool) → nat_le h n ≡ b → FollowsAt (cond b (f ts) (Err (deep (length (tail_of ts))))) (λ ts. cond (nat_le h m) (g ts) (Err (deep (length (tail_of ts))))) ts
     by_test ts true e = λ c.
         let s = k.at ts c in
         let low : h ≤ n = leb-true h n e in
@@ -207,7 +201,7 @@ Local {S} {B} body = (go go' : S → Reader B) (s : S) (ts : List Token) → ((u
 
 -- turns of this body, so many at most
 pub record Turns {S B : Type 0} (body : (S → Reader B) → S → Reader B) (go : ℕ → S → Reader B) : Type 0 where
-  pub none : (s : S) (ts : List Token) → go zero s ts ≡ Err spent
+  pub none : (s : S) (ts : List Token) → go zero s ts ≡ Err (deep (length ts))
   pub one : (k : ℕ) (s : S) (ts : List Token) → go (suc k) s ts ≡ body (λ u r. go k u r) s ts
 
 -- with as many turns as there are tokens
@@ -220,7 +214,7 @@ enough body go t l (suc k) zero s ts p q = absurd (omega arith)
 enough body go t l (suc k) (suc j) s ts p q =
     t.one k s ts ∙ l (λ u r. go k u r) (λ u r. go j u r) s ts (λ u r e. enough body go t l k j u r (omega arith) (omega arith)) ∙ sym (t.one j s ts)
 
-one_turn : {S B : Type 0} (body : (S → Reader B) → S → Reader B) (go : ℕ → S → Reader B) → Turns body go → Local body → (s : S) (ts : List Token) → enough_of go s ts ≡ body (enough_of go) s ts
+pub one_turn : {S B : Type 0} (body : (S → Reader B) → S → Reader B) (go : ℕ → S → Reader B) → Turns body go → Local body → (s : S) (ts : List Token) → enough_of go s ts ≡ body (enough_of go) s ts
 one_turn body go t l s ts =
     t.one (length ts) s ts ∙ l (λ u r. go (length ts) u r) (enough_of go) s ts (λ u r e. enough body go t l (length ts) (suc (length r)) u r (omega arith) (omega arith))
 
@@ -228,7 +222,7 @@ one_turn body go t l s ts =
 pub loop_from : {S B : Type 0} (body body' : (S → Reader B) → S → Reader B) (go go' : ℕ → S → Reader B) → Turns body go → Turns body' go' → Local body'
     → ((f f' : S → Reader B) → ((s : S) → Follows (f s) (f' s)) → (s : S) → Follows (body f s) (body' f' s))
     → (k : ℕ) (s : S) → Follows (go k s) (enough_of go' s)
-loop_from body body' go go' t t' l c zero s = from (λ ts. Err spent) (go zero s) (enough_of go' s) (t.none s) (spends (enough_of go' s))
+loop_from body body' go go' t t' l c zero s = from (λ ts. Err (deep (length ts))) (go zero s) (enough_of go' s) (t.none s) (deepens (enough_of go' s))
 loop_from body body' go go' t t' l c (suc k) s =
     alike (body (λ u r. go k u r) s) (go (suc k) s) (body' (enough_of go') s) (enough_of go' s) (t.one k s) (one_turn body' go' t' l s)
     (c (λ u r. go k u r) (enough_of go') (λ u. loop_from body body' go go' t t' l c k u) s)

@@ -7,7 +7,7 @@ use Rattle.js_tree.specs.Tokens.{Token, head_of}
 use Rattle.js_tree.specs.Well.{top}
 use Rattle.js_tree.specs.Height.{height, height_of_statements}
 use Rattle.js_tree.specs.Language.{IsScript, IsExpression, IsFunction}
-use Rattle.js_syntax.specs.Reading.{Fault, stuck, deep, spent, Read, Reader}
+use Rattle.js_syntax.specs.Reading.{Fault, stuck, deep, Read, Reader}
 use Rattle.js_syntax.specs.Classes.{start}
 use Rattle.js_syntax.specs.Productions.{items_at}
 use Rattle.js_syntax.specs.Parsing.{below, ended_by, whole, parse_script, parse_expression, parse_function, function_code_by}
@@ -17,7 +17,7 @@ use Rattle.js_grammar.proofs.Completeness.{expression_again_whole, function_agai
 use Rattle.js_grammar.proofs.Locality.{follows_below, pair_below, items_follows_below, function_code_follows}
 
 -- a list has one split with so many at its end
-same_front : (a b c e : List Token) → a ++ b ≡ c ++ e → length b ≡ length e → a ≡ c
+pub same_front : (a b c e : List Token) → a ++ b ≡ c ++ e → length b ≡ length e → a ≡ c
 same_front [] b [] e p h = refl
 same_front [] b (x ∷ c) e p h = absurd (omega (arith, ap (λ (l : List Token). length l) p, length-append c e))
 same_front (y ∷ a) b [] e p h = absurd (omega (arith, ap (λ (l : List Token). length l) p, length-append a b))
@@ -41,22 +41,19 @@ left_count : {A : Type 0} (g : Reader A) (ts : List Token) (x : Read A) (k : ℕ
 left_count {A} g ts (Ok (a, [])) k e s = absurd cc
 left_count {A} g ts (Ok (a, y ∷ ys)) k e s = ap (λ (l : List Token). length l) (same_left a s.left (y ∷ ys) s.same) ∙ stuck_is {A = A} (suc (length ys)) k e
 left_count {A} g ts (Err (stuck j)) k e s = same_count {A = A} (length s.left) j s.same ∙ stuck_is {A = A} j k e
-left_count {A} g ts (Err deep) k e s = absurd cc
-left_count {A} g ts (Err spent) k e s = absurd cc
+left_count {A} g ts (Err (deep j)) k e s = absurd cc
 
 -- and it doesn't go on before any tokens that begin alike
 whole_moved : {A : Type 0} (g : Reader A) (ts : List Token) (x : Read A) (k : ℕ) → whole x ≡ Err (stuck k) → (s : Seen g ts x) → (r : List Token) → head_of r ≡ head_of s.left → whole (moved x r) ≡ Err (stuck (length r))
 whole_moved {A} g ts (Ok (a, [])) k e s r h = absurd cc
 whole_moved {A} g ts (Ok (a, y ∷ ys)) k e s r h = goes_past a r y (h ∙ ap (λ (l : List Token). head_of l) (same_left a s.left (y ∷ ys) s.same))
 whole_moved {A} g ts (Err (stuck j)) k e s r h = refl
-whole_moved {A} g ts (Err deep) k e s r h = absurd cc
-whole_moved {A} g ts (Err spent) k e s r h = absurd cc
+whole_moved {A} g ts (Err (deep j)) k e s r h = absurd cc
 
 clear_whole : {A : Type 0} (x : Read A) (k : ℕ) (g : Reader A) (ts : List Token) → whole x ≡ Err (stuck k) → FollowsAt x g ts → Seen g ts x
 clear_whole (Ok x) k g ts e s = s tt
 clear_whole (Err (stuck j)) k g ts e s = s tt
-clear_whole (Err deep) k g ts e s = absurd cc
-clear_whole (Err spent) k g ts e s = absurd cc
+clear_whole (Err (deep j)) k g ts e s = absurd cc
 
 -- the fault is the same, wherever what is left begins alike
 pub stays : {A : Type 0} (f g : Reader A) → Follows f g → (ts : List Token) (k : ℕ) (before left : List Token) → whole (f ts) ≡ Err (stuck k) → ts ≡ before ++ left → length left ≡ k
@@ -100,7 +97,7 @@ script_leaves n earlier ts k before left e p c =
 
 -- what parse_function reads by
 abbrev pub function_reader : ℕ → Reader Expression
-function_reader zero ts = Err deep
+function_reader zero ts = Err (deep (length ts))
 function_reader (suc n) ts = function_code_by (below n) (start (head_of ts)) ts
 
 pub function_reader_follows : (n m : ℕ) → n ≤ m → Follows (function_reader n) (function_reader m)

@@ -1,5 +1,5 @@
 -- Answers depend on the tokens read, and stay the same where trees may be higher: of all that reads, by induction on the height that is allowed.
-use Rattle.std.proofs.Common.{ℕ, zero, suc, ◌≤◌, List, [], ◌∷◌, Err, refl, inl, arith}
+use Rattle.std.proofs.Common.{ℕ, zero, suc, ◌≤◌, List, [], ◌∷◌, length, Err, refl, inl, arith}
 use Rattle.js_tree.specs.Trees as trees
 use Rattle.js_tree.specs.Trees.{Identifier, Expression, Statement}
 use Rattle.js_tree.specs.Tokens.{head_of}
@@ -7,8 +7,8 @@ use Rattle.js_tree.specs.Well.{Context}
 use Rattle.js_syntax.specs.Reading.{deep, name_at}
 use Rattle.js_syntax.specs.Classes as classes
 use Rattle.js_syntax.specs.Classes.{Start, start}
-use Rattle.js_syntax.specs.Productions.{Below, parameters_at, items_at}
-use Rattle.js_syntax.specs.Parsing.{arrow_rest, arrow_of_one, function_at, below, function_code_by}
+use Rattle.js_syntax.specs.Productions.{Below, parameters_at, items_at, braces, code_at}
+use Rattle.js_syntax.specs.Parsing.{call, unary, operation, arrow_rest, arrow_of_one, assignment, expression, function_at, statement, item, below, function_code_by}
 use Rattle.js_grammar.proofs.Soundness.{sound_below}
 use Rattle.js_grammar.proofs.FrontAgain.{statement_starts}
 use Rattle.js_grammar.proofs.FollowsTools.{Follows, sticks, deepens, past, peeks, binds, Takes}
@@ -18,7 +18,7 @@ use Rattle.js_grammar.proofs.FollowsAssignments.{Spans, assignment_follows, expr
 use Rattle.js_grammar.proofs.FollowsStatements.{statement_follows, list_item_follows}
 
 -- a statement takes a token at least
-item_takes : (n : ℕ) (context : Context) (taken : List Identifier) → Takes (λ ts. (below n).item context taken ts)
+pub item_takes : (n : ℕ) (context : Context) (taken : List Identifier) → Takes (λ ts. (below n).item context taken ts)
 item_takes n context taken ts x e =
     let t = (sound_below n).item context taken ts x e in
     let p = statement_starts context x.0 t.well ts x.1 t.marks in
@@ -33,23 +33,43 @@ record Own (b : Below) : Type 0 where
 pair_of : (n m : ℕ) → FollowsBelow (below n) (below m) → Own (below m) → Pair (below n) (below m)
 pair_of n m h o = record { both = h; right = o.follows; takes = item_takes m }
 
--- one step up on both sides
-one_more : (n m : ℕ) → n ≤ m → Pair (below n) (below m) → Pair (below n) (below n) → Spans (below n) → FollowsBelow (below (suc n)) (below (suc m))
-unfolding below
-one_more n m le p own s = record {
-  assignment = assignment_follows (below n) (below m) n m le p own s;
-  expression = expression_follows (below n) (below m) n m le p own s;
-  operation = λ low. operation_follows (below n) (below m) n m le p low;
-  unary = unary_follows (below n) (below m) n m le p;
-  call = call_follows (below n) (below m) n m le p;
-  statement = λ context. statement_follows (below n) (below m) p context;
-  item = λ context taken. list_item_follows (below n) (below m) p context taken;
-  block = λ context taken. braces_follows (below n) (below m) p context taken;
-  function = code_follows (below n) (below m) p;
+-- what reads trees one higher than what b reads
+abbrev pub step : Below → ℕ → Below
+step b n = record {
+  assignment = λ ts. assignment b n ts;
+  expression = λ ts. expression b n ts;
+  operation = λ low ts. operation b n low ts;
+  unary = λ ts. unary b n ts;
+  call = λ ts. call b n ts;
+  statement = λ context ts. statement b context ts;
+  item = λ context taken ts. item b context taken ts;
+  block = λ context taken ts. braces b context taken ts;
+  function = λ ts. code_at b ts;
 }
 
+-- one step up on both sides
+pub step_follows : (b c : Below) (n m : ℕ) → n ≤ m → Pair b c → Pair b b → Spans b → FollowsBelow (step b n) (step c m)
+step_follows b c n m le p own s = record {
+  assignment = assignment_follows b c n m le p own s;
+  expression = expression_follows b c n m le p own s;
+  operation = λ low. operation_follows b c n m le p low;
+  unary = unary_follows b c n m le p;
+  call = call_follows b c n m le p;
+  statement = λ context. statement_follows b c p context;
+  item = λ context taken. list_item_follows b c p context taken;
+  block = λ context taken. braces_follows b c p context taken;
+  function = code_follows b c p;
+}
+
+one_more : (n m : ℕ) → n ≤ m → Pair (below n) (below m) → Pair (below n) (below n) → Spans (below n) → FollowsBelow (below (suc n)) (below (suc m))
+unfolding below
+one_more n m le p own s = step_follows (below n) (below m) n m le p own s
+
+pub step_spans : (b : Below) (n : ℕ) → Pair b b → Spans b → Spans (step b n)
+step_spans b n p s = record { names = assignment_names b n p s; closes = expression_closes b n p s }
+
 -- nothing is told of what is too deep
-from_none : (c : Below) → FollowsBelow (below zero) c
+pub from_none : (c : Below) → FollowsBelow (below zero) c
 unfolding below
 from_none c = record {
   assignment = deepens c.assignment;
@@ -68,7 +88,7 @@ unfolding below
 own_zero = record {
   follows = from_none (below zero);
   spans = record {
-    names = record { follows = deepens (λ ts. Err deep); alone = λ t ts e h. inl refl; past = λ t ts e. tt };
+    names = record { follows = deepens (λ ts. Err (deep (length ts))); alone = λ t ts e h. inl (suc (length ts), refl); past = λ t ts e. tt };
     closes = λ ts e. tt;
   };
 }
@@ -79,7 +99,7 @@ own_suc n o =
     let p : Pair (below n) (below n) = pair_of n n o.follows o in
     record {
       follows = one_more n n (omega arith) p p o.spans;
-      spans = record { names = assignment_names (below n) n p o.spans; closes = expression_closes (below n) n p o.spans };
+      spans = step_spans (below n) n p o.spans;
     }
 
 own : (n : ℕ) → Own (below n)
@@ -114,3 +134,7 @@ code_by_follows b c p _ = sticks
 
 pub function_code_follows : (b c : Below) → Pair b c → Follows (λ ts. function_code_by b (start (head_of ts)) ts) (λ ts. function_code_by c (start (head_of ts)) ts)
 function_code_follows b c p = peeks start (λ v ts. function_code_by b v ts) (λ v ts. function_code_by c v ts) (code_by_follows b c p)
+
+-- how names in parentheses are gone over
+pub spans_below : (n : ℕ) → Spans (below n)
+spans_below n = (own n).spans

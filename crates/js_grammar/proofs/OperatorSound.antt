@@ -30,8 +30,8 @@ made_takes {A} q n b s is make ts y P h e =
     subst (λ (y : A × List Token). P y.0 y.1) (ok_is (make p.0.0, p.0.1) y p.2) (h p.0.0 p.0.1 (q n b s is ts p.0 p.1))
 
 -- a tree that is low enough
-pub low_ok : {A : Type 0} (h n : ℕ) (read : Read A) (y : A × List Token) → if_low h n read ≡ Ok y → (h ≤ n) × (read ≡ Ok y)
-low_ok h n read y e = let t = test_ok (nat_le h n) read deep y e in (leb-true h n t.0, t.1)
+pub low_ok : {A : Type 0} (h n : ℕ) (ts : List Token) (read : Read A) (y : A × List Token) → if_low h n ts read ≡ Ok y → (h ≤ n) × (read ≡ Ok y)
+low_ok h n ts read y e = let t = test_ok (nat_le h n) read (deep (length (tail_of ts))) y e in (leb-true h n t.0, t.1)
 
 -- an expression of a lower level may stand there too
 pub weaker : (m k n : ℕ) (ts : List Token) (e : Expression) (r : List Token) → k ≤ m → TakesExpression m n ts e r → TakesExpression k n ts e r
@@ -65,8 +65,8 @@ postfix_takes n s e o ts t f target low =
 updated_by_sound : (n : ℕ) (s : List Token) (e : Expression) (o : Option UpdateOperator) (ts : List Token) (x : Expression × List Token) → update_near (head_of ts) ≡ o → TakesExpression 15 (suc n) s e ts → updated_by n e o ts ≡ Ok x → TakesExpression 14 (suc n) s x.0 x.1
 updated_by_sound n s e None ts x f t is = takes_ok 14 (suc n) s e ts x is (weaker 15 14 (suc n) s e ts (omega arith) t)
 updated_by_sound n s e (Some o) ts x f t is =
-    let a = test_ok (is_target e) (if_low (height e) n (Ok (trees.postfix o e, tail_of ts))) (stuck (length ts)) x is in
-    let l = low_ok (height e) n (Ok (trees.postfix o e, tail_of ts)) x a.1 in
+    let a = test_ok (is_target e) (if_low (height e) n ts (Ok (trees.postfix o e, tail_of ts))) (stuck (length ts)) x is in
+    let l = low_ok (height e) n ts (Ok (trees.postfix o e, tail_of ts)) x a.1 in
     takes_ok 14 (suc n) s (trees.postfix o e) (tail_of ts) x l.1 (postfix_takes n s e o ts t f a.0 l.0)
 
 -- the law of calls, which stands elsewhere
@@ -149,7 +149,7 @@ chain_by_sound : (n : ℕ) (b : Below) → SoundBelow n b → (s : List Token) (
 chain_by_sound n b snd s m go h l None ts x f t g e =
     subst (λ (x : Expression × List Token). TakesOperation m (suc n) s x) (ok_is (l, ts) x e) (t, f)
 chain_by_sound n b snd s m go h l (Some o) ts x f t g e =
-    let p = low_ok (height l) n (b.operation (suc (strength o)) (tail_of ts) >>= λ x. go (trees.binary o l x.0) x.1) x e in
+    let p = low_ok (height l) n ts (b.operation (suc (strength o)) (tail_of ts) >>= λ x. go (trees.binary o l x.0) x.1) x e in
     let q = bind_ok (b.operation (suc (strength o)) (tail_of ts)) (λ x. go (trees.binary o l x.0) x.1) x p.1 in
     let w = binary_takes n b snd s m l o ts f t g p.0 q.0 q.1 in
     h (trees.binary o l q.0.0) q.0.1 x w.0 w.1 q.2

@@ -101,7 +101,7 @@ member_by_sound q n b snd s k classes.colon ts x t e =
       height = omega (arith, t.height, a.height);
     }) e
 member_by_sound q n b snd s k classes.parameters ts x t e =
-    let l = low_ok (suc (height_of_key k)) n (b.function ts >>= λ f. Ok (trees.method k f.0.parameters f.0.body, f.1)) x e in
+    let l = low_ok (suc (height_of_key k)) n ts (b.function ts >>= λ f. Ok (trees.method k f.0.parameters f.0.body, f.1)) x e in
     let p = bind_ok (b.function ts) (λ f. Ok (trees.method k f.0.parameters f.0.body, f.1)) x l.1 in
     let f = snd.function ts p.0 p.1 in
     subst (λ (x : Property × List Token). TakesProperty n s x.0 x.1) (ok_is (trees.method k p.0.0.parameters p.0.0.body, p.0.1) x p.2) (method_takes n s k ts p.0.0 p.0.1 t l.0 f.0 f.1)
@@ -251,9 +251,9 @@ GoesOn n s go = (f : Expression) (ts : List Token) (x : Expression × List Token
 
 -- one link and those behind it
 one_link : (q : SeqSound) (n : ℕ) (b : Below) → SoundBelow n b → (s : List Token) (go : Expression → Reader Expression) → GoesOn n s go → (f : Expression) (l : Link) (ts : List Token) (x : Expression × List Token) → link (head_of ts) ≡ l → TakesExpression 15 (suc n) s f ts
-    → if_low (height f) n (linked_by b f l ts >>= λ x. go x.0 x.1) ≡ Ok x → TakesExpression 15 (suc n) s x.0 x.1
+    → if_low (height f) n ts (linked_by b f l ts >>= λ x. go x.0 x.1) ≡ Ok x → TakesExpression 15 (suc n) s x.0 x.1
 one_link q n b snd s go h f l ts x g t e =
-    let p = low_ok (height f) n (linked_by b f l ts >>= λ x. go x.0 x.1) x e in
+    let p = low_ok (height f) n ts (linked_by b f l ts >>= λ x. go x.0 x.1) x e in
     let a = bind_ok (linked_by b f l ts) (λ x. go x.0 x.1) x p.1 in
     h a.0.0 a.0.1 x (linked_by_sound q n b snd s f l ts a.0 g t p.0 a.1) a.2
 

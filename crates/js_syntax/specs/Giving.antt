@@ -7,7 +7,7 @@ use Rattle.js_syntax.specs.Reading.{Fault, stuck, deep}
 -- the error of the code says this of what reading gives; out of memory it says nothing
 abbrev pub Fails : {Y : Type 0} → ParseError → Result Y Fault → Type 0
 Fails errors.Memory read = Unit {0}
-Fails errors.TooDeep read = read ≡ Err deep
+Fails (errors.TooDeep left) read = read ≡ Err (deep left)
 Fails (errors.Syntax left) read = read ≡ Err (stuck left)
 
 -- what a function returned, seen by look, is what reading gives, unless memory ran out

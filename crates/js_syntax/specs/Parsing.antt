@@ -18,9 +18,9 @@ use Rattle.js_syntax.specs.Classes as classes
 use Rattle.js_syntax.specs.Classes.{Start, start, Link, dot, key, no_link, link, update_near, Prefix, deletes, a_unary, an_update, no_prefix, prefix, operator, Joint, question, assigns_by, no_joint, joint, Head, one_parameter, listed, no_arrow, arrow_head, KeyStart, key_start, AfterKey, after_key, is_shorthand, First, first, ends_return, ForHead, each, declares, plain_head, for_head}
 use Rattle.js_syntax.specs.Productions.{Below, more_assignments, names_before, parameters_at, items_at, braces, code_at, declarators_at, one_of, Item, tok, a_name, the_name, an_assignment, an_expression, optional, arguments, ended, an_end, declared, a_statement, a_block, in_braces, code, seq, made}
 
--- what is made of a tree, where it is low enough for a node above it
-abbrev pub if_low : {A : Type 0} → ℕ → ℕ → Read A → Read A
-if_low h n read = if nat_le h n then read else Err deep
+-- what is made of a tree, where it is low enough for a node above it, which the next token shows
+abbrev pub if_low : {A : Type 0} → ℕ → ℕ → List Token → Read A → Read A
+if_low h n ts read = if nat_le h n then read else Err (deep (length (tail_of ts)))
 
 -- ---- object literals
 
@@ -36,7 +36,7 @@ key_at b ts = key_by b (key_start (head_of ts)) ts
 
 abbrev pub member_by : Below → ℕ → Key → AfterKey → Reader Property
 member_by b n k classes.colon ts = made b (tok kinds.Colon ∷ an_assignment ∷ []) (λ v. trees.value k v.1.0) ts
-member_by b n k classes.parameters ts = if_low (suc (height_of_key k)) n (do
+member_by b n k classes.parameters ts = if_low (suc (height_of_key k)) n ts (do
   f ← b.function ts
   Ok (trees.method k f.0.parameters f.0.body, f.1))
 member_by b n k classes.no_member ts = Err (stuck (length ts))
@@ -104,13 +104,13 @@ is_link _ = true
 
 abbrev pub links_by : Below → ℕ → (Expression → Reader Expression) → Expression → Link → Reader Expression
 links_by b n go e no_link ts = Ok (e, ts)
-links_by b n go e l ts = if_low (height e) n (do
+links_by b n go e l ts = if_low (height e) n ts (do
   x ← linked_by b e l ts
   go x.0 x.1)
 
 -- members and calls of what was read, up to the room
 unfoldable pub links : Below → ℕ → ℕ → Expression → Reader Expression
-links b n zero e ts = Err deep
+links b n zero e ts = Err (deep (length ts))
 links b n (suc turns) e ts = links_by b n (λ f r. links b n turns f r) e (link (head_of ts)) ts
 
 unfoldable pub call : Below → ℕ → Reader Expression
@@ -122,7 +122,7 @@ call b n ts = do
 
 abbrev pub updated_by : ℕ → Expression → Option UpdateOperator → Reader Expression
 updated_by n e None ts = Ok (e, ts)
-updated_by n e (Some o) ts = if is_target e then if_low (height e) n (Ok (trees.postfix o e, tail_of ts)) else Err (stuck (length ts))
+updated_by n e (Some o) ts = if is_target e then if_low (height e) n ts (Ok (trees.postfix o e, tail_of ts)) else Err (stuck (length ts))
 
 unfoldable pub postfix : Below → ℕ → Reader Expression
 postfix b n ts = do
@@ -151,13 +151,13 @@ operator_from m (Some o) = if nat_le m (strength o) then Some o else None
 
 abbrev pub chain_by : Below → ℕ → (Expression → Reader Expression) → Expression → Option BinaryOperator → Reader Expression
 chain_by b n go l None ts = Ok (l, ts)
-chain_by b n go l (Some o) ts = if_low (height l) n (do
+chain_by b n go l (Some o) ts = if_low (height l) n ts (do
   x ← b.operation (suc (strength o)) (tail_of ts)
   go (trees.binary o l x.0) x.1)
 
 -- operators to the right of what was read, up to the room
 unfoldable pub chain : Below → ℕ → ℕ → ℕ → Expression → Reader Expression
-chain b n m zero l ts = Err deep
+chain b n m zero l ts = Err (deep (length ts))
 chain b n m (suc turns) l ts = chain_by b n (λ e r. chain b n m turns e r) l (operator_from m (operator (head_of ts))) ts
 
 unfoldable pub operation : Below → ℕ → ℕ → Reader Expression
@@ -202,8 +202,8 @@ arrow_of_list b only ts = do
 -- ---- assignments
 
 abbrev pub joined_by : Below → ℕ → Expression → Joint → Reader Expression
-joined_by b n t question ts = if_low (height t) n (made b (tok kinds.Question ∷ an_assignment ∷ tok kinds.Colon ∷ an_assignment ∷ []) (λ v. trees.conditional t v.1.0 v.1.1.1.0) ts)
-joined_by b n t (assigns_by o) ts = if is_target t then if_low (height t) n (made b (tok (assign_kind o) ∷ an_assignment ∷ []) (λ v. trees.assign o t v.1.0) ts) else Err (stuck (length ts))
+joined_by b n t question ts = if_low (height t) n ts (made b (tok kinds.Question ∷ an_assignment ∷ tok kinds.Colon ∷ an_assignment ∷ []) (λ v. trees.conditional t v.1.0 v.1.1.1.0) ts)
+joined_by b n t (assigns_by o) ts = if is_target t then if_low (height t) n ts (made b (tok (assign_kind o) ∷ an_assignment ∷ []) (λ v. trees.assign o t v.1.0) ts) else Err (stuck (length ts))
 joined_by b n t no_joint ts = Ok (t, ts)
 
 unfoldable pub joined : Below → ℕ → Expression → Reader Expression
@@ -221,7 +221,7 @@ assignment b n ts = assignment_by b n (arrow_head ts) ts
 
 abbrev pub comma_by : Below → ℕ → Expression → Bool → Reader Expression
 comma_by b n e false ts = Ok (e, ts)
-comma_by b n e true ts = if_low (height e) n (do
+comma_by b n e true ts = if_low (height e) n ts (do
   x ← more_assignments b ts
   Ok (trees.comma (trees.an_expression e x.0), x.1))
 
@@ -361,15 +361,15 @@ item b context taken ts = item_by b context taken (first (head_of ts)) ts
 
 unfoldable pub below : ℕ → Below
 below zero = record {
-  assignment = λ ts. Err deep;
-  expression = λ ts. Err deep;
-  operation = λ m ts. Err deep;
-  unary = λ ts. Err deep;
-  call = λ ts. Err deep;
-  statement = λ context ts. Err deep;
-  item = λ context taken ts. Err deep;
-  block = λ context taken ts. Err deep;
-  function = λ ts. Err deep;
+  assignment = λ ts. Err (deep (length ts));
+  expression = λ ts. Err (deep (length ts));
+  operation = λ m ts. Err (deep (length ts));
+  unary = λ ts. Err (deep (length ts));
+  call = λ ts. Err (deep (length ts));
+  statement = λ context ts. Err (deep (length ts));
+  item = λ context taken ts. Err (deep (length ts));
+  block = λ context taken ts. Err (deep (length ts));
+  function = λ ts. Err (deep (length ts));
 }
 below (suc n) = record {
   assignment = λ ts. assignment (below n) n ts;
@@ -410,5 +410,5 @@ function_code_by b classes.parenthesis ts = do
 function_code_by b _ ts = Err (stuck (length ts))
 
 unfoldable pub parse_function : ℕ → List Token → Result Expression Fault
-parse_function zero ts = Err deep
+parse_function zero ts = Err (deep (length ts))
 parse_function (suc n) ts = whole (function_code_by (below n) (start (head_of ts)) ts)

@@ -7,11 +7,10 @@ use Rattle.js_tree.specs.Tokens.{Token, End, head_of, tail_of, is_on_line, is_wo
 use Rattle.js_tree.specs.Well.{is_among}
 use Rattle.js_syntax.specs.Kinds.{is_kind}
 
--- Why a reader stops: so many tokens are left from the one that goes on with no source of the language; or a tree would be too deep; or a bound on the turns of a loop was too small, which it never is.
+-- Why a reader stops: so many tokens are left from the one that goes on with no source of the language; or a tree would be too deep, and so many are left behind those that show it.
 pub data Fault : Type 0 where
   stuck : ℕ → Fault
-  deep : Fault
-  spent : Fault
+  deep : ℕ → Fault
 
 abbrev pub Read : Type 0 → Type 0
 Read A = Result (A × List Token) Fault
@@ -83,7 +82,7 @@ after_by false false = neither
 abbrev pub after : TokenKind → Option Token → After
 after closer o = after_by (is_kind closer o) (is_kind kinds.Comma o)
 
--- A list with commas between its elements and the token that ends it, before which a comma may stand. Each element is read with a state that the elements before it made.
+-- A list with commas between its elements and the token that ends it, before which a comma may stand. Each element is read with a state that the elements before it made. The bound on the turns, here and below, is never too small.
 abbrev pub go_after : {A : Type 0} → Reader (List A) → After → Reader (List A)
 go_after go goes_on ts = go (tail_of ts)
 go_after go ends ts = Ok ([], tail_of ts)
@@ -97,7 +96,7 @@ elements_by one next go closer s false ts = do
   Ok (x.0 ∷ y.0, y.1)
 
 unfoldable pub elements : {S A : Type 0} → (S → Reader A) → (S → A → S) → TokenKind → ℕ → S → Reader (List A)
-elements one next closer zero s ts = Err spent
+elements one next closer zero s ts = Err (deep (length ts))
 elements one next closer (suc k) s ts = elements_by one next (λ s r. elements one next closer k s r) closer s (is_kind closer (head_of ts)) ts
 
 -- further elements, each behind a comma
@@ -109,7 +108,7 @@ others_by one next go s true ts = do
   Ok (x.0 ∷ y.0, y.1)
 
 unfoldable pub others : {S A : Type 0} → (S → Reader A) → (S → A → S) → ℕ → S → Reader (List A)
-others one next zero s ts = Err spent
+others one next zero s ts = Err (deep (length ts))
 others one next (suc k) s ts = others_by one next (λ s r. others one next k s r) s (is_kind kinds.Comma (head_of ts)) ts
 
 -- whether a list of statements ends here
@@ -126,7 +125,7 @@ items_by one next go s false ts = do
   Ok (x.0 ∷ y.0, y.1)
 
 unfoldable pub items : {S A : Type 0} → (S → Reader A) → (S → A → S) → ℕ → S → Reader (List A)
-items one next zero s ts = Err spent
+items one next zero s ts = Err (deep (length ts))
 items one next (suc k) s ts = items_by one next (λ s r. items one next k s r) s (ends_list (head_of ts)) ts
 
 -- ---- states of lists

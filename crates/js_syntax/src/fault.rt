@@ -36,8 +36,8 @@ pub enum ParseFault {
 pub enum ParseError {
     /// No memory was left.
     Memory,
-    /// The tree would be too deep.
-    TooDeep,
+    /// The tree would be too deep: so many tokens are left behind those that show it.
+    TooDeep { left: usize },
     /// So many tokens are left from the faulty one on; none, where it is the end.
     Syntax { left: usize },
 }

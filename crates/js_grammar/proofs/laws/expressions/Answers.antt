@@ -1,5 +1,6 @@
 use Rattle.js_grammar.proofs.Soundness.{expression_read}
 use Rattle.js_grammar.proofs.Exactness.{expression_leaves_at}
+use Rattle.js_grammar.proofs.DeepWhole.{expression_too_deep}
 use Rattle.js_grammar.proofs.laws.expressions.Goals as goal
 
 pub returns-clause-sound : goal.returns-clause-sound
@@ -7,3 +8,6 @@ returns-clause-sound c = expression_read
 
 pub returns-clause-stuck : goal.returns-clause-stuck
 returns-clause-stuck c = expression_leaves_at
+
+pub returns-clause-deep : goal.returns-clause-deep
+returns-clause-deep c = expression_too_deep

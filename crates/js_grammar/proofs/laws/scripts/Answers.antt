@@ -1,5 +1,6 @@
 use Rattle.js_grammar.proofs.Soundness.{script_read}
 use Rattle.js_grammar.proofs.Exactness.{script_leaves_at}
+use Rattle.js_grammar.proofs.DeepWhole.{script_too_deep}
 use Rattle.js_grammar.proofs.laws.scripts.Goals as goal
 
 pub returns-clause-sound : goal.returns-clause-sound
@@ -7,3 +8,6 @@ returns-clause-sound c = script_read
 
 pub returns-clause-stuck : goal.returns-clause-stuck
 returns-clause-stuck c = script_leaves_at
+
+pub returns-clause-deep : goal.returns-clause-deep
+returns-clause-deep c = script_too_deep
