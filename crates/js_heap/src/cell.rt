@@ -1,0 +1,273 @@
+//! What a world holds at an address.
+
+ghost use Rattle.std.specs.Prelude.{◌≡◌, ◌≤◌, [], ◌∷◌, ◌++◌, length, take, OnOk, OnErr};
+ghost use Rattle.js_heap.specs.Keys.{put_property, without_key};
+ghost use Rattle.js_heap.specs.Cells.{declared, bound, with_element};
+
+use crate::built_in::{Code, ErrorClass};
+use crate::keys::index_of_key;
+use crate::properties::{key_place, name_place, new_place};
+use crate::value::{Addr, Value};
+use cdp_text::units::Units;
+use std::alloc::{AllocError, Global};
+use std::marker::Model;
+
+/// Values in order. Contracts see their list.
+#[derive(Debug, Drop)]
+pub struct Values {
+    items: Vec<Value>,
+}
+
+impl Model for Values {
+    ghost use Rattle.std.specs.Prelude.{List};
+    ghost use Rattle.js_heap.specs.declared.value.Value.{Value as AnyValue};
+
+    ghost Value = { List AnyValue };
+
+    ghost view = { λ values. values.items.items };
+}
+
+impl Values {
+    /// The values in the memory of the vector.
+    pub fn from_vec(items: Vec<Value>) -> Values
+        ensures { result ≡ items.items }
+    {
+        Values { items }
+    }
+
+    /// The values.
+    pub fn slice(&self) -> &[Value]
+        ensures { result.now ≡ self.now }
+    {
+        self.items.as_slice()
+    }
+
+    /// The element at an index up to the length; at the length it is one more (10.4.2.1).
+    pub fn put(&mut self, index: u32, value: Value) -> Result<(), AllocError>
+        ensures value { OnOk result (self.new ≡ with_element self.old index value) }
+        ensures kept { OnErr result (self.new ≡ self.old) }
+    {
+        let at = index as usize;
+        if at < self.items.len() {
+            self.items[at] = value;
+        } else {
+            self.items.push(value)?;
+        }
+        Ok(())
+    }
+
+    /// A length up to the present one (10.4.2.4).
+    pub fn cut(&mut self, len: u32)
+        requires { len ≤ length self.old }
+        ensures { self.new ≡ take len self.old }
+    {
+        self.items.truncate(len as usize);
+    }
+}
+
+/// An own property (ECMA-262, 6.1.7.1).
+#[derive(Debug, Drop)]
+pub struct Property {
+    pub key: Units,
+    pub value: Value,
+    pub writable: bool,
+    pub enumerable: bool,
+    pub configurable: bool,
+}
+
+/// The own properties of an object in order (ECMA-262, 10.1.11). Contracts see their list.
+#[derive(Debug, Drop)]
+pub struct Properties {
+    items: Vec<Property>,
+}
+
+impl Model for Properties {
+    ghost use Rattle.std.specs.Prelude.{List};
+    ghost use Rattle.js_heap.specs.declared.cell.Property.{Property};
+    ghost use Rattle.js_heap.specs.contracts.cell.Property as property;
+
+    ghost Value = { List Property };
+
+    ghost view = { λ properties. properties.items.items };
+}
+
+impl Properties {
+    /// No property.
+    pub fn new(alloc: Global) -> Properties
+        ensures { result ≡ [] }
+    {
+        Properties {
+            items: Vec::new(alloc),
+        }
+    }
+
+    /// The properties in the memory of the vector, in its order.
+    pub fn from_vec(items: Vec<Property>) -> Properties
+        ensures { result ≡ items.items }
+    {
+        Properties { items }
+    }
+
+    /// The properties.
+    pub fn slice(&self) -> &[Property]
+        ensures { result.now ≡ self.now }
+    {
+        self.items.as_slice()
+    }
+
+    /// Gives the property of a key a value; a new one stands at its place in the order (ECMA-262, 10.1.9.2, 10.1.11).
+    #[tactic(auto, using(crate::proofs::PlaceLemmas::place_rules))]
+    pub fn put(&mut self, key: Units, value: Value) -> Result<(), AllocError>
+        ensures value { OnOk result (self.new ≡ put_property self.old key value) }
+        ensures kept { OnErr result (self.new ≡ self.old) }
+    {
+        let at = key_place(self.items.as_slice(), key.as_slice());
+        if at < self.items.len() {
+            self.items[at].value = value;
+            return Ok(());
+        }
+        let place = new_place(self.items.as_slice(), index_of_key(key.as_slice()));
+        let property = Property {
+            key,
+            value,
+            writable: true,
+            enumerable: true,
+            configurable: true,
+        };
+        self.items.insert(place, property)?;
+        Ok(())
+    }
+
+    /// Removes the property of a key, if there is one (10.1.10).
+    #[tactic(auto, using(crate::proofs::PlaceLemmas::place_rules))]
+    pub fn remove(&mut self, key: &[u16])
+        ensures { self.new ≡ without_key self.old key.now }
+    {
+        let at = key_place(self.items.as_slice(), key);
+        if at < self.items.len() {
+            self.items.remove(at);
+        }
+    }
+}
+
+/// A name of a scope, with its value once it is initialised (ECMA-262, 9.1.1.1).
+#[derive(Debug, Drop)]
+pub struct Binding {
+    pub name: Units,
+    pub constant: bool,
+    pub value: Option<Value>,
+}
+
+/// The names of a scope in order. Contracts see their list.
+#[derive(Debug, Drop)]
+pub struct Names {
+    items: Vec<Binding>,
+}
+
+impl Model for Names {
+    ghost use Rattle.std.specs.Prelude.{List};
+    ghost use Rattle.js_heap.specs.declared.cell.Binding.{Binding};
+
+    ghost Value = { List Binding };
+
+    ghost view = { λ names. names.items.items };
+}
+
+impl Names {
+    /// No name.
+    pub fn new(alloc: Global) -> Names
+        ensures { result ≡ [] }
+    {
+        Names {
+            items: Vec::new(alloc),
+        }
+    }
+
+    /// The names in the memory of the vector, in its order.
+    pub fn from_vec(items: Vec<Binding>) -> Names
+        ensures { result ≡ items.items }
+    {
+        Names { items }
+    }
+
+    /// The bindings.
+    pub fn slice(&self) -> &[Binding]
+        ensures { result.now ≡ self.now }
+    {
+        self.items.as_slice()
+    }
+
+    /// One more name, without a value.
+    pub fn declare(&mut self, name: Units, constant: bool) -> Result<(), AllocError>
+        ensures value { OnOk result (self.new ≡ self.old ++ declared name constant ∷ []) }
+        ensures kept { OnErr result (self.new ≡ self.old) }
+    {
+        self.items.push(Binding {
+            name,
+            constant,
+            value: None,
+        })?;
+        Ok(())
+    }
+
+    /// Gives a declared name a value (9.1.1.1.4).
+    #[tactic(auto, using(crate::proofs::PlaceLemmas::place_rules))]
+    pub fn bind(&mut self, name: &[u16], value: Value)
+        ensures { self.new ≡ bound self.old name.now value }
+    {
+        let at = name_place(self.items.as_slice(), name);
+        if at < self.items.len() {
+            self.items[at].value = Some(value);
+        }
+    }
+}
+
+/// What made a scope.
+#[derive(Clone, Copy, Debug, PartialEq, Eq)]
+pub enum ScopeKind {
+    /// A block or a loop (ECMA-262, 14.2, 14.7).
+    Block,
+    /// A `catch` with a name (14.15).
+    Catch,
+    /// A call of a function (10.2.11).
+    Function,
+    /// The name of a function expression (15.2.5).
+    Named,
+    /// The scripts (16.1).
+    Script,
+    /// The global scope.
+    Global,
+}
+
+/// What is at an address.
+#[derive(Debug, Drop)]
+pub enum Cell {
+    Object {
+        properties: Properties,
+    },
+    Error {
+        class: ErrorClass,
+        properties: Properties,
+    },
+    Array {
+        elements: Values,
+    },
+    Text {
+        units: Units,
+    },
+    /// `this` is the enclosing one of an arrow function, else undefined.
+    Function {
+        code: Code,
+        name: Units,
+        length: u32,
+        scope: Option<Addr>,
+        this: Value,
+    },
+    /// A scope; `name` is the function's, where it has one.
+    Bindings {
+        kind: ScopeKind,
+        name: Units,
+        outer: Option<Addr>,
+        names: Names,
+    },
+}

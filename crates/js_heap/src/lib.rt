@@ -1,0 +1,13 @@
+//! Values, cells and worlds: what a running program's memory is, and how it is read and changed.
+#![tactic(auto)]
+
+pub mod built_in;
+pub mod cell;
+pub mod change;
+pub mod keys;
+pub mod laws;
+pub mod properties;
+pub mod reading;
+#[cfg(test)]
+mod tests;
+pub mod value;

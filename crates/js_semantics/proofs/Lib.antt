@@ -1,0 +1,16 @@
+pub mod Reports
+pub mod Steps
+pub mod Cases
+pub mod Places
+pub mod Limits
+pub mod Evaluations
+pub mod FollowLemmas
+pub mod SoundTerms
+pub mod SoundValues
+pub mod SoundCalls
+pub mod SoundRows
+pub mod SoundSteps
+pub mod EvaluationLemmas
+pub mod StartLemmas
+pub mod UntouchedLemmas
+pub mod CleanLemmas

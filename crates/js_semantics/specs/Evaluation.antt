@@ -1,0 +1,160 @@
+-- Pure evaluation: an expression, or a call of a function, on a copy of the world with the cells of a session's scratch.
+use Rattle.std.specs.Prelude.{ℕ, ◌+◌, ◌-◌, Bool, List, [], ◌∷◌, ◌++◌, length, Some, ℤ, nat_le, if◌then◌else◌}
+use Rattle.js_heap.specs.declared.value.Addr.{Addr}
+use Rattle.js_heap.specs.declared.value.Addr.TheVariants.{Base, Scratch}
+use Rattle.js_heap.specs.declared.value.Value.{Value}
+use Rattle.js_heap.specs.declared.value.Value.TheVariants as values
+use Rattle.js_heap.specs.declared.cell.Cell.TheVariants as cells
+use Rattle.js_heap.specs.declared.cell.Property.{Property}
+use Rattle.js_heap.specs.declared.change.Counted.{Counted}
+use Rattle.js_heap.specs.declared.change.Counted.TheVariants as counted
+use Rattle.js_heap.specs.declared.cell.Cell.{Cell}
+use Rattle.js_heap.specs.Keys.{put_property}
+use Rattle.js_heap.specs.World.{Room, World, Tried, fine, effect, full, make_cell}
+use Rattle.js_heap.specs.BuiltIns.{script_scope}
+use Rattle.js_semantics.specs.Terms.{beginning, call, Term, done, part, end, more, dones}
+use Rattle.js_semantics.specs.State.{State}
+use Rattle.js_semantics.specs.Functions.{Program}
+use Rattle.js_semantics.specs.Run.{ended, threw, by_effect, by_full, Run, running, over, run_of, steps_in, literals, with_literals}
+
+-- ---- the world of an evaluation
+
+-- what a session made so far: its cells, and the room that is left
+pub record ScratchSpace : Type 0 where
+  pub cells : List Cell
+  pub room : Room
+
+-- the program's world, copied, with a session's cells; only cells from here on are the evaluation's own
+abbrev pub copied_world : World → ScratchSpace → World
+copied_world w x = record { base = w.base; scratch = x.cells; start = Some (length x.cells); room = x.room }
+
+abbrev pub after_try : {A B : Type 0} → Tried A → (A → World → Tried B) → Tried B
+after_try (fine a w) k = k a w
+after_try effect k = effect
+after_try (full what) k = full what
+
+-- The source is kept under the next number, so that functions which the evaluation makes can be called and described
+-- later. It stands in the map as its text; it counts its units and no cell.
+abbrev pub keep_source : World → List ℕ → Tried Addr
+keep_source w units =
+    if nat_le (length units) w.room.units
+    then fine (Scratch (length w.scratch))
+    (record w { scratch = w.scratch ++ cells.Text units ∷ []; room = record { cells = w.room.cells; units = w.room.units - length units } })
+    else full counted.Units
+
+-- the cells of string literals, in order
+abbrev pub make_literals : World → List (List ℕ) → Tried (Unit {0})
+make_literals w [] = fine tt w
+make_literals w (us ∷ rest) = after_try (make_cell w (cells.Text us)) (λ a v. make_literals v rest)
+
+-- ---- arguments of a call
+
+-- a JSON value with integers; an object's members stand in the order in which they are made
+mutual
+  pub data Json : Type 0 where
+    json_null : Json
+    json_bool : Bool → Json
+    json_number : ℤ → Json
+    json_string : List ℕ → Json
+    json_array : Jsons → Json
+    json_object : Members → Json
+
+  pub data Jsons : Type 0 where
+    no_jsons : Jsons
+    a_json : Json → Jsons → Jsons
+
+  pub data Members : Type 0 where
+    no_members : Members
+    a_member : List ℕ → Json → Members → Members
+
+abbrev pub object_value : Tried Addr → Tried Value
+object_value t = after_try t (λ a w. fine (values.Object a) w)
+
+abbrev mutual
+  -- the value of a JSON value: each part before its whole, from left to right
+  pub make_json : World → Json → Tried Value
+  make_json w json_null = fine values.Null w
+  make_json w (json_bool b) = fine (values.Bool b) w
+  make_json w (json_number z) = fine (values.Number z) w
+  make_json w (json_string us) = after_try (make_cell w (cells.Text us)) (λ a v. fine (values.Text a) v)
+  make_json w (json_array js) = after_try (make_jsons w js) (λ vs v. object_value (make_cell v (cells.Array vs)))
+  make_json w (json_object ms) = after_try (make_members w [] ms) (λ ps v. object_value (make_cell v (cells.Object ps)))
+
+  pub make_jsons : World → Jsons → Tried (List Value)
+  make_jsons w no_jsons = fine [] w
+  make_jsons w (a_json j js) = after_try (make_json w j) (λ x v. after_try (make_jsons v js) (λ xs u. fine (x ∷ xs) u))
+
+  pub make_members : World → List Property → Members → Tried (List Property)
+  make_members w ps no_members = fine ps w
+  make_members w ps (a_member key j ms) = after_try (make_json w j) (λ x v. make_members v (put_property ps key x) ms)
+
+-- an argument is a value, or is made of a JSON value
+pub data Argument : Type 0 where
+  given : Value → Argument
+  made_of : Json → Argument
+
+abbrev pub make_argument : World → Argument → Tried Value
+make_argument w (given v) = fine v w
+make_argument w (made_of j) = make_json w j
+
+abbrev pub make_arguments : World → List Argument → Tried (List Value)
+make_arguments w [] = fine [] w
+make_arguments w (a ∷ rest) = after_try (make_argument w a) (λ x v. after_try (make_arguments v rest) (λ xs u. fine (x ∷ xs) u))
+
+-- ---- the evaluation
+
+abbrev pub budget : ℕ
+budget = 100000
+
+-- the answer of an evaluation, with the world after it
+pub data Answer : Type 0 where
+  a_result : Value → World → Answer
+  a_throw : Value → World → Answer
+  an_effect : Answer
+  is_full_of : Counted → Answer
+  spent : Answer
+
+abbrev pub answer_of : Run → Answer
+answer_of (running t s) = spent
+answer_of (over (ended v) s) = a_result v s.world
+answer_of (over (threw v place) s) = a_throw v s.world
+answer_of (over by_effect s) = an_effect
+answer_of (over (by_full what) s) = is_full_of what
+
+-- no frames, no input and no output
+abbrev pub evaluation_state : World → Value → State
+evaluation_state w receiver = record { world = w; frames = []; outer_this = receiver; input = []; printed = [] }
+
+-- what is ready to be evaluated, or a scratch that is full before the first step
+abbrev pub answered : Tried Term → (World → Term → Answer) → Answer
+answered (fine t w) k = k w t
+answered effect k = an_effect
+answered (full what) k = is_full_of what
+
+-- the term of a source that was kept at an address, with its literals' cells behind that address
+abbrev pub literals_placed : Addr → Term → Term
+literals_placed (Scratch n) t = with_literals (λ i. Scratch i) (n + 1) t
+literals_placed (Base n) t = t
+
+abbrev pub prepared : World → ScratchSpace → List ℕ → Term → Tried Term
+prepared w x source t =
+    after_try (keep_source (copied_world w x) source) (λ at v. after_try (make_literals v (literals t)) (λ u z. fine (literals_placed at t) z))
+
+abbrev pub evaluated : Program → Addr → Value → World → Term → Answer
+evaluated p scope receiver w t = answer_of (steps_in budget p scope (run_of t (evaluation_state w receiver)))
+
+-- evaluates a source's expression in a scope with a `this`; the program has the kept sources, this one among them
+abbrev pub evaluate : Program → World → ScratchSpace → Addr → Value → List ℕ → Term → Answer
+evaluate p w x scope receiver source t = answered (prepared w x source t) (evaluated p scope receiver)
+
+-- a call in the script scope; its callee is the function expression or arrow, still to be made
+abbrev pub call_term : Value → Term → List Value → Term
+call_term receiver callee args = part (call beginning 0) (more (done receiver) (more callee (dones args))) end
+
+abbrev pub with_arguments : Value → List Argument → Tried Term → Tried Term
+with_arguments receiver args t = after_try t (λ callee w. after_try (make_arguments w args) (λ vs v. fine (call_term receiver callee vs) v))
+
+-- calls a source's function with a `this` and arguments
+abbrev pub evaluate_call : Program → World → ScratchSpace → List ℕ → Term → Value → List Argument → Answer
+evaluate_call p w x source callee receiver args =
+    answered (with_arguments receiver args (prepared w x source callee)) (evaluated p script_scope values.Undefined)

@@ -1,0 +1,16 @@
+pub mod Terms
+pub mod State
+pub mod References
+pub mod BuiltIns
+pub mod Functions
+pub mod Rows
+pub mod Next
+pub mod Run
+pub mod Makers
+pub mod Clean
+pub mod Frames
+pub mod Laws
+pub mod Evaluation
+pub mod Sound
+pub mod Sources
+pub mod Untouched

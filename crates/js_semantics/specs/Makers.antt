@@ -1,0 +1,405 @@
+-- The terms of trees: what each form of the grammar is before its first step. Parentheses, empty statements and
+-- function declarations are dropped, and number, string and boolean literals and `null` are values.
+use Rattle.std.specs.Prelude.{ℕ, Bool, true, false, List, [], ◌∷◌, ◌++◌, map, length, Option, Some, None, pos}
+use Rattle.js_tree.specs.declared.operator.UnaryOperator.{UnaryOperator}
+use Rattle.js_tree.specs.declared.operator.UnaryOperator.TheVariants as unaries
+use Rattle.js_tree.specs.declared.operator.UpdateOperator.{UpdateOperator}
+use Rattle.js_tree.specs.declared.operator.BinaryOperator.{BinaryOperator}
+use Rattle.js_tree.specs.declared.operator.BinaryOperator.TheVariants as binaries
+use Rattle.js_tree.specs.declared.operator.AssignmentOperator.{AssignmentOperator}
+use Rattle.js_tree.specs.declared.operator.AssignmentOperator.TheVariants as assigns
+use Rattle.js_heap.specs.declared.value.Value.{Value}
+use Rattle.js_heap.specs.declared.value.Value.TheVariants as values
+use Rattle.js_heap.specs.declared.built_in.Code.{Code}
+use Rattle.js_heap.specs.declared.built_in.Code.TheVariants as code
+use Rattle.js_heap.specs.declared.cell.Binding.{Binding}
+use Rattle.js_heap.specs.Cells.{declared}
+use Rattle.js_semantics.specs.Terms.{Source, script_source, kept_source, Mark, start, before_end, to_name, to_member, to_index, FunctionForm, Member, keyed, computed, first, doing, Form, script, sequence, enter, enter_debugger, enter_for, enter_for_of, block, initialize, choose, both, either, loop, break_, continue_, return_, throw_, catching, finishing, this, read, typeof_name, literal, unary, binary, comma, function, array, object, method, assign, compound, update, delete, call, call_of, Term, done, part, Terms, end, more, one, joined}
+
+-- where a part stands: its source, the node of its statement, and the name that it gives to a function without one
+pub record Context : Type 0 where
+  pub source : Source
+  pub statement : ℕ
+  pub name : List ℕ
+
+-- an expression's node, the place of a call of it, where that isn't the call's `(`, and its term
+pub record Made : Type 0 where
+  pub node : ℕ
+  pub last_word : Option Mark
+  pub term : Context → Term
+
+-- a statement's names and functions for the list that it stands in, and its term
+pub record Item : Type 0 where
+  pub names : List Binding
+  pub functions : Context → Terms
+  pub term : Context → Term
+
+-- a list of statements
+pub record Items : Type 0 where
+  pub names : List Binding
+  pub functions : Context → Terms
+  pub terms : Context → Terms
+
+abbrev pub unnamed : Context → Context
+unnamed c = record c { name = [] }
+
+abbrev pub naming : List ℕ → Context → Context
+naming n c = record c { name = n }
+
+abbrev pub within : ℕ → Context → Context
+within node c = record c { statement = node; name = [] }
+
+abbrev pub made : ℕ → (Context → Term) → Made
+made node term = record { node = node; last_word = None; term = term }
+
+-- a part of an expression, which gives no name
+abbrev pub plain : Made → Context → Term
+plain e c = e.term (unnamed c)
+
+abbrev pub plains : List Made → Context → Terms
+plains [] c = end
+plains (e ∷ es) c = more (plain e c) (plains es c)
+
+abbrev pub leaf : Form → Term
+leaf f = part f end end
+
+-- ---- values and names
+
+abbrev pub value_made : ℕ → Value → Made
+value_made node v = made node (λ c. done v)
+
+abbrev pub number_made : ℕ → ℕ → Made
+number_made node n = value_made node (values.Number (pos n))
+
+abbrev pub string_made : ℕ → List ℕ → Made
+string_made node us = made node (λ c. leaf (literal us))
+
+abbrev pub this_made : ℕ → Made
+this_made node = made node (λ c. leaf this)
+
+abbrev pub name_made : ℕ → List ℕ → Made
+name_made node n = record { node = node; last_word = Some (start node); term = λ c. leaf (read (to_name n)) }
+
+abbrev pub array_made : ℕ → List Made → Made
+array_made node es = made node (λ c. part array (plains es c) end)
+
+-- parentheses are dropped, and pass a name on
+abbrev pub parenthesized_made : ℕ → Made → Made
+parenthesized_made node e = made node e.term
+
+-- ---- references
+
+abbrev pub member_made : ℕ → Made → List ℕ → Made
+member_made node o key = record { node = node; last_word = Some (before_end node (length key)); term = λ c. part (read (to_member key)) (one (plain o c)) end }
+
+abbrev pub index_made : ℕ → Made → Made → Made
+index_made node o k = made node (λ c. part (read to_index) (more (plain o c) (one (plain k c))) end)
+
+-- a target's reference and parts; every other term isn't a target
+abbrev pub assigned_to : Term → Term → Term
+assigned_to (part (read r) now later) e = part (assign r) (joined now (one e)) end
+assigned_to t e = t
+
+abbrev pub compounded : BinaryOperator → Term → Term → Term
+compounded o (part (read r) now later) e = part (compound o r) now (one e)
+compounded o t e = t
+
+abbrev pub updated : UpdateOperator → Bool → Term → Term
+updated o prefix (part (read r) now later) = part (update o prefix r) now end
+updated o prefix t = t
+
+abbrev pub deleted : Term → Term
+deleted (part (read r) now later) = part (delete r) now end
+deleted t = t
+
+abbrev pub type_of : Term → Term
+type_of (part (read (to_name n)) now later) = leaf (typeof_name n)
+type_of t = part (unary unaries.Typeof) (one t) end
+
+abbrev pub operator_of : AssignmentOperator → Option BinaryOperator
+operator_of assigns.Assign = None
+operator_of assigns.Add = Some binaries.Add
+operator_of assigns.Subtract = Some binaries.Subtract
+operator_of assigns.Multiply = Some binaries.Multiply
+operator_of assigns.Divide = Some binaries.Divide
+operator_of assigns.Remainder = Some binaries.Remainder
+operator_of assigns.LeftShift = Some binaries.LeftShift
+operator_of assigns.RightShift = Some binaries.RightShift
+operator_of assigns.UnsignedRightShift = Some binaries.UnsignedRightShift
+operator_of assigns.BitwiseAnd = Some binaries.BitwiseAnd
+operator_of assigns.BitwiseOr = Some binaries.BitwiseOr
+operator_of assigns.BitwiseXor = Some binaries.BitwiseXor
+
+abbrev pub assignment : Option BinaryOperator → Term → Term → Term
+assignment None target e = assigned_to target e
+assignment (Some o) target e = compounded o target e
+
+abbrev pub assign_made : ℕ → AssignmentOperator → Made → Made → Made
+assign_made node o target e = made node (λ c. assignment (operator_of o) (plain target c) (plain e c))
+
+abbrev pub update_made : ℕ → UpdateOperator → Bool → Made → Made
+update_made node o prefix e = made node (λ c. updated o prefix (plain e c))
+
+-- ---- operators
+
+abbrev pub unary_term : UnaryOperator → Term → Term
+unary_term unaries.Typeof t = type_of t
+unary_term unaries.Delete t = deleted t
+unary_term o t = part (unary o) (one t) end
+
+abbrev pub unary_made : ℕ → UnaryOperator → Made → Made
+unary_made node o e = made node (λ c. unary_term o (plain e c))
+
+abbrev pub binary_term : BinaryOperator → Term → Term → Term
+binary_term binaries.LogicalAnd l r = part both (one l) (one r)
+binary_term binaries.LogicalOr l r = part either (one l) (one r)
+binary_term o l r = part (binary o) (more l (one r)) end
+
+abbrev pub binary_made : ℕ → BinaryOperator → Made → Made → Made
+binary_made node o l r = made node (λ c. binary_term o (plain l c) (plain r c))
+
+abbrev pub conditional_made : ℕ → Made → Made → Made → Made
+conditional_made node t a b = made node (λ c. part choose (one (plain t c)) (more (plain a c) (one (plain b c))))
+
+abbrev pub comma_term : Terms → Term
+comma_term (more t ts) = part comma (one t) ts
+comma_term end = done values.Undefined
+
+abbrev pub comma_made : ℕ → List Made → Made
+comma_made node es = made node (λ c. comma_term (plains es c))
+
+-- ---- calls
+
+-- a call's place: the callee's last word, else its `(`
+abbrev pub place_or : Option Mark → ℕ → Mark
+place_or (Some m) parentheses = m
+place_or None parentheses = start parentheses
+
+-- a callee that is a reference is read before its arguments
+abbrev pub call_term : Mark → ℕ → Term → Terms → Term
+call_term place node (part (read r) now later) args = part (call_of r place node) now args
+call_term place node t args = part (call place node) (more (done values.Undefined) (more t args)) end
+
+abbrev pub call_made : ℕ → Made → ℕ → List Made → Made
+call_made node f parentheses es = made node (λ c. call_term (place_or f.last_word parentheses) c.statement (plain f c) (plains es c))
+
+-- ---- functions
+
+abbrev pub code_of : Source → ℕ → Code
+code_of (script_source number) node = code.Script number node
+code_of (kept_source a) node = code.Kept a node
+
+abbrev pub no_items : Items
+no_items = record { names = []; functions = λ c. end; terms = λ c. end }
+
+-- the body of a function and the functions that it declares, apart from where the function stands
+abbrev pub body_terms : Items → Context → Terms
+body_terms body c = more (part sequence (body.terms (within 0 c)) end) (body.functions (within 0 c))
+
+-- a function with its own name, or that of the context
+abbrev pub form_of : ℕ → Source → List ℕ → List (List ℕ) → List Binding → Bool → Bool → FunctionForm
+form_of node source n ps names arrow named = record { code = code_of source node; node = node; name = n; parameters = ps; names = names; is_arrow = arrow; is_named = named }
+
+abbrev pub function_term : ℕ → Option (List ℕ) → List (List ℕ) → Items → Context → Term
+function_term node (Some n) ps body c = part (function (form_of node c.source n ps body.names false true)) end (body_terms body c)
+function_term node None ps body c = part (function (form_of node c.source c.name ps body.names false false)) end (body_terms body c)
+
+abbrev pub function_made : ℕ → Option (List ℕ) → List (List ℕ) → Items → Made
+function_made node n ps body = made node (λ c. function_term node n ps body c)
+
+-- an arrow's expression body is entered as a `return`
+abbrev pub returned_body : Made → Items
+returned_body e = record { names = []; functions = λ c. end; terms = λ c. one (part (enter e.node) end (one (part return_ (one (e.term (within e.node c))) end))) }
+
+abbrev pub arrow_made : ℕ → List (List ℕ) → Items → Made
+arrow_made node ps body = made node (λ c. part (function (form_of node c.source c.name ps body.names true false)) end (body_terms body c))
+
+-- ---- object literals
+
+pub data PropertyKey : Type 0 where
+  fixed_key : List ℕ → PropertyKey
+  computed_key : Made → PropertyKey
+
+-- a member: a value, or a method with its node, parameters and body
+pub data PropertyMade : Type 0 where
+  value_property : PropertyKey → Made → PropertyMade
+  method_property : ℕ → PropertyKey → List (List ℕ) → Items → PropertyMade
+
+abbrev pub member_of_key : PropertyKey → Member
+member_of_key (fixed_key k) = keyed k
+member_of_key (computed_key e) = computed
+
+abbrev pub member_of : PropertyMade → Member
+member_of (value_property k e) = member_of_key k
+member_of (method_property node k ps body) = member_of_key k
+
+-- the parts up to the key of the next method with a computed key, and that method with what follows it
+pub record Parts : Type 0 where
+  pub now : Terms
+  pub later : Terms
+
+abbrev pub before : Term → Parts → Parts
+before t p = record p { now = more t p.now }
+
+abbrev pub method_form : ℕ → List ℕ → List (List ℕ) → Items → Context → FunctionForm
+method_form node n ps body c = form_of node c.source n ps body.names false false
+
+abbrev pub property_parts : PropertyMade → Context → Parts → Parts
+property_parts (value_property (fixed_key k) e) c p = before (e.term (naming k c)) p
+property_parts (value_property (computed_key k) e) c p = before (plain k c) (before (plain e c) p)
+property_parts (method_property node (fixed_key k) ps body) c p = before (part (function (method_form node k ps body c)) end (body_terms body c)) p
+property_parts (method_property node (computed_key k) ps body) c p =
+    record { now = one (plain k c); later = more (part (method (method_form node [] ps body c)) p.now (body_terms body c)) p.later }
+
+abbrev pub properties_parts : List PropertyMade → Context → Parts
+properties_parts [] c = record { now = end; later = end }
+properties_parts (m ∷ ms) c = property_parts m c (properties_parts ms c)
+
+abbrev pub object_term : List PropertyMade → Parts → Term
+object_term ms p = part (object (map member_of ms)) p.now p.later
+
+abbrev pub object_made : ℕ → List PropertyMade → Made
+object_made node ms = made node (λ c. object_term ms (properties_parts ms c))
+
+-- ---- statements
+
+abbrev pub no_functions : Context → Terms
+no_functions c = end
+
+abbrev pub item : (Context → Term) → Item
+item term = record { names = []; functions = no_functions; term = term }
+
+-- an untouched statement; its parts stand in it
+abbrev pub entered : ℕ → (Context → Term) → Item
+entered node term = item (λ c. part (enter node) end (one (term (within node c))))
+
+abbrev pub and_items : Item → Items → Items
+and_items i is = record { names = i.names ++ is.names; functions = λ c. joined (i.functions c) (is.functions c); terms = λ c. more (i.term c) (is.terms c) }
+
+abbrev pub items_of : List Item → Items
+items_of [] = no_items
+items_of (i ∷ is) = and_items i (items_of is)
+
+abbrev pub block_term : Items → Context → Term
+block_term b c = part (block b.names) end (more (part sequence (b.terms c) end) (b.functions c))
+
+abbrev pub block_item : Items → Item
+block_item b = item (block_term b)
+
+abbrev pub empty_item : Item
+empty_item = item (λ c. done values.Undefined)
+
+abbrev pub expression_item : ℕ → Made → Item
+expression_item node e = entered node (plain e)
+
+-- a declared name with its initialiser, if there is one
+pub record DeclaratorMade : Type 0 where
+  pub name : List ℕ
+  pub initializer : Option Made
+
+abbrev pub initializer_terms : List ℕ → Option Made → Context → Terms
+initializer_terms n None c = end
+initializer_terms n (Some e) c = one (e.term (naming n c))
+
+abbrev pub declarators_terms : List DeclaratorMade → Context → Terms
+declarators_terms [] c = end
+declarators_terms (d ∷ ds) c = more (part (initialize d.name) (initializer_terms d.name d.initializer c) end) (declarators_terms ds c)
+
+abbrev pub declarators_term : List DeclaratorMade → Context → Term
+declarators_term ds c = part sequence (declarators_terms ds c) end
+
+abbrev pub declarators_names : Bool → List DeclaratorMade → List Binding
+declarators_names constant [] = []
+declarators_names constant (d ∷ ds) = declared d.name constant ∷ declarators_names constant ds
+
+abbrev pub lexical_item : ℕ → Bool → List DeclaratorMade → Item
+lexical_item node constant ds = record (entered node (declarators_term ds)) { names = declarators_names constant ds }
+
+abbrev pub alternate_term : Option Item → Context → Term
+alternate_term None c = done values.Undefined
+alternate_term (Some i) c = i.term c
+
+abbrev pub if_item : ℕ → Made → Item → Option Item → Item
+if_item node e s t = entered node (λ c. part choose (one (plain e c)) (more (s.term c) (one (alternate_term t c))))
+
+-- a loop's parts: test, update and body
+abbrev pub loop_parts : Term → Term → Term → Terms
+loop_parts t u b = more t (more u (one b))
+
+abbrev pub nothing : Term
+nothing = done values.Undefined
+
+abbrev pub while_item : ℕ → Made → Item → Item
+while_item node e s = entered node (λ c. part (loop first None) end (loop_parts (plain e c) nothing (s.term c)))
+
+abbrev pub do_while_item : ℕ → Item → Made → Item
+do_while_item node s e = entered node (λ c. part (loop doing None) end (loop_parts (plain e c) nothing (s.term c)))
+
+abbrev pub optional_term : Option Made → Context → Term → Term
+optional_term None c other = other
+optional_term (Some e) c other = plain e c
+
+abbrev pub optional_terms : Option Made → Context → Terms
+optional_terms None c = end
+optional_terms (Some e) c = one (plain e c)
+
+-- an absent test is true
+abbrev pub for_parts : Option Made → Option Made → Item → Context → Terms
+for_parts t u s c = loop_parts (optional_term t c (done (values.Bool true))) (optional_term u c nothing) (s.term c)
+
+abbrev pub for_item : ℕ → Option Made → Option Made → Option Made → Item → Item
+for_item node i t u s = entered node (λ c. part (loop first None) (optional_terms i c) (for_parts t u s c))
+
+abbrev pub for_lexical_item : ℕ → Bool → List DeclaratorMade → Option Made → Option Made → Item → Item
+for_lexical_item node constant ds t u s =
+    item (λ c. part (enter_for node constant (declarators_names constant ds)) end (more (declarators_term ds (within node c)) (for_parts t u s (within node c))))
+
+abbrev pub for_of_item : ℕ → Bool → List ℕ → Made → Item → Item
+for_of_item node constant n e s =
+    item (λ c. part (enter_for_of node (declared n constant)) end (more (plain e (within node c)) (one (s.term (within node c)))))
+
+abbrev pub continue_item : ℕ → Item
+continue_item node = entered node (λ c. leaf continue_)
+
+abbrev pub break_item : ℕ → Item
+break_item node = entered node (λ c. leaf break_)
+
+abbrev pub return_item : ℕ → Option Made → Item
+return_item node e = entered node (λ c. part return_ (optional_terms e c) end)
+
+abbrev pub throw_item : ℕ → Made → Item
+throw_item node e = entered node (λ c. part (throw_ node) (one (plain e c)) end)
+
+-- a catch with the name that it may have
+pub record CatchMade : Type 0 where
+  pub name : Option (List ℕ)
+  pub body : Items
+
+abbrev pub caught : Option CatchMade → Term → Context → Term
+caught None t c = t
+caught (Some h) t c = part (catching h.name) (one t) (one (block_term h.body c))
+
+abbrev pub finally_term : Option Items → Term → Context → Term
+finally_term None t c = t
+finally_term (Some f) t c = part finishing (one t) (one (block_term f c))
+
+abbrev pub try_item : ℕ → Items → Option CatchMade → Option Items → Item
+try_item node b h f = entered node (λ c. finally_term f (caught h (block_term b c) c) c)
+
+abbrev pub debugger_item : ℕ → Item
+debugger_item node = item (λ c. part (enter_debugger node) end (one nothing))
+
+-- a declared function is made with the scope of its list
+abbrev pub function_item : ℕ → List ℕ → List (List ℕ) → Items → Item
+function_item node n ps body = record {
+  names = declared n false ∷ [];
+  functions = λ c. one (part (function (form_of node c.source n ps body.names false false)) end (body_terms body c));
+  term = λ c. done values.Undefined;
+}
+
+-- ---- scripts
+
+abbrev pub script_term : ℕ → Items → Term
+script_term number body =
+    let c : Context = record { source = script_source number; statement = 0; name = [] } in
+    part (script number body.names) end (more (part sequence (body.terms c) end) (body.functions c))

@@ -1,0 +1,73 @@
+//! The laws of steps and runs. Each function does nothing: its contract is the law, for every configuration.
+
+ghost use Rattle.std.specs.Prelude.{◌≡◌, ℕ, suc, ◌+◌, List};
+ghost use Rattle.js_tree.specs.Trees.{Statements};
+ghost use Rattle.js_semantics.specs.Clean.{clean_scripts};
+ghost use Rattle.js_heap.specs.declared.value.Addr.{Addr};
+ghost use Rattle.js_semantics.specs.Terms.{Term, Terms};
+ghost use Rattle.js_semantics.specs.State.{State};
+ghost use Rattle.js_semantics.specs.Functions.{Program};
+ghost use Rattle.js_semantics.specs.Next.{next};
+ghost use Rattle.js_semantics.specs.Run.{Run, Finish, over, program_of, state_of, steps_in, plain, out};
+ghost use Rattle.js_heap.specs.declared.value.Value.{Value};
+ghost use Rattle.js_heap.specs.World.{World};
+ghost use Rattle.js_semantics.specs.Untouched.{AreUntouched};
+ghost use Rattle.js_semantics.specs.Evaluation.{ScratchSpace, Argument, evaluate, evaluate_call};
+ghost use Rattle.js_heap.specs.Worlds.{SoundScope};
+ghost use Rattle.js_semantics.specs.Sound.{SoundState, SoundTerm, SoundMove, SoundRun};
+ghost use Rattle.js_semantics.specs.Laws.{IsPrefix, MoveFollows, RunFollows, AnswerKeeps};
+
+/// A step leaves what was printed, and each cell with its kind; in an evaluation it leaves all cells that aren't its own.
+pub fn a_step_keeps()
+    ensures { (p : Program) (scope : Addr) (t : Term) (s : State) → MoveFollows s (next p scope t s) }
+{}
+
+/// So do any number of steps of a run.
+pub fn steps_keep()
+    ensures { (k : ℕ) (p : Program) (scope : Addr) (r : Run) → RunFollows r (steps_in k p scope r) }
+{}
+
+/// What `k` steps print is a prefix of what one step more prints.
+pub fn output_grows()
+    ensures { (k : ℕ) (scripts : Terms) (input : List (List ℕ)) → IsPrefix (out k scripts input) (out (suc k) scripts input) }
+{}
+
+/// A run that has ended stays as it is.
+pub fn an_ended_run_stays()
+    ensures { (k : ℕ) (p : Program) (scope : Addr) (f : Finish) (s : State) → steps_in k p scope (over f s) ≡ over f s }
+{}
+
+/// A run is determined: `j + k` steps are `k` steps from where `j` steps lead.
+pub fn steps_are_determined()
+    ensures { (j k : ℕ) (p : Program) (scope : Addr) (r : Run) → steps_in (j + k) p scope r ≡ steps_in k p scope (steps_in j p scope r) }
+{}
+
+/// A step keeps a configuration sound.
+pub fn a_step_keeps_sound()
+    ensures { (p : Program) (scope : Addr) (t : Term) (s : State) → SoundState p s → SoundScope s.world (Some scope) → SoundTerm s.world t → SoundMove p (next p scope t s) }
+{}
+
+/// So do any number of steps of a run.
+pub fn steps_keep_sound()
+    ensures { (k : ℕ) (p : Program) (scope : Addr) (r : Run) → SoundScope (state_of r).world (Some scope) → SoundRun p r → SoundRun p (steps_in k p scope r) }
+{}
+
+/// An evaluation leaves the program's cells as they are, and those that its session made before.
+pub fn an_evaluation_disturbs_nothing()
+    ensures { (p : Program) (w : World) (x : ScratchSpace) (scope : Addr) (receiver : Value) (source : List ℕ) (t : Term) → AnswerKeeps w x (evaluate p w x scope receiver source t) }
+{}
+
+/// So does a call of a function.
+pub fn an_evaluated_call_disturbs_nothing()
+    ensures { (p : Program) (w : World) (x : ScratchSpace) (source : List ℕ) (callee : Term) (receiver : Value) (arguments : List Argument) → AnswerKeeps w x (evaluate_call p w x source callee receiver arguments) }
+{}
+
+/// Each configuration of a plain run is sound: its scripts hold no address before the first step.
+pub fn a_plain_run_is_sound()
+    ensures { (k : ℕ) (scripts : Terms) (input : List (List ℕ)) → AreUntouched scripts → SoundRun (program_of scripts) (plain k scripts input) }
+{}
+
+/// So is each configuration of the run of scripts that are given as trees.
+pub fn a_run_of_trees_is_sound()
+    ensures { (k : ℕ) (scripts : List Statements) (input : List (List ℕ)) → SoundRun (program_of (clean_scripts scripts)) (plain k (clean_scripts scripts) input) }
+{}

@@ -1,0 +1,13 @@
+//! Operators and properties on values.
+#![tactic(auto)]
+
+pub mod arithmetic;
+pub mod computed;
+pub mod numbers;
+pub mod operators;
+pub mod properties;
+pub mod results;
+#[cfg(test)]
+mod tests;
+pub mod text;
+pub mod values;

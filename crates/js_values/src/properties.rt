@@ -1,0 +1,419 @@
+//! Properties of values: reading, and the changes by writing and deleting.
+
+ghost use Rattle.std.specs.Prelude.{◌≡◌, IfOk, option_copied, ◌<◌, ◌^◌, ◌++◌, length, codes, pos};
+ghost use Rattle.js_heap.specs.Keys.{index_of_key};
+ghost use Rattle.js_heap.specs.declared.value.Value.TheVariants as values;
+ghost use Rattle.js_values.specs.Values.{a_number, units_of_cell};
+ghost use Rattle.js_values.specs.Safe.{IsShort, IsShortValue, IsSmall, IsSmallValue};
+ghost use Rattle.js_heap.specs.BuiltIns.{function_value};
+ghost use Rattle.js_values.specs.declared.computed.Computed.TheVariants.{Value as a_value};
+ghost use Rattle.js_values.specs.Properties.{bad_key, cannot_read, cannot_set, cannot_change, not_changeable, array_method, string_method, element_or_method, unit_or_method, function_property, error_property, cell_property, property_of, element_change, length_change, array_change, cell_change, property_written, cell_removal, property_deleted, bad_length};
+ghost use Rattle.js_heap.specs.declared.built_in.ErrorClass.TheVariants as classes;
+ghost use Rattle.js_values.specs.declared.computed.Written.TheVariants.{Refused as refused};
+
+use crate::computed::{Computed, Written};
+use crate::operators::joined;
+use crate::text::{ascii, is_ascii};
+use crate::values::{class_text, units_at};
+use cdp_text::units::Units;
+use js_heap::built_in::{BuiltIn, ErrorClass, built_in_at};
+use js_heap::cell::Cell;
+use js_heap::change::Change;
+use js_heap::keys::index_of_key;
+use js_heap::properties::property_at;
+use js_heap::reading::Cells;
+use js_heap::value::{Addr, Value};
+use std::alloc::{AllocError, Global};
+
+/// The TypeError of a key that is neither a string nor a number.
+pub fn bad_key(alloc: Global) -> Result<Computed, AllocError>
+    ensures { IfOk result (λ r. r ≡ bad_key) }
+{
+    let message = ascii(alloc, b"Property key must be a string or a number")?;
+    Ok(Computed::Error(ErrorClass::TypeError, message))
+}
+
+// a key between two ASCII texts
+fn quoted(alloc: Global, before: &[u8], key: &[u16], behind: &[u8]) -> Result<Units, AllocError>
+    ensures { IfOk result (λ units. units ≡ before.now ++ key.now ++ behind.now) }
+{
+    let opened = ascii(alloc, before)?;
+    let named = joined(alloc, opened.as_slice(), key)?;
+    let closing = ascii(alloc, behind)?;
+    joined(alloc, named.as_slice(), closing.as_slice())
+}
+
+/// The TypeError of reading a property of undefined.
+fn cannot_read_undefined(alloc: Global, key: &[u16]) -> Result<Computed, AllocError>
+    ensures { IfOk result (λ r. r ≡ cannot_read (codes "undefined") key.now) }
+{
+    let message = quoted(
+        alloc,
+        b"Cannot read properties of undefined (reading '",
+        key,
+        b"')",
+    )?;
+    Ok(Computed::Error(ErrorClass::TypeError, message))
+}
+
+/// The TypeError of reading a property of null.
+fn cannot_read_null(alloc: Global, key: &[u16]) -> Result<Computed, AllocError>
+    ensures { IfOk result (λ r. r ≡ cannot_read (codes "null") key.now) }
+{
+    let message = quoted(
+        alloc,
+        b"Cannot read properties of null (reading '",
+        key,
+        b"')",
+    )?;
+    Ok(Computed::Error(ErrorClass::TypeError, message))
+}
+
+// ---- reading
+
+fn method(f: BuiltIn) -> Computed
+    ensures { result ≡ a_value (function_value f) }
+{
+    Computed::Value(Value::Object(built_in_at(f)))
+}
+
+fn array_method(key: &[u16]) -> Computed
+    ensures { result ≡ array_method key.now }
+{
+    if is_ascii(key, b"push") {
+        return method(BuiltIn::ArrayPush);
+    }
+    if is_ascii(key, b"pop") {
+        return method(BuiltIn::ArrayPop);
+    }
+    if is_ascii(key, b"indexOf") {
+        return method(BuiltIn::ArrayIndexOf);
+    }
+    if is_ascii(key, b"join") {
+        return method(BuiltIn::ArrayJoin);
+    }
+    if is_ascii(key, b"slice") {
+        return method(BuiltIn::ArraySlice);
+    }
+    Computed::Value(Value::Undefined)
+}
+
+fn string_method(key: &[u16]) -> Computed
+    ensures { result ≡ string_method key.now }
+{
+    if is_ascii(key, b"indexOf") {
+        return method(BuiltIn::StringIndexOf);
+    }
+    if is_ascii(key, b"slice") {
+        return method(BuiltIn::StringSlice);
+    }
+    if is_ascii(key, b"charCodeAt") {
+        return method(BuiltIn::StringCharCodeAt);
+    }
+    Computed::Value(Value::Undefined)
+}
+
+fn undefined() -> Computed
+    ensures { result ≡ a_value values.Undefined }
+{
+    Computed::Value(Value::Undefined)
+}
+
+fn size(len: usize) -> Computed
+    requires { len < 2 ^ 63 }
+    ensures { result ≡ a_number (pos len) }
+{
+    Computed::Value(Value::Number(len as i64))
+}
+
+fn element_or_method(elements: &[Value], key: &[u16]) -> Computed
+    requires { length elements.now < 2 ^ 63 }
+    ensures { result ≡ element_or_method elements.now key.now (index_of_key key.now) }
+{
+    match index_of_key(key) {
+        Some(i) => match elements.get(i as usize) {
+            Some(element) => Computed::Value(*element),
+            None => undefined(),
+        },
+        None => {
+            if is_ascii(key, b"length") {
+                size(elements.len())
+            } else {
+                array_method(key)
+            }
+        }
+    }
+}
+
+fn unit_or_method(alloc: Global, units: &[u16], key: &[u16]) -> Result<Computed, AllocError>
+    requires { length units.now < 2 ^ 63 }
+    ensures { IfOk result (λ r. r ≡ unit_or_method units.now key.now (index_of_key key.now)) }
+{
+    match index_of_key(key) {
+        Some(i) => match units.get(i as usize) {
+            Some(unit) => Ok(Computed::Text(Units::from_slice(alloc, &[*unit])?)),
+            None => Ok(undefined()),
+        },
+        None => {
+            if is_ascii(key, b"length") {
+                Ok(size(units.len()))
+            } else {
+                Ok(string_method(key))
+            }
+        }
+    }
+}
+
+fn function_property(
+    alloc: Global,
+    name: &[u16],
+    len: u32,
+    key: &[u16],
+) -> Result<Computed, AllocError>
+    ensures { IfOk result (λ r. r ≡ function_property name.now len key.now) }
+{
+    if is_ascii(key, b"name") {
+        return Ok(Computed::Text(Units::from_slice(alloc, name)?));
+    }
+    if is_ascii(key, b"length") {
+        return Ok(Computed::Value(Value::Number(i64::from(len))));
+    }
+    Ok(undefined())
+}
+
+fn error_property(alloc: Global, class: ErrorClass, key: &[u16]) -> Result<Computed, AllocError>
+    ensures { IfOk result (λ r. r ≡ error_property class key.now) }
+{
+    if is_ascii(key, b"name") {
+        return Ok(Computed::Text(ascii(alloc, class_text(class))?));
+    }
+    if is_ascii(key, b"message") {
+        return Ok(Computed::Text(ascii(alloc, b"")?));
+    }
+    Ok(undefined())
+}
+
+fn cell_property(alloc: Global, cell: Option<&Cell>, key: &[u16]) -> Result<Computed, AllocError>
+    requires { IsShort (option_copied cell) }
+    ensures { IfOk result (λ r. r ≡ cell_property (option_copied cell.entry) key.now) }
+{
+    match cell {
+        Some(Cell::Object { properties }) => match property_at(properties.slice(), key) {
+            Some(property) => Ok(Computed::Value(property.value)),
+            None => Ok(undefined()),
+        },
+        Some(Cell::Error { class, properties }) => match property_at(properties.slice(), key) {
+            Some(property) => Ok(Computed::Value(property.value)),
+            None => error_property(alloc, *class, key),
+        },
+        Some(Cell::Array { elements }) => Ok(element_or_method(elements.slice(), key)),
+        Some(Cell::Function { name, length, .. }) => function_property(
+            alloc,
+            name.as_slice(),
+            *length,
+            key,
+        ),
+        _ => Ok(undefined()),
+    }
+}
+
+fn text_property(alloc: Global, cell: Option<&Cell>, key: &[u16]) -> Result<Computed, AllocError>
+    requires { IsShort (option_copied cell) }
+    ensures { IfOk result (λ r. r ≡ unit_or_method (units_of_cell (option_copied cell.entry)) key.now (index_of_key key.now)) }
+{
+    match cell {
+        Some(Cell::Text { units }) => unit_or_method(alloc, units.as_slice(), key),
+        _ => unit_or_method(alloc, &[], key),
+    }
+}
+
+/// What reading a property of a value gives (ECMA-262, 13.3.2).
+pub fn property_of<C: Cells>(
+    alloc: Global,
+    cells: &C,
+    of: Value,
+    key: &[u16],
+) -> Result<Computed, AllocError>
+    requires { IsShortValue (C.world cells.now) of }
+    ensures { IfOk result (λ r. r ≡ property_of (C.world cells.now) of key.now) }
+{
+    match of {
+        Value::Undefined => cannot_read_undefined(alloc, key),
+        Value::Null => cannot_read_null(alloc, key),
+        Value::Bool(_) | Value::Number(_) => Ok(undefined()),
+        Value::Text(a) => text_property(alloc, cells.read(a), key),
+        Value::Object(a) => cell_property(alloc, cells.read(a), key),
+    }
+}
+
+// ---- writing and deleting
+
+fn not_changeable(alloc: Global, key: &[u16]) -> Result<Written, AllocError>
+    ensures { IfOk result (λ r. r ≡ not_changeable key.now) }
+{
+    let message = quoted(alloc, b"Cannot change property '", key, b"'")?;
+    Ok(Written::Refused(ErrorClass::TypeError, message))
+}
+
+fn cannot_set_undefined(alloc: Global, key: &[u16]) -> Result<Written, AllocError>
+    ensures { IfOk result (λ r. r ≡ refused classes.TypeError (cannot_set (codes "undefined") key.now)) }
+{
+    let message = quoted(
+        alloc,
+        b"Cannot set properties of undefined (setting '",
+        key,
+        b"')",
+    )?;
+    Ok(Written::Refused(ErrorClass::TypeError, message))
+}
+
+fn cannot_set_null(alloc: Global, key: &[u16]) -> Result<Written, AllocError>
+    ensures { IfOk result (λ r. r ≡ refused classes.TypeError (cannot_set (codes "null") key.now)) }
+{
+    let message = quoted(
+        alloc,
+        b"Cannot set properties of null (setting '",
+        key,
+        b"')",
+    )?;
+    Ok(Written::Refused(ErrorClass::TypeError, message))
+}
+
+fn bad_length(alloc: Global) -> Result<Written, AllocError>
+    ensures { IfOk result (λ r. r ≡ bad_length) }
+{
+    let message = ascii(alloc, b"Invalid array length")?;
+    Ok(Written::Refused(ErrorClass::RangeError, message))
+}
+
+fn element_change(
+    alloc: Global,
+    a: Addr,
+    elements: &[Value],
+    index: u32,
+    value: Value,
+) -> Result<Written, AllocError>
+    ensures { IfOk result (λ r. r ≡ element_change a elements.now index value) }
+{
+    if index as usize <= elements.len() {
+        Ok(Written::Change(a, Change::Element { index, value }))
+    } else {
+        bad_length(alloc)
+    }
+}
+
+fn length_change(
+    alloc: Global,
+    a: Addr,
+    elements: &[Value],
+    value: Value,
+) -> Result<Written, AllocError>
+    requires { length elements.now < 2 ^ 32 }
+    ensures { IfOk result (λ r. r ≡ length_change a elements.now value) }
+{
+    match value {
+        Value::Number(l) => {
+            if 0 <= l && l <= elements.len() as i64 {
+                Ok(Written::Change(a, Change::Length(l as u32)))
+            } else {
+                bad_length(alloc)
+            }
+        }
+        _ => bad_length(alloc),
+    }
+}
+
+fn array_change(
+    alloc: Global,
+    a: Addr,
+    elements: &[Value],
+    key: &[u16],
+    value: Value,
+) -> Result<Written, AllocError>
+    requires { length elements.now < 2 ^ 32 }
+    ensures { IfOk result (λ r. r ≡ array_change a elements.now key.now (index_of_key key.now) value) }
+{
+    match index_of_key(key) {
+        Some(i) => element_change(alloc, a, elements, i, value),
+        None => {
+            if is_ascii(key, b"length") {
+                length_change(alloc, a, elements, value)
+            } else {
+                not_changeable(alloc, key)
+            }
+        }
+    }
+}
+
+fn cell_change(
+    alloc: Global,
+    a: Addr,
+    cell: Option<&Cell>,
+    key: &[u16],
+    value: Value,
+) -> Result<Written, AllocError>
+    requires { IsSmall (option_copied cell) }
+    ensures { IfOk result (λ r. r ≡ cell_change a (option_copied cell.entry) key.now value) }
+{
+    match cell {
+        Some(Cell::Object { .. } | Cell::Error { .. }) => {
+            let key = Units::from_slice(alloc, key)?;
+            Ok(Written::Change(a, Change::Put { key, value }))
+        }
+        Some(Cell::Array { elements }) => array_change(alloc, a, elements.slice(), key, value),
+        _ => not_changeable(alloc, key),
+    }
+}
+
+/// What writing a property of a value changes (10.1.9).
+pub fn property_written<C: Cells>(
+    alloc: Global,
+    cells: &C,
+    of: Value,
+    key: &[u16],
+    value: Value,
+) -> Result<Written, AllocError>
+    requires { IsSmallValue (C.world cells.now) of }
+    ensures { IfOk result (λ r. r ≡ property_written (C.world cells.now) of key.now value) }
+{
+    match of {
+        Value::Undefined => cannot_set_undefined(alloc, key),
+        Value::Null => cannot_set_null(alloc, key),
+        Value::Object(a) => cell_change(alloc, a, cells.read(a), key, value),
+        _ => not_changeable(alloc, key),
+    }
+}
+
+fn cell_removal(
+    alloc: Global,
+    a: Addr,
+    cell: Option<&Cell>,
+    key: &[u16],
+) -> Result<Written, AllocError>
+    ensures { IfOk result (λ r. r ≡ cell_removal a (option_copied cell.entry) key.now) }
+{
+    match cell {
+        Some(Cell::Object { .. } | Cell::Error { .. }) => {
+            let key = Units::from_slice(alloc, key)?;
+            Ok(Written::Change(a, Change::Remove { key }))
+        }
+        _ => not_changeable(alloc, key),
+    }
+}
+
+/// What deleting a property of a value changes (13.5.1.2).
+pub fn property_deleted<C: Cells>(
+    alloc: Global,
+    cells: &C,
+    of: Value,
+    key: &[u16],
+) -> Result<Written, AllocError>
+    ensures { IfOk result (λ r. r ≡ property_deleted (C.world cells.now) of key.now) }
+{
+    match of {
+        Value::Undefined => cannot_set_undefined(alloc, key),
+        Value::Null => cannot_set_null(alloc, key),
+        Value::Object(a) => cell_removal(alloc, a, cells.read(a), key),
+        _ => not_changeable(alloc, key),
+    }
+}

@@ -1,0 +1,98 @@
+//! Values: their texts, types and truth.
+
+ghost use Rattle.std.specs.Prelude.{◌≡◌, IfOk, option_copied};
+ghost use Rattle.js_heap.specs.World.{World as AnyWorld, read_cell};
+ghost use Rattle.js_values.specs.Values.{units_at, units_of_cell, bool_text, text_of, key_of, type_text, object_type, is_truthy, is_same, same_integer, same_address, class_text};
+
+use crate::text::ascii;
+use cdp_text::units::Units;
+use js_heap::built_in::ErrorClass;
+use js_heap::cell::Cell;
+use js_heap::keys::same_units;
+use js_heap::reading::Cells;
+use js_heap::value::{Addr, Value};
+use std::alloc::{AllocError, Global};
+
+/// The units of the text at an address; of another cell none.
+pub fn units_at<C: Cells>(cells: &C, a: Addr) -> &[u16]
+    ensures { result.now ≡ units_at (C.world cells.now) a }
+{
+    match cells.read(a) {
+        Some(Cell::Text { units }) => units.as_slice(),
+        _ => &[],
+    }
+}
+
+/// Whether a value counts as true (ECMA-262, 7.1.2).
+pub fn is_truthy<C: Cells>(cells: &C, v: Value) -> bool
+    ensures { result ≡ is_truthy (C.world cells.now) v }
+{
+    match v {
+        Value::Undefined | Value::Null => false,
+        Value::Bool(b) => b,
+        Value::Number(z) => z != 0,
+        Value::Text(a) => !units_at(cells, a).is_empty(),
+        Value::Object(_) => true,
+    }
+}
+
+/// Whether two values are the same by `===` (7.2.15).
+pub fn is_same<C: Cells>(cells: &C, v: Value, u: Value) -> bool
+    ensures { result ≡ is_same (C.world cells.now) v u }
+{
+    match (v, u) {
+        (Value::Undefined, Value::Undefined) => true,
+        (Value::Null, Value::Null) => true,
+        (Value::Bool(a), Value::Bool(b)) => a == b,
+        (Value::Number(y), Value::Number(z)) => y == z,
+        (Value::Text(a), Value::Text(b)) => same_units(units_at(cells, a), units_at(cells, b)),
+        (Value::Object(a), Value::Object(b)) => same_address(a, b),
+        _ => false,
+    }
+}
+
+/// Whether two addresses are the same.
+pub fn same_address(a: Addr, b: Addr) -> bool
+    ensures { result ≡ same_address a b }
+{
+    match (a, b) {
+        (Addr::Base(m), Addr::Base(n)) => m == n,
+        (Addr::Scratch(m), Addr::Scratch(n)) => m == n,
+        _ => false,
+    }
+}
+
+fn object_type(cell: Option<&Cell>) -> &'static [u8]
+    ensures { result.now ≡ object_type (option_copied cell.entry) }
+{
+    match cell {
+        Some(Cell::Function { .. }) => b"function",
+        _ => b"object",
+    }
+}
+
+/// What `typeof` says (13.5.3).
+pub fn type_text<C: Cells>(cells: &C, v: Value) -> &'static [u8]
+    ensures { result.now ≡ type_text (C.world cells.now) v }
+{
+    match v {
+        Value::Undefined => b"undefined",
+        Value::Null => b"object",
+        Value::Bool(_) => b"boolean",
+        Value::Number(_) => b"number",
+        Value::Text(_) => b"string",
+        Value::Object(a) => object_type(cells.read(a)),
+    }
+}
+
+/// The name of a class of errors.
+pub fn class_text(class: ErrorClass) -> &'static [u8]
+    ensures { result.now ≡ class_text class }
+{
+    match class {
+        ErrorClass::Error => b"Error",
+        ErrorClass::TypeError => b"TypeError",
+        ErrorClass::RangeError => b"RangeError",
+        ErrorClass::ReferenceError => b"ReferenceError",
+    }
+}
