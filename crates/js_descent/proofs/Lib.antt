@@ -1,0 +1,13 @@
+pub mod ViewLemmas
+pub mod WordLemmas
+pub mod LinkLemmas
+pub mod LoopSteps
+pub mod Leaves
+pub mod ListReads
+pub mod LoopLemmas
+pub mod EndLemmas
+pub mod NameLemmas
+pub mod ShorterLemmas
+pub mod ListLemmas
+pub mod ParameterLemmas
+pub mod StatementLemmas

@@ -1,0 +1,140 @@
+//! Arrow functions (ECMA-262, 15.3).
+
+ghost use Rattle.std.specs.Prelude.{◌≡◌, ◌≤◌, ◌<◌, ◌+◌, suc, max, Some, IfOk};
+ghost use Rattle.js_tree.specs.Height.{height};
+ghost use Rattle.js_tree.specs.Views.{expression_view};
+ghost use Rattle.js_syntax.specs.Giving.{Gives};
+ghost use Rattle.js_syntax.specs.Parsing as reading;
+ghost use Rattle.js_syntax.specs.Parsing.{below};
+ghost use Rattle.js_syntax.specs.Views.{tokens_view};
+ghost use Rattle.std.specs.Prelude.{length, true, [], if◌then◌else◌};
+ghost use Rattle.js_tree.specs.Views.{parameters_view};
+ghost use Rattle.js_tree.specs.Well.{names_of_parameters};
+ghost use Rattle.js_syntax.specs.Names.{texts};
+ghost use Rattle.js_syntax.specs.Reading.{with_names};
+
+use crate::blocks::braces_at;
+use crate::context::Context;
+use crate::expressions::assignment_below;
+use crate::parsed::Parsed;
+use crate::words::{expect_near, name_at, names_before, names_of};
+use cdp_text::units::Units;
+use js_lexer::token::{Token, TokenKind};
+use js_syntax::classes::arrows::take_fresh;
+use js_syntax::fault::ParseError;
+use js_syntax::name_set::NameSet;
+use js_syntax::nodes::Nodes;
+use js_syntax::token::{expect, is_next};
+use js_tree::expressions::{arrow, arrow_block};
+use js_tree::tree::ArrowParameters;
+
+// An arrow function of one name without parentheses.
+#[cycle(parser)]
+#[tactic(auto, unfolding(js_syntax::specs::Parsing::arrow_of_one))]
+pub fn arrow_of_one<'t, 's>(nodes: &mut Nodes, room: u32, tokens: &'t [Token<'s>]) -> Parsed<'t, 's>
+    requires { room < 203 }
+    ensures gives { Gives (λ x. (expression_view x.0, tokens_view x.2.now)) result (reading.arrow_of_one (below room) (tokens_view tokens.now)) }
+    ensures deep { IfOk result (λ x. (x.1 ≡ height (expression_view x.0)) × (x.1 ≤ room + 1)) }
+{
+    let (text, rest) = name_at(tokens)?;
+    let mut taken = NameSet::new(nodes.alloc());
+    taken.insert(text)?;
+    let parameters = ArrowParameters::Name(Units::from_slice(nodes.alloc(), text)?);
+    arrow_rest(nodes, room, parameters, taken, tokens, rest)
+}
+
+// An arrow function of names in parentheses, where `only` such a one can begin so.
+#[cycle(parser)]
+#[tactic(auto, unfolding(js_syntax::specs::Parsing::arrow_of_list))]
+pub fn arrow_of_list<'t, 's>(
+    nodes: &mut Nodes,
+    room: u32,
+    only: bool,
+    tokens: &'t [Token<'s>],
+) -> Parsed<'t, 's>
+    requires { room < 203 }
+    ensures gives { Gives (λ x. (expression_view x.0, tokens_view x.2.now)) result (reading.arrow_of_list (below room) only (tokens_view tokens.now)) }
+    ensures deep { IfOk result (λ x. (x.1 ≡ height (expression_view x.0)) × (x.1 ≤ room + 1)) }
+{
+    let rest = expect(TokenKind::LeftParenthesis, tokens)?;
+    let (names, rest) = names_before(nodes.alloc(), rest)?;
+    arrow_of_names(nodes, room, only, &names, tokens, rest)
+}
+
+// How many tokens are left where names that don't differ are refused: at the arrow, or at the
+// parenthesis before it where an arrow alone can follow.
+fn left_at_arrow(only: bool, tokens: &[Token<'_>]) -> usize
+    ensures { result ≡ (if only then suc (length (tokens_view tokens.now)) else length (tokens_view tokens.now)) }
+{
+    if only { tokens.len() + 1 } else { tokens.len() }
+}
+
+// An arrow function whose names in parentheses were read from the start.
+#[cycle(parser)]
+fn arrow_of_names<'t, 's>(
+    nodes: &mut Nodes,
+    room: u32,
+    only: bool,
+    names: &[&'s [u16]],
+    start: &[Token<'s>],
+    tokens: &'t [Token<'s>],
+) -> Parsed<'t, 's>
+    requires { room < 203 }
+    ensures gives { Gives (λ x. (expression_view x.0, tokens_view x.2.now)) result (reading.arrow_of_names (below room) only (texts names.now) (tokens_view tokens.now)) }
+    ensures deep { IfOk result (λ x. (x.1 ≡ height (expression_view x.0)) × (x.1 ≤ room + 1)) }
+{
+    let mut taken = NameSet::new(nodes.alloc());
+    if !take_fresh(&mut taken, names)? {
+        let left = left_at_arrow(only, tokens);
+        return Err(ParseError::Syntax { left });
+    }
+    let parameters = ArrowParameters::List(names_of(nodes.alloc(), names)?);
+    arrow_rest(nodes, room, parameters, taken, start, tokens)
+}
+
+// The arrow and the body of an arrow function whose parameters were read from the start.
+#[cycle(parser)]
+#[tactic(auto, unfolding(js_syntax::specs::Parsing::arrow_rest))]
+pub fn arrow_rest<'t, 's>(
+    nodes: &mut Nodes,
+    room: u32,
+    parameters: ArrowParameters,
+    taken: NameSet<'s>,
+    start: &[Token<'s>],
+    tokens: &'t [Token<'s>],
+) -> Parsed<'t, 's>
+    requires room { room < 203 }
+    requires taken { taken ≡ with_names [] (names_of_parameters (parameters_view parameters)) }
+    ensures gives { Gives (λ x. (expression_view x.0, tokens_view x.2.now)) result (reading.arrow_rest (below room) (parameters_view parameters) (names_of_parameters (parameters_view parameters)) (tokens_view tokens.now)) }
+    ensures deep { IfOk result (λ x. (x.1 ≡ height (expression_view x.0)) × (x.1 ≤ room + 1)) }
+{
+    let rest = expect_near(TokenKind::Arrow, tokens)?;
+    if is_next(TokenKind::LeftBrace, rest) {
+        arrow_block_at(nodes, room, parameters, taken, start, rest)
+    } else {
+        let (body, height, rest) = assignment_below(nodes, room, rest)?;
+        let node = nodes.add(start, rest)?;
+        let tree = arrow(nodes.alloc(), node, parameters, body)?;
+        Ok((tree, height + 1, rest))
+    }
+}
+
+// The body in braces of an arrow function whose parameters were read from the start.
+#[cycle(parser)]
+fn arrow_block_at<'t, 's>(
+    nodes: &mut Nodes,
+    room: u32,
+    parameters: ArrowParameters,
+    taken: NameSet<'s>,
+    start: &[Token<'s>],
+    tokens: &'t [Token<'s>],
+) -> Parsed<'t, 's>
+    requires room { room < 203 }
+    requires taken { taken ≡ with_names [] (names_of_parameters (parameters_view parameters)) }
+    ensures gives { Gives (λ x. (expression_view x.0, tokens_view x.2.now)) result (reading.arrow_body_by (below room) (parameters_view parameters) (names_of_parameters (parameters_view parameters)) true (tokens_view tokens.now)) }
+    ensures deep { IfOk result (λ x. (x.1 ≡ height (expression_view x.0)) × (x.1 ≤ room + 1)) }
+{
+    let (body, height, rest) = braces_at(nodes, room, Context::function_body(), taken, tokens)?;
+    let node = nodes.add(start, rest)?;
+    Ok((arrow_block(node, parameters, body), height + 1, rest))
+}

@@ -1,0 +1,125 @@
+//! Lists of statements, blocks and functions (ECMA-262, 14.2 and 15.2).
+
+ghost use Rattle.std.specs.Prelude.{◌≡◌, ◌≤◌, ◌<◌, ◌+◌, suc, IfOk};
+ghost use Rattle.js_tree.specs.Height.{height_of_statements};
+ghost use Rattle.js_tree.specs.Views.{block_view, statements_view};
+ghost use Rattle.js_syntax.specs.Giving.{Gives};
+ghost use Rattle.js_syntax.specs.Parsing.{below};
+ghost use Rattle.js_syntax.specs.Productions as productions;
+ghost use Rattle.js_syntax.specs.Views.{tokens_view};
+ghost use Rattle.js_descent.specs.Views.{context_view, function_view};
+
+use crate::context::Context;
+use crate::declarations::item_below;
+use crate::names::parameters_at;
+use crate::parsed::{FunctionParts, ParsedBlock, ParsedFunction, ParsedStatements, deeper};
+use js_lexer::token::{Token, TokenKind};
+use js_syntax::classes::lists::ends_list;
+use js_syntax::fault::ParseError;
+use js_syntax::name_set::NameSet;
+use js_syntax::nodes::Nodes;
+use js_syntax::token::expect;
+use js_tree::parts::{block, statements_of};
+
+// Statements in braces that declare other names than these, at most `room` high with the braces.
+#[cycle(parser)]
+#[tactic(auto, unfolding(js_syntax::specs::Parsing::below))]
+pub fn block_below<'t, 's>(
+    nodes: &mut Nodes,
+    room: u32,
+    context: Context,
+    names: NameSet<'s>,
+    tokens: &'t [Token<'s>],
+) -> ParsedBlock<'t, 's>
+    requires { room ≤ 203 }
+    ensures gives { Gives (λ x. (block_view x.0, tokens_view x.2.now)) result ((below room).block (context_view context) names.entry (tokens_view tokens.now)) }
+    ensures deep { IfOk result (λ x. (x.1 ≡ suc (height_of_statements (block_view x.0))) × (x.1 ≤ room)) }
+{
+    if room == 0 {
+        return Err(ParseError::TooDeep { left: tokens.len() });
+    }
+    let (body, height, rest) = braces_at(nodes, room - 1, context, names, tokens)?;
+    let node = nodes.add(tokens, rest)?;
+    Ok((block(node, body), height + 1, rest))
+}
+
+// The parameters of a function and its body, at most `room` high with the function.
+#[cycle(parser)]
+#[tactic(auto, unfolding(js_syntax::specs::Parsing::below))]
+pub fn function_below<'t, 's>(
+    nodes: &mut Nodes,
+    room: u32,
+    tokens: &'t [Token<'s>],
+) -> ParsedFunction<'t, 's>
+    requires { room ≤ 203 }
+    ensures gives { Gives (λ x. (function_view x.0, tokens_view x.2.now)) result ((below room).function (tokens_view tokens.now)) }
+    ensures deep { IfOk result (λ x. (x.1 ≡ height_of_statements (statements_view x.0.body)) × (x.1 < room)) }
+{
+    if room == 0 {
+        return Err(ParseError::TooDeep { left: tokens.len() });
+    }
+    code_at(nodes, room - 1, tokens)
+}
+
+// Statements up to what ends a list, that declare other names than these.
+#[cycle(parser)]
+#[tactic(auto, unfolding(js_syntax::specs::Productions::items_at))]
+pub fn items_at<'t, 's>(
+    nodes: &mut Nodes,
+    room: u32,
+    context: Context,
+    names: NameSet<'s>,
+    tokens: &'t [Token<'s>],
+) -> ParsedStatements<'t, 's>
+    requires { room ≤ 203 }
+    ensures gives { Gives (λ x. (statements_view x.0, tokens_view x.2.now)) result (productions.items_at (below room) (context_view context) names.entry (tokens_view tokens.now)) }
+    ensures deep { IfOk result (λ x. (x.1 ≡ height_of_statements (statements_view x.0)) × (x.1 ≤ room)) }
+{
+    let mut names = names;
+    let mut items = Vec::new(nodes.alloc());
+    // the height of the statements, and the tokens after them
+    let mut read = (0, tokens);
+    'items: while !ends_list(read.1) {
+        let (item, height, rest) = item_below(nodes, room, context, &mut names, read.1)?;
+        items.push(item)?;
+        read = (deeper(read.0, height), rest);
+    }
+    Ok((statements_of(items), read.0, read.1))
+}
+
+// Statements in braces that declare other names than these.
+#[cycle(parser)]
+#[tactic(auto, unfolding(js_syntax::specs::Productions::braces))]
+pub fn braces_at<'t, 's>(
+    nodes: &mut Nodes,
+    room: u32,
+    context: Context,
+    names: NameSet<'s>,
+    tokens: &'t [Token<'s>],
+) -> ParsedStatements<'t, 's>
+    requires { room < 203 }
+    ensures gives { Gives (λ x. (statements_view x.0, tokens_view x.2.now)) result (productions.braces (below room) (context_view context) names.entry (tokens_view tokens.now)) }
+    ensures deep { IfOk result (λ x. (x.1 ≡ height_of_statements (statements_view x.0)) × (x.1 ≤ room)) }
+{
+    let rest = expect(TokenKind::LeftBrace, tokens)?;
+    let (body, height, rest) = items_at(nodes, room, context, names, rest)?;
+    let rest = expect(TokenKind::RightBrace, rest)?;
+    Ok((body, height, rest))
+}
+
+// The parameters of a function and its body.
+#[cycle(parser)]
+#[tactic(auto, unfolding(js_syntax::specs::Productions::code_at))]
+pub fn code_at<'t, 's>(
+    nodes: &mut Nodes,
+    room: u32,
+    tokens: &'t [Token<'s>],
+) -> ParsedFunction<'t, 's>
+    requires { room < 203 }
+    ensures gives { Gives (λ x. (function_view x.0, tokens_view x.2.now)) result (productions.code_at (below room) (tokens_view tokens.now)) }
+    ensures deep { IfOk result (λ x. (x.1 ≡ height_of_statements (statements_view x.0.body)) × (x.1 ≤ room)) }
+{
+    let (parameters, names, rest) = parameters_at(nodes.alloc(), tokens)?;
+    let (body, height, rest) = braces_at(nodes, room, Context::function_body(), names, rest)?;
+    Ok((FunctionParts { parameters, body }, height, rest))
+}

@@ -1,0 +1,169 @@
+//! Members and calls (ECMA-262, 13.3).
+
+ghost use Rattle.std.specs.Prelude.{◌≡◌, ◌≤◌, ◌<◌, ◌+◌, suc, max, Some, IfOk};
+ghost use Rattle.js_tree.specs.Height.{height};
+ghost use Rattle.js_tree.specs.Views.{expression_view};
+ghost use Rattle.js_syntax.specs.Giving.{Gives};
+ghost use Rattle.js_syntax.specs.Parsing as reading;
+ghost use Rattle.js_syntax.specs.Parsing.{below};
+ghost use Rattle.js_syntax.specs.Views.{tokens_view};
+ghost use Rattle.js_syntax.specs.Classes.{key};
+ghost use Rattle.js_syntax.specs.Classes as classes;
+ghost use Rattle.js_syntax.specs.Heads.{link_view};
+
+use crate::expressions::expression_below;
+use crate::lists::arguments_before;
+use crate::parsed::{Parsed, deeper};
+use crate::primaries::primary_at;
+use crate::words::word_at;
+use cdp_text::units::Units;
+use js_lexer::token::{Token, TokenKind};
+use js_syntax::classes::expressions::{Link, link_of};
+use js_syntax::fault::ParseError;
+use js_syntax::nodes::Nodes;
+use js_syntax::token::{expect, tail};
+use js_tree::expressions::{call, index, member};
+use js_tree::tree::Expr;
+
+// A CallExpression or a MemberExpression, at most `room` high.
+#[cycle(parser)]
+#[tactic(auto, unfolding(js_syntax::specs::Parsing::below))]
+pub fn call_below<'t, 's>(nodes: &mut Nodes, room: u32, tokens: &'t [Token<'s>]) -> Parsed<'t, 's>
+    requires { room ≤ 203 }
+    ensures gives { Gives (λ x. (expression_view x.0, tokens_view x.2.now)) result ((below room).call (tokens_view tokens.now)) }
+    ensures deep { IfOk result (λ x. (x.1 ≡ height (expression_view x.0)) × (x.1 ≤ room)) }
+{
+    if room == 0 {
+        return Err(ParseError::TooDeep { left: tokens.len() });
+    }
+    call_at(nodes, room - 1, tokens)
+}
+
+// A CallExpression or a MemberExpression.
+#[cycle(parser)]
+#[tactic(auto, unfolding(js_syntax::specs::Parsing::call))]
+pub fn call_at<'t, 's>(nodes: &mut Nodes, room: u32, tokens: &'t [Token<'s>]) -> Parsed<'t, 's>
+    requires { room < 203 }
+    ensures gives { Gives (λ x. (expression_view x.0, tokens_view x.2.now)) result (reading.call (below room) room (tokens_view tokens.now)) }
+    ensures deep { IfOk result (λ x. (x.1 ≡ height (expression_view x.0)) × (x.1 ≤ room + 1)) }
+{
+    let (callee, height, rest) = primary_at(nodes, room, tokens)?;
+    links_at(nodes, room, room + 1, callee, height, tokens, rest)
+}
+
+// Members and calls of what was read from the start.
+#[cycle(parser)]
+#[tactic(auto, unfolding(js_syntax::specs::Parsing::links))]
+fn links_at<'t, 's>(
+    nodes: &mut Nodes,
+    room: u32,
+    turns: u32,
+    object: Expr,
+    object_height: u32,
+    start: &[Token<'s>],
+    tokens: &'t [Token<'s>],
+) -> Parsed<'t, 's>
+    requires room { room < 203 }
+    requires few { turns ≤ room + 1 }
+    requires deep { object_height ≡ height (expression_view object) }
+    requires low { object_height ≤ room + 1 }
+    ensures gives { Gives (λ x. (expression_view x.0, tokens_view x.2.now)) result (reading.links (below room) room turns (expression_view object) (tokens_view tokens.now)) }
+    ensures deep { IfOk result (λ x. (x.1 ≡ height (expression_view x.0)) × (x.1 ≤ room + 1)) }
+{
+    if turns == 0 {
+        return Err(ParseError::TooDeep { left: tokens.len() });
+    }
+    let Some(link) = link_of(tokens) else {
+        return Ok((object, object_height, tokens));
+    };
+    if object_height > room {
+        return Err(ParseError::TooDeep {
+            left: tail(tokens).len(),
+        });
+    }
+    let (tree, height, rest) = linked_at(nodes, room, link, object, object_height, start, tokens)?;
+    links_at(nodes, room, turns - 1, tree, height, start, rest)
+}
+
+// One member or call of what was read from the start.
+#[cycle(parser)]
+fn linked_at<'t, 's>(
+    nodes: &mut Nodes,
+    room: u32,
+    link: Link,
+    object: Expr,
+    object_height: u32,
+    start: &[Token<'s>],
+    tokens: &'t [Token<'s>],
+) -> Parsed<'t, 's>
+    requires room { room < 203 }
+    requires deep { object_height ≡ height (expression_view object) }
+    requires low { object_height ≤ room }
+    ensures gives { Gives (λ x. (expression_view x.0, tokens_view x.2.now)) result (reading.linked_by (below room) (expression_view object) (link_view (Some link)) (tokens_view tokens.now)) }
+    ensures deep { IfOk result (λ x. (x.1 ≡ height (expression_view x.0)) × (x.1 ≤ room + 1)) }
+{
+    match link {
+        Link::Dot => {
+            let (text, rest) = word_at(tail(tokens))?;
+            let node = nodes.add(start, rest)?;
+            let name = Units::from_slice(nodes.alloc(), text)?;
+            let tree = member(nodes.alloc(), node, object, name)?;
+            Ok((tree, object_height + 1, rest))
+        }
+        Link::Key => indexed_at(nodes, room, object, object_height, start, tokens),
+        Link::Arguments => called_at(nodes, room, object, object_height, start, tokens),
+    }
+}
+
+// The key of a member of what was read from the start.
+#[cycle(parser)]
+fn indexed_at<'t, 's>(
+    nodes: &mut Nodes,
+    room: u32,
+    object: Expr,
+    object_height: u32,
+    start: &[Token<'s>],
+    tokens: &'t [Token<'s>],
+) -> Parsed<'t, 's>
+    requires room { room < 203 }
+    requires deep { object_height ≡ height (expression_view object) }
+    requires low { object_height ≤ room }
+    ensures gives { Gives (λ x. (expression_view x.0, tokens_view x.2.now)) result (reading.linked_by (below room) (expression_view object) key (tokens_view tokens.now)) }
+    ensures deep { IfOk result (λ x. (x.1 ≡ height (expression_view x.0)) × (x.1 ≤ room + 1)) }
+{
+    let rest = expect(TokenKind::LeftBracket, tokens)?;
+    let (key, key_height, rest) = expression_below(nodes, room, rest)?;
+    let rest = expect(TokenKind::RightBracket, rest)?;
+    let node = nodes.add(start, rest)?;
+    let tree = index(nodes.alloc(), node, object, key)?;
+    Ok((tree, deeper(object_height, key_height) + 1, rest))
+}
+
+// The arguments of a call of what was read from the start.
+#[cycle(parser)]
+fn called_at<'t, 's>(
+    nodes: &mut Nodes,
+    room: u32,
+    object: Expr,
+    object_height: u32,
+    start: &[Token<'s>],
+    tokens: &'t [Token<'s>],
+) -> Parsed<'t, 's>
+    requires room { room < 203 }
+    requires deep { object_height ≡ height (expression_view object) }
+    requires low { object_height ≤ room }
+    ensures gives { Gives (λ x. (expression_view x.0, tokens_view x.2.now)) result (reading.linked_by (below room) (expression_view object) classes.arguments (tokens_view tokens.now)) }
+    ensures deep { IfOk result (λ x. (x.1 ≡ height (expression_view x.0)) × (x.1 ≤ room + 1)) }
+{
+    let rest = expect(TokenKind::LeftParenthesis, tokens)?;
+    let (arguments, height, rest) = arguments_before(
+        nodes,
+        room,
+        TokenKind::RightParenthesis,
+        rest,
+    )?;
+    let node = nodes.add(start, rest)?;
+    let parentheses = nodes.add(tokens, rest)?;
+    let tree = call(nodes.alloc(), node, object, parentheses, arguments)?;
+    Ok((tree, deeper(object_height, height) + 1, rest))
+}

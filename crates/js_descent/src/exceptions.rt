@@ -1,0 +1,123 @@
+//! `try` (ECMA-262, 14.15).
+
+ghost use Rattle.std.specs.Prelude.{◌≡◌, ◌≤◌, ◌<◌, ◌+◌, suc, max, IfOk};
+ghost use Rattle.js_tree.specs.Height.{height_of_finalizer, height_of_handler, height_of_statement};
+ghost use Rattle.js_tree.specs.Views.{catch_view, finalizer_view, handler_view, statement_view};
+ghost use Rattle.js_syntax.specs.Giving.{Gives};
+ghost use Rattle.js_syntax.specs.Kinds.{is_kind};
+ghost use Rattle.js_syntax.specs.Parsing as reading;
+ghost use Rattle.js_syntax.specs.Parsing.{below};
+ghost use Rattle.js_syntax.specs.Views.{tokens_view};
+ghost use Rattle.js_tree.specs.Tokens.{head_of};
+ghost use Rattle.js_lexer.specs.declared.token.TokenKind.TheVariants as kinds;
+ghost use Rattle.js_descent.specs.Views.{context_view};
+
+use crate::blocks::block_below;
+use crate::context::Context;
+use crate::parsed::{ParsedCatch, ParsedFinalizer, ParsedHandler, ParsedStatement, deeper};
+use crate::words::name_at;
+use cdp_text::units::Units;
+use js_lexer::token::{Token, TokenKind};
+use js_syntax::fault::ParseError;
+use js_syntax::name_set::NameSet;
+use js_syntax::nodes::Nodes;
+use js_syntax::token::{expect, is_next, tail};
+use js_tree::parts::catch_clause;
+use js_tree::statements::try_statement;
+use js_tree::tree::Catch;
+
+// `try` with its blocks.
+#[cycle(parser)]
+#[tactic(auto, unfolding(js_syntax::specs::Parsing::try_at))]
+pub fn try_at<'t, 's>(
+    nodes: &mut Nodes,
+    room: u32,
+    context: Context,
+    tokens: &'t [Token<'s>],
+) -> ParsedStatement<'t, 's>
+    requires { room < 203 }
+    ensures gives { Gives (λ x. (statement_view x.0, tokens_view x.2.now)) result (reading.try_at (below room) (context_view context) (tokens_view tokens.now)) }
+    ensures deep { IfOk result (λ x. (x.1 ≡ height_of_statement (statement_view x.0)) × (x.1 ≤ room + 1)) }
+{
+    let rest = expect(TokenKind::Try, tokens)?;
+    let names = NameSet::new(nodes.alloc());
+    let (block, block_height, rest) = block_below(nodes, room, context, names, rest)?;
+    let (handler, handler_height, rest) = handler_at(nodes, room, context, rest)?;
+    let (finalizer, finalizer_height, rest) = finalizer_at(nodes, room, context, &handler, rest)?;
+    let node = nodes.add(tokens, rest)?;
+    let tree = try_statement(node, block, handler, finalizer);
+    let height = deeper(block_height, deeper(handler_height, finalizer_height));
+    Ok((tree, height + 1, rest))
+}
+
+// `catch` with its block, or nothing.
+#[cycle(parser)]
+#[tactic(auto, unfolding(js_syntax::specs::Parsing::handler_at))]
+fn handler_at<'t, 's>(
+    nodes: &mut Nodes,
+    room: u32,
+    context: Context,
+    tokens: &'t [Token<'s>],
+) -> ParsedHandler<'t, 's>
+    requires { room < 203 }
+    ensures gives { Gives (λ x. (handler_view x.0, tokens_view x.2.now)) result (reading.handler_at (below room) (context_view context) (tokens_view tokens.now)) }
+    ensures deep { IfOk result (λ x. (x.1 ≡ height_of_handler (handler_view x.0)) × (x.1 ≤ room)) }
+{
+    if !is_next(TokenKind::Catch, tokens) {
+        return Ok((None, 0, tokens));
+    }
+    let (handler, height, rest) = catch_at(nodes, room, context, tail(tokens))?;
+    Ok((Some(handler), height, rest))
+}
+
+// The block of a `catch` with its name, if it has one.
+#[cycle(parser)]
+fn catch_at<'t, 's>(
+    nodes: &mut Nodes,
+    room: u32,
+    context: Context,
+    tokens: &'t [Token<'s>],
+) -> ParsedCatch<'t, 's>
+    requires { room < 203 }
+    ensures gives { Gives (λ x. (catch_view x.0, tokens_view x.2.now)) result (reading.catch_by (below room) (context_view context) (is_kind kinds.LeftParenthesis (head_of (tokens_view tokens.now))) (tokens_view tokens.now)) }
+    ensures deep { IfOk result (λ x. (x.1 ≡ height_of_handler (catch_view x.0)) × (x.1 ≤ room)) }
+{
+    let mut names = NameSet::new(nodes.alloc());
+    if !is_next(TokenKind::LeftParenthesis, tokens) {
+        let (block, height, rest) = block_below(nodes, room, context, names, tokens)?;
+        return Ok((catch_clause(None, block), height, rest));
+    }
+    let rest = expect(TokenKind::LeftParenthesis, tokens)?;
+    let (text, rest) = name_at(rest)?;
+    let rest = expect(TokenKind::RightParenthesis, rest)?;
+    names.insert(text)?;
+    let (block, height, rest) = block_below(nodes, room, context, names, rest)?;
+    let name = Units::from_slice(nodes.alloc(), text)?;
+    Ok((catch_clause(Some(name), block), height, rest))
+}
+
+// `finally` with its block, or nothing behind a `catch`.
+#[cycle(parser)]
+#[tactic(auto, unfolding(js_syntax::specs::Parsing::finalizer_at))]
+fn finalizer_at<'t, 's>(
+    nodes: &mut Nodes,
+    room: u32,
+    context: Context,
+    handler: &Option<Catch>,
+    tokens: &'t [Token<'s>],
+) -> ParsedFinalizer<'t, 's>
+    requires { room < 203 }
+    ensures gives { Gives (λ x. (finalizer_view x.0, tokens_view x.2.now)) result (reading.finalizer_at (below room) (context_view context) (handler_view handler.now) (tokens_view tokens.now)) }
+    ensures deep { IfOk result (λ x. (x.1 ≡ height_of_finalizer (finalizer_view x.0)) × (x.1 ≤ room)) }
+{
+    if is_next(TokenKind::Finally, tokens) {
+        let rest = expect(TokenKind::Finally, tokens)?;
+        let names = NameSet::new(nodes.alloc());
+        let (block, height, rest) = block_below(nodes, room, context, names, rest)?;
+        return Ok((Some(block), height, rest));
+    }
+    if handler.is_none() {
+        return Err(ParseError::Syntax { left: tokens.len() });
+    }
+    Ok((None, 0, tokens))
+}

@@ -1,0 +1,224 @@
+//! Assignments, conditional expressions and comma lists (ECMA-262, 13.14 to 13.16).
+
+ghost use Rattle.std.specs.Prelude.{◌≡◌, ◌≤◌, ◌<◌, ◌+◌, suc, max, Some, IfOk};
+ghost use Rattle.js_tree.specs.Height.{height};
+ghost use Rattle.js_tree.specs.Views.{expression_view};
+ghost use Rattle.js_syntax.specs.Giving.{Gives};
+ghost use Rattle.js_syntax.specs.Parsing as reading;
+ghost use Rattle.js_syntax.specs.Parsing.{below};
+ghost use Rattle.js_syntax.specs.Views.{tokens_view};
+ghost use Rattle.js_syntax.specs.Classes.{question, assigns_by};
+ghost use Rattle.std.specs.Prelude.{true};
+ghost use Rattle.js_syntax.specs.Heads.{joint_view};
+
+use crate::arrows::{arrow_of_list, arrow_of_one};
+use crate::lists::more_assignments;
+use crate::operators::operation_at;
+use crate::parsed::{Parsed, deeper};
+use crate::targets::{assignment_kind, is_target};
+use js_lexer::token::{Token, TokenKind};
+use js_syntax::classes::arrows::{Head, arrow_head};
+use js_syntax::classes::expressions::{Joint, joint_of};
+use js_syntax::fault::ParseError;
+use js_syntax::nodes::Nodes;
+use js_syntax::token::{expect, is_next, tail};
+use js_tree::expressions::{assign, comma, conditional};
+use js_tree::operator::AssignmentOperator;
+use js_tree::parts::expressions_of;
+use js_tree::tree::Expr;
+
+// An Expression, at most `room` high.
+#[cycle(parser)]
+#[tactic(auto, unfolding(js_syntax::specs::Parsing::below))]
+pub fn expression_below<'t, 's>(
+    nodes: &mut Nodes,
+    room: u32,
+    tokens: &'t [Token<'s>],
+) -> Parsed<'t, 's>
+    requires { room ≤ 203 }
+    ensures gives { Gives (λ x. (expression_view x.0, tokens_view x.2.now)) result ((below room).expression (tokens_view tokens.now)) }
+    ensures deep { IfOk result (λ x. (x.1 ≡ height (expression_view x.0)) × (x.1 ≤ room)) }
+{
+    if room == 0 {
+        return Err(ParseError::TooDeep { left: tokens.len() });
+    }
+    expression_at(nodes, room - 1, tokens)
+}
+
+// An AssignmentExpression, at most `room` high.
+#[cycle(parser)]
+#[tactic(auto, unfolding(js_syntax::specs::Parsing::below))]
+pub fn assignment_below<'t, 's>(
+    nodes: &mut Nodes,
+    room: u32,
+    tokens: &'t [Token<'s>],
+) -> Parsed<'t, 's>
+    requires { room ≤ 203 }
+    ensures gives { Gives (λ x. (expression_view x.0, tokens_view x.2.now)) result ((below room).assignment (tokens_view tokens.now)) }
+    ensures deep { IfOk result (λ x. (x.1 ≡ height (expression_view x.0)) × (x.1 ≤ room)) }
+{
+    if room == 0 {
+        return Err(ParseError::TooDeep { left: tokens.len() });
+    }
+    assignment_at(nodes, room - 1, tokens)
+}
+
+// An Expression (13.16).
+#[cycle(parser)]
+#[tactic(auto, unfolding(js_syntax::specs::Parsing::expression))]
+pub fn expression_at<'t, 's>(
+    nodes: &mut Nodes,
+    room: u32,
+    tokens: &'t [Token<'s>],
+) -> Parsed<'t, 's>
+    requires { room < 203 }
+    ensures gives { Gives (λ x. (expression_view x.0, tokens_view x.2.now)) result (reading.expression (below room) room (tokens_view tokens.now)) }
+    ensures deep { IfOk result (λ x. (x.1 ≡ height (expression_view x.0)) × (x.1 ≤ room + 1)) }
+{
+    let (first, height, rest) = assignment_at(nodes, room, tokens)?;
+    if is_next(TokenKind::Comma, rest) {
+        comma_at(nodes, room, first, height, tokens, rest)
+    } else {
+        Ok((first, height, rest))
+    }
+}
+
+// A comma list whose first expression was read from the start.
+#[cycle(parser)]
+#[tactic(auto, unfolding(js_syntax::specs::Productions::more_assignments))]
+fn comma_at<'t, 's>(
+    nodes: &mut Nodes,
+    room: u32,
+    first: Expr,
+    first_height: u32,
+    start: &[Token<'s>],
+    tokens: &'t [Token<'s>],
+) -> Parsed<'t, 's>
+    requires room { room < 203 }
+    requires deep { first_height ≡ height (expression_view first) }
+    requires low { first_height ≤ room + 1 }
+    ensures gives { Gives (λ x. (expression_view x.0, tokens_view x.2.now)) result (reading.comma_by (below room) room (expression_view first) true (tokens_view tokens.now)) }
+    ensures deep { IfOk result (λ x. (x.1 ≡ height (expression_view x.0)) × (x.1 ≤ room + 1)) }
+{
+    if first_height > room {
+        return Err(ParseError::TooDeep {
+            left: tail(tokens).len(),
+        });
+    }
+    let (mut items, height, rest) = more_assignments(nodes, room, tokens)?;
+    items.insert(0, first)?;
+    let node = nodes.add(start, rest)?;
+    let tree = comma(node, expressions_of(items));
+    Ok((tree, deeper(first_height, height) + 1, rest))
+}
+
+// An AssignmentExpression (13.15).
+#[cycle(parser)]
+#[tactic(auto, unfolding(js_syntax::specs::Parsing::assignment))]
+pub fn assignment_at<'t, 's>(
+    nodes: &mut Nodes,
+    room: u32,
+    tokens: &'t [Token<'s>],
+) -> Parsed<'t, 's>
+    requires { room < 203 }
+    ensures gives { Gives (λ x. (expression_view x.0, tokens_view x.2.now)) result (reading.assignment (below room) room (tokens_view tokens.now)) }
+    ensures deep { IfOk result (λ x. (x.1 ≡ height (expression_view x.0)) × (x.1 ≤ room + 1)) }
+{
+    match arrow_head(tokens) {
+        Some(Head::Name) => arrow_of_one(nodes, room, tokens),
+        Some(Head::List(only)) => arrow_of_list(nodes, room, only, tokens),
+        None => {
+            let (first, height, rest) = operation_at(nodes, room, 3, tokens)?;
+            joined_at(nodes, room, first, height, tokens, rest)
+        }
+    }
+}
+
+// What goes on behind the operation that was read from the start.
+#[cycle(parser)]
+#[tactic(auto, unfolding(js_syntax::specs::Parsing::joined))]
+fn joined_at<'t, 's>(
+    nodes: &mut Nodes,
+    room: u32,
+    first: Expr,
+    first_height: u32,
+    start: &[Token<'s>],
+    tokens: &'t [Token<'s>],
+) -> Parsed<'t, 's>
+    requires room { room < 203 }
+    requires deep { first_height ≡ height (expression_view first) }
+    requires low { first_height ≤ room + 1 }
+    ensures gives { Gives (λ x. (expression_view x.0, tokens_view x.2.now)) result (reading.joined (below room) room (expression_view first) (tokens_view tokens.now)) }
+    ensures deep { IfOk result (λ x. (x.1 ≡ height (expression_view x.0)) × (x.1 ≤ room + 1)) }
+{
+    match joint_of(tokens) {
+        Some(Joint::Question) => conditional_at(nodes, room, first, first_height, start, tokens),
+        Some(Joint::Assigns(operator)) => {
+            assigned_at(nodes, room, operator, first, first_height, start, tokens)
+        }
+        None => Ok((first, first_height, tokens)),
+    }
+}
+
+// A ConditionalExpression (13.14) whose test was read from the start.
+#[cycle(parser)]
+fn conditional_at<'t, 's>(
+    nodes: &mut Nodes,
+    room: u32,
+    first: Expr,
+    first_height: u32,
+    start: &[Token<'s>],
+    tokens: &'t [Token<'s>],
+) -> Parsed<'t, 's>
+    requires room { room < 203 }
+    requires deep { first_height ≡ height (expression_view first) }
+    requires low { first_height ≤ room + 1 }
+    ensures gives { Gives (λ x. (expression_view x.0, tokens_view x.2.now)) result (reading.joined_by (below room) room (expression_view first) question (tokens_view tokens.now)) }
+    ensures deep { IfOk result (λ x. (x.1 ≡ height (expression_view x.0)) × (x.1 ≤ room + 1)) }
+{
+    if first_height > room {
+        return Err(ParseError::TooDeep {
+            left: tail(tokens).len(),
+        });
+    }
+    let rest = expect(TokenKind::Question, tokens)?;
+    let (consequent, consequent_height, rest) = assignment_below(nodes, room, rest)?;
+    let rest = expect(TokenKind::Colon, rest)?;
+    let (alternate, alternate_height, rest) = assignment_below(nodes, room, rest)?;
+    let node = nodes.add(start, rest)?;
+    let tree = conditional(nodes.alloc(), node, first, consequent, alternate)?;
+    let branches_height = deeper(consequent_height, alternate_height);
+    Ok((tree, deeper(first_height, branches_height) + 1, rest))
+}
+
+// An assignment (13.15) whose target was read from the start.
+#[cycle(parser)]
+fn assigned_at<'t, 's>(
+    nodes: &mut Nodes,
+    room: u32,
+    operator: AssignmentOperator,
+    first: Expr,
+    first_height: u32,
+    start: &[Token<'s>],
+    tokens: &'t [Token<'s>],
+) -> Parsed<'t, 's>
+    requires room { room < 203 }
+    requires deep { first_height ≡ height (expression_view first) }
+    requires low { first_height ≤ room + 1 }
+    ensures gives { Gives (λ x. (expression_view x.0, tokens_view x.2.now)) result (reading.joined_by (below room) room (expression_view first) (assigns_by operator) (tokens_view tokens.now)) }
+    ensures deep { IfOk result (λ x. (x.1 ≡ height (expression_view x.0)) × (x.1 ≤ room + 1)) }
+{
+    if !is_target(&first) {
+        return Err(ParseError::Syntax { left: tokens.len() });
+    }
+    if first_height > room {
+        return Err(ParseError::TooDeep {
+            left: tail(tokens).len(),
+        });
+    }
+    let rest = expect(assignment_kind(operator), tokens)?;
+    let (value, height, rest) = assignment_below(nodes, room, rest)?;
+    let node = nodes.add(start, rest)?;
+    let tree = assign(nodes.alloc(), node, operator, first, value)?;
+    Ok((tree, deeper(first_height, height) + 1, rest))
+}

@@ -1,0 +1,94 @@
+//! Lists of expressions.
+
+ghost use Rattle.std.specs.Prelude.{◌≡◌, ◌≤◌, ◌<◌, ◌+◌, suc, length, map, IfOk};
+ghost use Rattle.js_tree.specs.Height.{height};
+ghost use Rattle.js_tree.specs.Views.{expression_view};
+ghost use Rattle.js_syntax.specs.Giving.{Gives};
+ghost use Rattle.js_syntax.specs.Parsing as reading;
+ghost use Rattle.js_syntax.specs.Parsing.{below};
+ghost use Rattle.js_syntax.specs.Views.{tokens_view};
+ghost use Rattle.js_tree.specs.Height.{height_of_expressions};
+ghost use Rattle.js_tree.specs.Views.{expressions, expressions_view};
+ghost use Rattle.js_syntax.specs.Productions as productions;
+ghost use Rattle.js_syntax.specs.Productions.{one_of};
+ghost use Rattle.js_syntax.specs.Reading.{elements, others, no_state};
+
+use crate::expressions::assignment_below;
+use crate::parsed::{ParsedExpressions, ParsedItems, deeper, nothing_read};
+use js_lexer::token::{Token, TokenKind};
+use js_syntax::classes::lists::{After, after_of};
+use js_syntax::fault::ParseError;
+use js_syntax::nodes::Nodes;
+use js_syntax::token::{is_next, tail};
+use js_tree::parts::expressions_of;
+
+// Elements or arguments up to the token that ends them, before which a comma may stand.
+#[cycle(parser)]
+#[tactic(auto, unfolding(js_syntax::specs::Productions::arguments_before))]
+pub fn arguments_before<'t, 's>(
+    nodes: &mut Nodes,
+    room: u32,
+    closer: TokenKind,
+    tokens: &'t [Token<'s>],
+) -> ParsedExpressions<'t, 's>
+    requires { room < 203 }
+    ensures gives { Gives (λ x. (expressions_view x.0, tokens_view x.2.now)) result (productions.arguments_before (below room) closer (tokens_view tokens.now)) }
+    ensures deep { IfOk result (λ x. (x.1 ≡ height_of_expressions (expressions_view x.0)) × (x.1 ≤ room)) }
+{
+    let (items, height, rest) = elements_before(nodes, room, closer, tokens)?;
+    Ok((expressions_of(items), height, rest))
+}
+
+// The same in a vector.
+#[cycle(parser)]
+fn elements_before<'t, 's>(
+    nodes: &mut Nodes,
+    room: u32,
+    closer: TokenKind,
+    tokens: &'t [Token<'s>],
+) -> ParsedItems<'t, 's>
+    requires { room < 203 }
+    ensures gives { Gives (λ x. (map expression_view x.0.items, tokens_view x.2.now)) result (elements (one_of (below room).assignment) no_state closer (suc (length (tokens_view tokens.now))) tt (tokens_view tokens.now)) }
+    ensures deep { IfOk result (λ x. (x.1 ≡ height_of_expressions (expressions (map expression_view x.0.items))) × (x.1 ≤ room)) }
+{
+    let mut items = Vec::new(nodes.alloc());
+    let mut height = 0;
+    let mut rest = tokens;
+    'elements: loop {
+        if is_next(closer, rest) {
+            return Ok((items, height, tail(rest)));
+        }
+        let (item, item_height, later) = assignment_below(nodes, room, rest)?;
+        items.push(item)?;
+        height = deeper(height, item_height);
+        match after_of(closer, later) {
+            Some(After::GoesOn) => rest = tail(later),
+            Some(After::Ends) => return Ok((items, height, tail(later))),
+            None => return Err(ParseError::Syntax { left: later.len() }),
+        }
+    }
+}
+
+// Further expressions, each behind a comma.
+#[cycle(parser)]
+pub fn more_assignments<'t, 's>(
+    nodes: &mut Nodes,
+    room: u32,
+    tokens: &'t [Token<'s>],
+) -> ParsedItems<'t, 's>
+    requires { room < 203 }
+    ensures gives { Gives (λ x. (map expression_view x.0.items, tokens_view x.2.now)) result (others (one_of (below room).assignment) no_state (suc (length (tokens_view tokens.now))) tt (tokens_view tokens.now)) }
+    ensures deep { IfOk result (λ x. (x.1 ≡ height_of_expressions (expressions (map expression_view x.0.items))) × (x.1 ≤ room)) }
+{
+    let mut items = Vec::new(nodes.alloc());
+    let (mut height, mut rest) = nothing_read(tokens);
+    'others: loop {
+        if !is_next(TokenKind::Comma, rest) {
+            return Ok((items, height, rest));
+        }
+        let (item, item_height, later) = assignment_below(nodes, room, tail(rest))?;
+        items.push(item)?;
+        height = deeper(height, item_height);
+        rest = later;
+    }
+}

@@ -1,0 +1,226 @@
+//! Operators, prefixes and postfixes (ECMA-262, 13.4 to 13.13).
+
+ghost use Rattle.std.specs.Prelude.{◌≡◌, ◌≤◌, ◌<◌, ◌+◌, suc, max, Some, IfOk};
+ghost use Rattle.js_tree.specs.Height.{height};
+ghost use Rattle.js_tree.specs.Views.{expression_view};
+ghost use Rattle.js_syntax.specs.Giving.{Gives};
+ghost use Rattle.js_syntax.specs.Parsing as reading;
+ghost use Rattle.js_syntax.specs.Parsing.{below};
+ghost use Rattle.js_syntax.specs.Views.{tokens_view};
+ghost use Rattle.js_syntax.specs.Classes.{operator, deletes, an_update};
+ghost use Rattle.js_tree.specs.Tokens.{head_of};
+ghost use Rattle.js_syntax.specs.Heads.{prefix_view};
+
+use crate::calls::{call_at, call_below};
+use crate::parsed::{Parsed, deeper};
+use crate::targets::{above, is_property, is_target, strength};
+use js_lexer::token::Token;
+use js_syntax::classes::expressions::{Prefix, operator_of, prefix_of, update_near};
+use js_syntax::fault::ParseError;
+use js_syntax::nodes::Nodes;
+use js_syntax::token::tail;
+use js_tree::expressions::{binary, postfix, prefix, unary};
+use js_tree::operator::{BinaryOperator, UnaryOperator, UpdateOperator};
+use js_tree::tree::Expr;
+
+// An operation of this strength at least, at most `room` high.
+#[cycle(parser)]
+#[tactic(auto, unfolding(js_syntax::specs::Parsing::below))]
+pub fn operation_below<'t, 's>(
+    nodes: &mut Nodes,
+    room: u32,
+    least: u32,
+    tokens: &'t [Token<'s>],
+) -> Parsed<'t, 's>
+    requires { room ≤ 203 }
+    ensures gives { Gives (λ x. (expression_view x.0, tokens_view x.2.now)) result ((below room).operation least (tokens_view tokens.now)) }
+    ensures deep { IfOk result (λ x. (x.1 ≡ height (expression_view x.0)) × (x.1 ≤ room)) }
+{
+    if room == 0 {
+        return Err(ParseError::TooDeep { left: tokens.len() });
+    }
+    operation_at(nodes, room - 1, least, tokens)
+}
+
+// A UnaryExpression, at most `room` high.
+#[cycle(parser)]
+#[tactic(auto, unfolding(js_syntax::specs::Parsing::below))]
+pub fn unary_below<'t, 's>(nodes: &mut Nodes, room: u32, tokens: &'t [Token<'s>]) -> Parsed<'t, 's>
+    requires { room ≤ 203 }
+    ensures gives { Gives (λ x. (expression_view x.0, tokens_view x.2.now)) result ((below room).unary (tokens_view tokens.now)) }
+    ensures deep { IfOk result (λ x. (x.1 ≡ height (expression_view x.0)) × (x.1 ≤ room)) }
+{
+    if room == 0 {
+        return Err(ParseError::TooDeep { left: tokens.len() });
+    }
+    unary_at(nodes, room - 1, tokens)
+}
+
+// An operation of this strength at least.
+#[cycle(parser)]
+#[tactic(auto, unfolding(js_syntax::specs::Parsing::operation))]
+pub fn operation_at<'t, 's>(
+    nodes: &mut Nodes,
+    room: u32,
+    least: u32,
+    tokens: &'t [Token<'s>],
+) -> Parsed<'t, 's>
+    requires { room < 203 }
+    ensures gives { Gives (λ x. (expression_view x.0, tokens_view x.2.now)) result (reading.operation (below room) room least (tokens_view tokens.now)) }
+    ensures deep { IfOk result (λ x. (x.1 ≡ height (expression_view x.0)) × (x.1 ≤ room + 1)) }
+{
+    let (left, left_height, rest) = unary_at(nodes, room, tokens)?;
+    chain_at(
+        nodes,
+        room,
+        least,
+        room + 1,
+        left,
+        left_height,
+        tokens,
+        rest,
+    )
+}
+
+// The next operator, if it binds at least so tightly.
+fn operator_from(least: u32, tokens: &[Token<'_>]) -> Option<BinaryOperator>
+    ensures { result ≡ reading.operator_from least (operator (head_of (tokens_view tokens.now))) }
+{
+    let operator = operator_of(tokens)?;
+    if least <= strength(operator) {
+        Some(operator)
+    } else {
+        None
+    }
+}
+
+// Operators to the right of what was read from the start.
+#[cycle(parser)]
+#[tactic(auto, unfolding(js_syntax::specs::Parsing::chain))]
+fn chain_at<'t, 's>(
+    nodes: &mut Nodes,
+    room: u32,
+    least: u32,
+    turns: u32,
+    left: Expr,
+    left_height: u32,
+    start: &[Token<'s>],
+    tokens: &'t [Token<'s>],
+) -> Parsed<'t, 's>
+    requires room { room < 203 }
+    requires few { turns ≤ room + 1 }
+    requires deep { left_height ≡ height (expression_view left) }
+    requires low { left_height ≤ room + 1 }
+    ensures gives { Gives (λ x. (expression_view x.0, tokens_view x.2.now)) result (reading.chain (below room) room least turns (expression_view left) (tokens_view tokens.now)) }
+    ensures deep { IfOk result (λ x. (x.1 ≡ height (expression_view x.0)) × (x.1 ≤ room + 1)) }
+{
+    if turns == 0 {
+        return Err(ParseError::TooDeep { left: tokens.len() });
+    }
+    let Some(operator) = operator_from(least, tokens) else {
+        return Ok((left, left_height, tokens));
+    };
+    if left_height > room {
+        return Err(ParseError::TooDeep {
+            left: tail(tokens).len(),
+        });
+    }
+    let (right, right_height, rest) = operation_below(nodes, room, above(operator), tail(tokens))?;
+    let node = nodes.add(start, rest)?;
+    let joined = binary(nodes.alloc(), node, operator, left, right)?;
+    let joined_height = deeper(left_height, right_height) + 1;
+    chain_at(
+        nodes,
+        room,
+        least,
+        turns - 1,
+        joined,
+        joined_height,
+        start,
+        rest,
+    )
+}
+
+// A UnaryExpression (13.5).
+#[cycle(parser)]
+#[tactic(auto, unfolding(js_syntax::specs::Parsing::unary))]
+pub fn unary_at<'t, 's>(nodes: &mut Nodes, room: u32, tokens: &'t [Token<'s>]) -> Parsed<'t, 's>
+    requires { room < 203 }
+    ensures gives { Gives (λ x. (expression_view x.0, tokens_view x.2.now)) result (reading.unary (below room) room (tokens_view tokens.now)) }
+    ensures deep { IfOk result (λ x. (x.1 ≡ height (expression_view x.0)) × (x.1 ≤ room + 1)) }
+{
+    match prefix_of(tokens) {
+        Some(Prefix::Delete) => deleted_at(nodes, room, tokens),
+        Some(Prefix::Unary(operator)) => {
+            let (operand, height, rest) = unary_below(nodes, room, tail(tokens))?;
+            let node = nodes.add(tokens, rest)?;
+            let tree = unary(nodes.alloc(), node, operator, operand)?;
+            Ok((tree, height + 1, rest))
+        }
+        Some(Prefix::Update(operator)) => updated_at(nodes, room, operator, tokens),
+        None => postfix_at(nodes, room, tokens),
+    }
+}
+
+// `delete` with its property.
+#[cycle(parser)]
+fn deleted_at<'t, 's>(nodes: &mut Nodes, room: u32, tokens: &'t [Token<'s>]) -> Parsed<'t, 's>
+    requires { room < 203 }
+    ensures gives { Gives (λ x. (expression_view x.0, tokens_view x.2.now)) result (reading.unary_by (below room) room deletes (tokens_view tokens.now)) }
+    ensures deep { IfOk result (λ x. (x.1 ≡ height (expression_view x.0)) × (x.1 ≤ room + 1)) }
+{
+    let (operand, height, rest) = call_below(nodes, room, tail(tokens))?;
+    if !is_property(&operand) {
+        return Err(ParseError::Syntax { left: rest.len() });
+    }
+    let node = nodes.add(tokens, rest)?;
+    let tree = unary(nodes.alloc(), node, UnaryOperator::Delete, operand)?;
+    Ok((tree, height + 1, rest))
+}
+
+// `++` or `--` before its target.
+#[cycle(parser)]
+fn updated_at<'t, 's>(
+    nodes: &mut Nodes,
+    room: u32,
+    operator: UpdateOperator,
+    tokens: &'t [Token<'s>],
+) -> Parsed<'t, 's>
+    requires { room < 203 }
+    ensures gives { Gives (λ x. (expression_view x.0, tokens_view x.2.now)) result (reading.unary_by (below room) room (an_update operator) (tokens_view tokens.now)) }
+    ensures deep { IfOk result (λ x. (x.1 ≡ height (expression_view x.0)) × (x.1 ≤ room + 1)) }
+{
+    let (operand, height, rest) = call_below(nodes, room, tail(tokens))?;
+    if !is_target(&operand) {
+        return Err(ParseError::Syntax { left: rest.len() });
+    }
+    let node = nodes.add(tokens, rest)?;
+    let tree = prefix(nodes.alloc(), node, operator, operand)?;
+    Ok((tree, height + 1, rest))
+}
+
+// An UpdateExpression without prefix (13.4).
+#[cycle(parser)]
+#[tactic(auto, unfolding(js_syntax::specs::Parsing::postfix))]
+fn postfix_at<'t, 's>(nodes: &mut Nodes, room: u32, tokens: &'t [Token<'s>]) -> Parsed<'t, 's>
+    requires { room < 203 }
+    ensures gives { Gives (λ x. (expression_view x.0, tokens_view x.2.now)) result (reading.postfix (below room) room (tokens_view tokens.now)) }
+    ensures deep { IfOk result (λ x. (x.1 ≡ height (expression_view x.0)) × (x.1 ≤ room + 1)) }
+{
+    let (operand, height, rest) = call_at(nodes, room, tokens)?;
+    let Some(operator) = update_near(rest) else {
+        return Ok((operand, height, rest));
+    };
+    if !is_target(&operand) {
+        return Err(ParseError::Syntax { left: rest.len() });
+    }
+    if height > room {
+        return Err(ParseError::TooDeep {
+            left: tail(rest).len(),
+        });
+    }
+    let after = tail(rest);
+    let node = nodes.add(tokens, after)?;
+    let tree = postfix(nodes.alloc(), node, operator, operand)?;
+    Ok((tree, height + 1, after))
+}

@@ -1,0 +1,134 @@
+//! Primary expressions (ECMA-262, 13.2).
+
+ghost use Rattle.std.specs.Prelude.{◌≡◌, ◌≤◌, ◌<◌, ◌+◌, suc, max, Some, IfOk};
+ghost use Rattle.js_tree.specs.Height.{height};
+ghost use Rattle.js_tree.specs.Views.{expression_view};
+ghost use Rattle.js_syntax.specs.Giving.{Gives};
+ghost use Rattle.js_syntax.specs.Parsing as reading;
+ghost use Rattle.js_syntax.specs.Parsing.{below};
+ghost use Rattle.js_syntax.specs.Views.{tokens_view};
+ghost use Rattle.js_syntax.specs.Classes.{bracket, brace, parenthesis, function_word};
+
+use crate::blocks::code_at;
+use crate::expressions::expression_below;
+use crate::lists::arguments_before;
+use crate::objects::properties_at;
+use crate::parsed::Parsed;
+use crate::words::{name_at, single};
+use cdp_text::units::Units;
+use js_lexer::strings::string_value;
+use js_lexer::token::{Token, TokenKind};
+use js_syntax::classes::expressions::{Start, start_of};
+use js_syntax::classes::lists::is_name_next;
+use js_syntax::fault::ParseError;
+use js_syntax::nodes::Nodes;
+use js_syntax::token::{expect, tail};
+use js_tree::expressions::{
+    array, boolean, function, name, null, number, object, parenthesized, string, this,
+};
+
+// A PrimaryExpression.
+#[cycle(parser)]
+#[tactic(auto, unfolding(js_syntax::specs::Parsing::primary))]
+pub fn primary_at<'t, 's>(nodes: &mut Nodes, room: u32, tokens: &'t [Token<'s>]) -> Parsed<'t, 's>
+    requires { room < 203 }
+    ensures gives { Gives (λ x. (expression_view x.0, tokens_view x.2.now)) result (reading.primary (below room) room (tokens_view tokens.now)) }
+    ensures deep { IfOk result (λ x. (x.1 ≡ height (expression_view x.0)) × (x.1 ≤ room + 1)) }
+{
+    match start_of(tokens) {
+        Start::This => {
+            let (node, rest) = single(nodes, tokens)?;
+            Ok((this(node), 1, rest))
+        }
+        Start::Name(text) => {
+            let (node, rest) = single(nodes, tokens)?;
+            Ok((name(node, Units::from_slice(nodes.alloc(), text)?), 1, rest))
+        }
+        Start::Number(value) => {
+            let (node, rest) = single(nodes, tokens)?;
+            Ok((number(node, value), 1, rest))
+        }
+        Start::String(text) => {
+            let (node, rest) = single(nodes, tokens)?;
+            Ok((string(node, string_value(nodes.alloc(), text)?), 1, rest))
+        }
+        Start::Boolean(value) => {
+            let (node, rest) = single(nodes, tokens)?;
+            Ok((boolean(node, value), 1, rest))
+        }
+        Start::Null => {
+            let (node, rest) = single(nodes, tokens)?;
+            Ok((null(node), 1, rest))
+        }
+        Start::Bracket => array_at(nodes, room, tokens),
+        Start::Brace => object_at(nodes, room, tokens),
+        Start::Parenthesis => parenthesized_at(nodes, room, tokens),
+        Start::Function => function_at(nodes, room, tokens, tail(tokens)),
+        Start::Other => Err(ParseError::Syntax { left: tokens.len() }),
+    }
+}
+
+// A ParenthesizedExpression (13.2.9).
+#[cycle(parser)]
+fn parenthesized_at<'t, 's>(nodes: &mut Nodes, room: u32, tokens: &'t [Token<'s>]) -> Parsed<'t, 's>
+    requires { room < 203 }
+    ensures gives { Gives (λ x. (expression_view x.0, tokens_view x.2.now)) result (reading.primary_by (below room) room parenthesis (tokens_view tokens.now)) }
+    ensures deep { IfOk result (λ x. (x.1 ≡ height (expression_view x.0)) × (x.1 ≤ room + 1)) }
+{
+    let rest = expect(TokenKind::LeftParenthesis, tokens)?;
+    let (inner, height, rest) = expression_below(nodes, room, rest)?;
+    let rest = expect(TokenKind::RightParenthesis, rest)?;
+    let node = nodes.add(tokens, rest)?;
+    let tree = parenthesized(nodes.alloc(), node, inner)?;
+    Ok((tree, height + 1, rest))
+}
+
+// An ArrayLiteral (13.2.4).
+#[cycle(parser)]
+fn array_at<'t, 's>(nodes: &mut Nodes, room: u32, tokens: &'t [Token<'s>]) -> Parsed<'t, 's>
+    requires { room < 203 }
+    ensures gives { Gives (λ x. (expression_view x.0, tokens_view x.2.now)) result (reading.primary_by (below room) room bracket (tokens_view tokens.now)) }
+    ensures deep { IfOk result (λ x. (x.1 ≡ height (expression_view x.0)) × (x.1 ≤ room + 1)) }
+{
+    let rest = expect(TokenKind::LeftBracket, tokens)?;
+    let (elements, height, rest) = arguments_before(nodes, room, TokenKind::RightBracket, rest)?;
+    let node = nodes.add(tokens, rest)?;
+    Ok((array(node, elements), height + 1, rest))
+}
+
+// An ObjectLiteral (13.2.5).
+#[cycle(parser)]
+fn object_at<'t, 's>(nodes: &mut Nodes, room: u32, tokens: &'t [Token<'s>]) -> Parsed<'t, 's>
+    requires { room < 203 }
+    ensures gives { Gives (λ x. (expression_view x.0, tokens_view x.2.now)) result (reading.primary_by (below room) room brace (tokens_view tokens.now)) }
+    ensures deep { IfOk result (λ x. (x.1 ≡ height (expression_view x.0)) × (x.1 ≤ room + 1)) }
+{
+    let (properties, height, rest) = properties_at(nodes, room, tail(tokens))?;
+    let node = nodes.add(tokens, rest)?;
+    Ok((object(node, properties), height + 1, rest))
+}
+
+// A FunctionExpression (15.2) from the start, behind its keyword.
+#[cycle(parser)]
+#[tactic(auto, unfolding(js_syntax::specs::Parsing::function_at))]
+pub fn function_at<'t, 's>(
+    nodes: &mut Nodes,
+    room: u32,
+    start: &[Token<'s>],
+    tokens: &'t [Token<'s>],
+) -> Parsed<'t, 's>
+    requires { room < 203 }
+    ensures gives { Gives (λ x. (expression_view x.0, tokens_view x.2.now)) result (reading.function_at (below room) (tokens_view tokens.now)) }
+    ensures deep { IfOk result (λ x. (x.1 ≡ height (expression_view x.0)) × (x.1 ≤ room + 1)) }
+{
+    let (text, rest) = if is_name_next(tokens) {
+        let (text, rest) = name_at(tokens)?;
+        (Some(Units::from_slice(nodes.alloc(), text)?), rest)
+    } else {
+        (None, tokens)
+    };
+    let (code, height, rest) = code_at(nodes, room, rest)?;
+    let node = nodes.add(start, rest)?;
+    let tree = function(node, text, code.parameters, code.body);
+    Ok((tree, height + 1, rest))
+}

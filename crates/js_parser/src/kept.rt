@@ -1,0 +1,38 @@
+//! What an answer keeps beside its tree.
+
+ghost use Rattle.std.specs.Prelude.{◌≡◌, length, All, IfErr, IfOk};
+ghost use Rattle.cdp_text.specs.Units.{utf16_of};
+ghost use Rattle.js_syntax.specs.declared.fault.ParseFault.TheVariants.{Memory};
+ghost use Rattle.js_tree.specs.Spans.{IsWithin};
+
+use cdp_text::units::{Units, units_of};
+use js_syntax::fault::ParseFault;
+use js_syntax::nodes::Nodes;
+use js_tree::node::Spans;
+use std::alloc::Global;
+
+/// The text of a source.
+pub fn text_of(alloc: Global, source: &[u16]) -> Result<Units, ParseFault>
+    ensures text { IfOk result (λ text. text ≡ source.now) }
+    ensures fault { IfErr result (λ f. f ≡ Memory) }
+{
+    Units::from_slice(alloc, source).map_err(|_| ParseFault::Memory)
+}
+
+/// The UTF-16 form of a URL.
+pub fn url_of(alloc: Global, url: &str) -> Result<Units, ParseFault>
+    ensures url { IfOk result (λ units. units ≡ utf16_of url.now) }
+    ensures fault { IfErr result (λ f. f ≡ Memory) }
+{
+    units_of(alloc, url).map_err(|_| ParseFault::Memory)
+}
+
+/// The spans of the nodes that were made for a source.
+pub fn spans_of(nodes: &Nodes, source: &[u16]) -> Result<Spans, ParseFault>
+    ensures within { IfOk result (λ spans. All (IsWithin (length source.now)) spans) }
+    ensures fault { IfErr result (λ f. f ≡ Memory) }
+{
+    nodes
+        .spans_within(source.len())
+        .map_err(|_| ParseFault::Memory)
+}

@@ -1,0 +1,11 @@
+//! Sources parsed into trees: scripts, expressions and functions.
+#![tactic(auto)]
+
+mod earlier;
+mod kept;
+pub mod parse;
+mod reading;
+pub mod source;
+#[cfg(test)]
+mod tests;
+mod trees;

@@ -1,0 +1,129 @@
+//! Sources parsed: scripts, expressions and functions (ECMA-262, 16.1, 13.16, 15.2 and 15.3).
+
+ghost use Rattle.std.specs.Prelude.{◌≡◌, ◌<◌, length, Err, IfErr, IfOk};
+ghost use Rattle.cdp_text.specs.Units.{utf16_of};
+ghost use Rattle.js_tree.specs.Height.{height, height_of_statements};
+ghost use Rattle.js_tree.specs.Language.{IsExpression, IsFunction, IsScript};
+ghost use Rattle.js_tree.specs.Views.{expression_view, statements_view};
+ghost use Rattle.js_syntax.specs.declared.fault.ParseFault.TheVariants.{TooLong};
+ghost use Rattle.js_parser.specs.Answers.{FailsBy, OkOrMemory};
+ghost use Rattle.js_parser.specs.Faults.{Caused, ComesFirst, IsCause, Stands};
+ghost use Rattle.js_parser.specs.Sources.{IsSource, most_units};
+
+use crate::kept::{spans_of, text_of, url_of};
+use crate::trees::{expression_tree, function_tree, script_tree};
+use cdp_text::units::Units;
+use js_syntax::fault::ParseFault;
+use js_syntax::nodes::Nodes;
+use js_tree::script::{Expression, FunctionCode, Script};
+use std::alloc::Global;
+
+/// Parses a source that is one expression.
+///
+/// # Errors
+///
+/// As the fault says, the one that stands first in the source; `TooLong` before all else.
+#[tactic(auto, using(js_grammar::proofs::Completeness::one_expression))]
+pub fn parse_expression(alloc: Global, source: &[u16]) -> Result<Expression, ParseFault>
+    // What is answered is the source's tree.
+    ensures found { IfOk result (λ x. IsSource IsExpression height source.now (expression_view x.tree)) }
+    ensures kept { IfOk result (λ x. x.source ≡ source.now) }
+    // A source of the language within the limits is answered with its tree, unless memory runs out.
+    ensures only { (e : _) → IsSource IsExpression height source.now e → OkOrMemory (λ x. expression_view x.tree ≡ e) result }
+    // A source has at most one tree.
+    ensures one { (ts : _) (e f : _) → IsExpression ts e → IsExpression ts f → e ≡ f }
+    ensures long { most_units < length source.now → result ≡ Err (TooLong (length source.now)) }
+    // A fault that is answered stands in the source.
+    ensures faults { IfErr result (λ f. Caused IsExpression height source.now f) }
+    // Of those that have a place, it is the first for which the source has a cause.
+    ensures first { (g : _) → IsCause IsExpression source.now g → IfErr result (λ f. ComesFirst f g) }
+    // The fault that stands in a source is answered, unless memory runs out or a tree would be too deep.
+    ensures exact { (f : _) → Stands IsExpression height source.now f → FailsBy f result }
+{
+    let mut nodes = Nodes::new(alloc);
+    let tree = expression_tree(&mut nodes, source)?;
+    let spans = spans_of(&nodes, source)?;
+    let source = text_of(alloc, source)?;
+    Ok(Expression {
+        source,
+        tree,
+        spans,
+    })
+}
+
+/// Parses a source that is one function expression or one arrow function, without parentheses
+/// around it.
+///
+/// # Errors
+///
+/// As the fault says, the one that stands first in the source; `TooLong` before all else.
+#[tactic(auto, using(js_grammar::proofs::Completeness::one_function))]
+pub fn parse_function(alloc: Global, source: &[u16]) -> Result<FunctionCode, ParseFault>
+    // What is answered is the source's tree.
+    ensures found { IfOk result (λ x. IsSource IsFunction height source.now (expression_view x.tree)) }
+    ensures kept { IfOk result (λ x. x.source ≡ source.now) }
+    // A source of the language within the limits is answered with its tree, unless memory runs out.
+    ensures only { (e : _) → IsSource IsFunction height source.now e → OkOrMemory (λ x. expression_view x.tree ≡ e) result }
+    // A source has at most one tree.
+    ensures one { (ts : _) (e f : _) → IsFunction ts e → IsFunction ts f → e ≡ f }
+    ensures long { most_units < length source.now → result ≡ Err (TooLong (length source.now)) }
+    // A fault that is answered stands in the source.
+    ensures faults { IfErr result (λ f. Caused IsFunction height source.now f) }
+    // Of those that have a place, it is the first for which the source has a cause.
+    ensures first { (g : _) → IsCause IsFunction source.now g → IfErr result (λ f. ComesFirst f g) }
+    // The fault that stands in a source is answered, unless memory runs out or a tree would be too deep.
+    ensures exact { (f : _) → Stands IsFunction height source.now f → FailsBy f result }
+{
+    let mut nodes = Nodes::new(alloc);
+    let tree = function_tree(&mut nodes, source)?;
+    let spans = spans_of(&nodes, source)?;
+    let source = text_of(alloc, source)?;
+    Ok(FunctionCode {
+        source,
+        tree,
+        spans,
+    })
+}
+
+/// Parses a script that came from this URL and has this number among the scripts of a run. The
+/// earlier scripts declare these names at their top.
+///
+/// # Errors
+///
+/// As the fault says, the one that stands first in the source; `TooLong` before all else.
+#[tactic(auto, using(js_grammar::proofs::Completeness::one_script))]
+pub fn parse_script(
+    alloc: Global,
+    source: &[u16],
+    url: &str,
+    number: u32,
+    declared: &[Units],
+) -> Result<Script, ParseFault>
+    // What is answered is the source's tree.
+    ensures found { IfOk result (λ x. IsSource (IsScript declared.now) height_of_statements source.now (statements_view x.body)) }
+    ensures kept { IfOk result (λ x. (x.source ≡ source.now) × (x.url ≡ utf16_of url.now) × (x.number ≡ number)) }
+    // A source of the language within the limits is answered with its tree, unless memory runs out.
+    ensures only { (body : _) → IsSource (IsScript declared.now) height_of_statements source.now body → OkOrMemory (λ x. statements_view x.body ≡ body) result }
+    // A source has at most one tree.
+    ensures one { (ts : _) (a b : _) → IsScript declared.now ts a → IsScript declared.now ts b → a ≡ b }
+    ensures long { most_units < length source.now → result ≡ Err (TooLong (length source.now)) }
+    // A fault that is answered stands in the source.
+    ensures faults { IfErr result (λ f. Caused (IsScript declared.now) height_of_statements source.now f) }
+    // Of those that have a place, it is the first for which the source has a cause.
+    ensures first { (g : _) → IsCause (IsScript declared.now) source.now g → IfErr result (λ f. ComesFirst f g) }
+    // The fault that stands in a source is answered, unless memory runs out or a tree would be too deep.
+    ensures exact { (f : _) → Stands (IsScript declared.now) height_of_statements source.now f → FailsBy f result }
+{
+    let mut nodes = Nodes::new(alloc);
+    let body = script_tree(&mut nodes, source, declared)?;
+    let spans = spans_of(&nodes, source)?;
+    let url = url_of(alloc, url)?;
+    let source = text_of(alloc, source)?;
+    Ok(Script {
+        number,
+        url,
+        source,
+        body,
+        spans,
+    })
+}

@@ -1,0 +1,58 @@
+//! The trees of whole sources.
+
+ghost use Rattle.std.specs.Prelude.{◌≡◌, IfErr, IfOk};
+ghost use Rattle.js_tree.specs.Height.{height, height_of_statements};
+ghost use Rattle.js_tree.specs.Language.{IsExpression, IsFunction, IsScript};
+ghost use Rattle.js_tree.specs.Views.{expression_view, statements_view};
+ghost use Rattle.js_syntax.specs.declared.fault.ParseFault.TheVariants.{Memory};
+ghost use Rattle.js_parser.specs.Answers.{Answers};
+
+use crate::earlier::earlier_names;
+use crate::reading::{lexed, told};
+use cdp_text::units::Units;
+use js_descent::whole::{expression_of, function_of, script_of};
+use js_syntax::fault::ParseFault;
+use js_syntax::name_set::NameSet;
+use js_syntax::nodes::Nodes;
+use js_tree::tree::{Expr, Stmts};
+use std::alloc::Global;
+
+/// The tree of a source that is one expression.
+pub fn expression_tree(nodes: &mut Nodes, source: &[u16]) -> Result<Expr, ParseFault>
+    ensures { Answers IsExpression height source.now (λ x. expression_view x) result }
+{
+    let lexed = lexed(nodes.alloc(), source)?;
+    let read = expression_of(nodes, lexed.tokens.as_slice());
+    told(&lexed, source.len(), read)
+}
+
+/// The tree of a source that is one function expression or one arrow function.
+pub fn function_tree(nodes: &mut Nodes, source: &[u16]) -> Result<Expr, ParseFault>
+    ensures { Answers IsFunction height source.now (λ x. expression_view x) result }
+{
+    let lexed = lexed(nodes.alloc(), source)?;
+    let read = function_of(nodes, lexed.tokens.as_slice());
+    told(&lexed, source.len(), read)
+}
+
+/// The names of earlier scripts.
+fn names_of(alloc: Global, declared: &[Units]) -> Result<NameSet<'_>, ParseFault>
+    ensures names { IfOk result (λ names. names ≡ declared.now) }
+    ensures fault { IfErr result (λ f. f ≡ Memory) }
+{
+    earlier_names(alloc, declared).map_err(|_| ParseFault::Memory)
+}
+
+/// The items of a source that is a script behind scripts that declare these names.
+pub fn script_tree(
+    nodes: &mut Nodes,
+    source: &[u16],
+    declared: &[Units],
+) -> Result<Stmts, ParseFault>
+    ensures { Answers (IsScript declared.now) height_of_statements source.now (λ x. statements_view x) result }
+{
+    let lexed = lexed(nodes.alloc(), source)?;
+    let names = names_of(nodes.alloc(), declared)?;
+    let read = script_of(nodes, names, lexed.tokens.as_slice());
+    told(&lexed, source.len(), read)
+}
