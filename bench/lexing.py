@@ -3,19 +3,15 @@
 
     python3 bench/lexing.py [UNITS ..]        (default 131072 262144 524288 1048576)
 
-Builds a small program over `cdp_text` and `js_lexer` in a folder of its own (which proves the two crates, some
-minutes), gives it sources that hold every kind of token, and prints one line a size: the units, the tokens, the
-milliseconds of lexing, and those of making the table and finding the position of every token by it. All should grow
-with the units. It is no part of the gate.
+Builds a small program over `cdp_text` and `js_lexer` in a folder of its own, gives it sources that hold every kind of
+token, and prints one line a size: the units, the tokens, the milliseconds of lexing, and those of making the table and
+finding the position of every token by it. All should grow with the units. It is no part of the gate.
 """
 
-import os
-import shutil
-import subprocess
 import sys
 import tempfile
 
-TOP = os.path.dirname(os.path.dirname(os.path.abspath(__file__)))
+from programs import Program
 
 PROGRAM = r"""// Times the lexer.
 #![tactic(auto)]
@@ -67,32 +63,10 @@ def source(units):
 def main():
     sizes = [int(word) for word in sys.argv[1:]] or [131_072, 262_144, 524_288, 1_048_576]
     with tempfile.TemporaryDirectory() as folder:
-        crates = os.path.join(folder, "crates")
-        for name in ("cdp_text", "js_lexer"):
-            shutil.copytree(os.path.join(TOP, "crates", name), os.path.join(crates, name), ignore=shutil.ignore_patterns("must-fail"))
-        os.makedirs(os.path.join(crates, "bench", "src"))
-        os.makedirs(os.path.join(crates, "bench", "specs"))
-        os.makedirs(os.path.join(crates, "bench", "proofs"))
-        for part in ("specs", "proofs"):
-            open(os.path.join(crates, "bench", part, "Lib.antt"), "w").close()
-        with open(os.path.join(crates, "bench", "src", "main.rt"), "w") as f:
-            f.write(PROGRAM)
-        with open(os.path.join(TOP, "crates.txt")) as f:
-            kept = [line for line in f if line.split(":")[0] in ("cdp_text", "js_lexer")]
-        with open(os.path.join(folder, "crates.txt"), "w") as f:
-            f.writelines(kept + ["bench: cdp_text js_lexer anyhow\n"])
-        with open(os.path.join(folder, "source.js"), "w") as f:
-            f.write(source(sizes[0]))
-        build = subprocess.run(["rt", "run"], cwd=os.path.join(crates, "bench"), capture_output=True, text=True)
-        program = os.path.join(crates, "bench", "out", "bench")
-        if not os.path.exists(program):
-            sys.exit(build.stdout + build.stderr)
+        program = Program(folder, PROGRAM, ["cdp_text", "js_lexer", "anyhow"])
         print("  units   tokens  lexing ms  positions ms")
         for units in sizes:
-            with open(os.path.join(folder, "source.js"), "w") as f:
-                f.write(source(units))
-            run = subprocess.run([program], cwd=folder, capture_output=True, text=True, check=True)
-            length, tokens, lexing, finding, bad, _ = run.stdout.split()
+            length, tokens, lexing, finding, bad, _ = program.run(source(units))
             assert bad == "0", "a bad token"
             print(f"{length:>7} {tokens:>8} {lexing:>10} {finding:>13}")
 
