@@ -1,0 +1,3 @@
+pub mod LiteralLaws
+pub mod SourceLaws
+pub mod TargetLaws

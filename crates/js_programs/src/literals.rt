@@ -1,0 +1,152 @@
+//! String literals, whose cells are made before the first step.
+
+ghost use Rattle.std.specs.Prelude.{◌≡◌, ◌+◌, ◌++◌, length, IfOk, OnOk};
+ghost use Rattle.js_heap.specs.declared.value.Addr.TheVariants.{Base};
+ghost use Rattle.js_semantics.specs.Run as run;
+ghost use Rattle.js_semantics.specs.Terms as semantics;
+ghost use Rattle.js_heap.specs.declared.value.Value.TheVariants as values;
+ghost use Rattle.js_terms.specs.Views.{term_view, terms_view, listed_view};
+ghost use Rattle.js_programs.specs.Literals.{literal_in};
+
+use cdp_text::units::Units;
+use js_heap::value::{Addr, Value};
+use js_semantics::form::Form;
+use js_terms::copies::form_copy;
+use js_terms::term::{Term, Terms, done, part, standing, terms_of};
+use std::alloc::{AllocError, Global};
+
+/// The string literals of some parts, in order.
+pub fn literals_of(alloc: Global, terms: &Terms) -> Result<Vec<Units>, AllocError>
+    ensures { IfOk result (λ us. us.items ≡ run.literals_of (terms_view terms.now)) }
+{
+    let mut found = Vec::new(alloc);
+    add_all_literals(terms, &mut found)?;
+    Ok(found)
+}
+
+// adds the literals of a part at the end
+#[cycle(add_literals)]
+#[tactic(auto, using(js_terms::proofs::TermLaws::term_laws, crate::proofs::LiteralLaws::found_laws))]
+fn add_literals(term: &Term, found: &mut Vec<Units>) -> Result<(), AllocError>
+    ensures { OnOk result (found.new.items ≡ found.old.items ++ run.literals (term_view term.now)) }
+{
+    match term {
+        Term::Done(_) => Ok(()),
+        Term::Standing(..) => Ok(()),
+        Term::Part { form, now, later } => match literal_in(form)? {
+            Some(units) => {
+                found.push(units)?;
+                Ok(())
+            }
+            None => {
+                add_all_literals(now, found)?;
+                add_all_literals(later, found)?;
+                Ok(())
+            }
+        },
+    }
+}
+
+#[cycle(add_literals)]
+#[tactic(auto, using(js_terms::proofs::TermLaws::terms_listed))]
+fn add_all_literals(terms: &Terms, found: &mut Vec<Units>) -> Result<(), AllocError>
+    ensures { OnOk result (found.new.items ≡ found.old.items ++ run.literals_of (terms_view terms.now)) }
+{
+    add_item_literals(&terms.items, found)
+}
+
+#[cycle(add_literals)]
+fn add_item_literals(items: &Vec<Term>, found: &mut Vec<Units>) -> Result<(), AllocError>
+    ensures { OnOk result (found.new.items ≡ found.old.items ++ run.literals_of (listed_view items.now.items)) }
+{
+    for item in items {
+        add_literals(item, found)?;
+    }
+    Ok(())
+}
+
+// the literal that a form is
+fn literal_in(form: &Form) -> Result<Option<Units>, AllocError>
+    ensures { IfOk result (λ units. units ≡ literal_in form.now) }
+{
+    match form {
+        Form::Literal(units) => Ok(Some(units.clone()?)),
+        _ => Ok(None),
+    }
+}
+
+/// The parts with the address of its cell in place of each literal, from a number on.
+pub fn with_literals(alloc: Global, first: u32, terms: &Terms) -> Result<Terms, AllocError>
+    ensures { IfOk result (λ ts. terms_view ts ≡ run.all_with_literals (λ n. Base n) first (terms_view terms.now)) }
+{
+    let mut next = first;
+    terms_placed(alloc, terms, &mut next)
+}
+
+// the part with the addresses of its literals, and the number after them
+#[cycle(placed)]
+#[tactic(auto, using(js_terms::proofs::TermLaws::term_laws, crate::proofs::LiteralLaws::literal_laws))]
+fn term_placed(alloc: Global, term: &Term, next: &mut u32) -> Result<Term, AllocError>
+    ensures term { IfOk result (λ t. term_view t ≡ run.with_literals (λ n. Base n) next.old (term_view term.now)) }
+    ensures next { OnOk result (next.new ≡ next.old + length (run.literals (term_view term.now))) }
+{
+    match term {
+        Term::Done(value) => Ok(done(*value)),
+        Term::Standing(value, spot) => Ok(standing(*value, *spot)),
+        Term::Part { form, now, later } => match literal_in(form)? {
+            Some(_) => Ok(literal_placed(next)?),
+            None => {
+                let form = form_copy(alloc, form)?;
+                let now = terms_placed(alloc, now, next)?;
+                let later = terms_placed(alloc, later, next)?;
+                Ok(part(form, now, later))
+            }
+        },
+    }
+}
+
+// the text at the next address
+fn literal_placed(next: &mut u32) -> Result<Term, AllocError>
+    ensures term { IfOk result (λ t. term_view t ≡ semantics.done (values.Text (Base next.old))) }
+    ensures next { OnOk result (next.new ≡ next.old + 1) }
+{
+    let at = *next;
+    match at.checked_add(1) {
+        Some(after) => {
+            *next = after;
+            Ok(done(Value::Text(Addr::Base(at))))
+        }
+        None => Err(AllocError),
+    }
+}
+
+#[cycle(placed)]
+#[tactic(auto, using(js_terms::proofs::TermLaws::terms_listed))]
+fn terms_placed(alloc: Global, terms: &Terms, next: &mut u32) -> Result<Terms, AllocError>
+    ensures term { IfOk result (λ ts. terms_view ts ≡ run.all_with_literals (λ n. Base n) next.old (terms_view terms.now)) }
+    ensures next { OnOk result (next.new ≡ next.old + length (run.literals_of (terms_view terms.now))) }
+{
+    Ok(terms_of(items_placed(alloc, &terms.items, next)?))
+}
+
+#[cycle(placed)]
+fn items_placed(alloc: Global, items: &Vec<Term>, next: &mut u32) -> Result<Vec<Term>, AllocError>
+    ensures term { IfOk result (λ ts. listed_view ts.items ≡ run.all_with_literals (λ n. Base n) next.old (listed_view items.now.items)) }
+    ensures next { OnOk result (next.new ≡ next.old + length (run.literals_of (listed_view items.now.items))) }
+{
+    let mut placed = Vec::new(alloc);
+    for item in items {
+        placed.push(term_placed(alloc, item, next)?)?;
+    }
+    Ok(placed)
+}
+
+/// The scripts with the addresses of their literals.
+pub fn placed_scripts(alloc: Global, scripts: &Terms) -> Result<Terms, AllocError>
+    ensures { IfOk result (λ ts. terms_view ts ≡ run.placed_scripts (terms_view scripts.now)) }
+{
+    with_literals(alloc, FIRST_LITERAL, scripts)
+}
+
+/// The number of the first cell of a literal.
+const FIRST_LITERAL: u32 = 24;

@@ -1,0 +1,4 @@
+//! Plain runs of scripts that are given as terms.
+#![tactic(auto)]
+
+pub mod run;

@@ -1,0 +1,238 @@
+-- Lemmas on what cells fit.
+use Rattle.std.proofs.Common.{◌≡◌, ℕ, zero, suc, ◌+◌, ◌-◌, ◌^◌, ◌<◌, ◌≤◌, true, false, ap, ◌∙◌, if◌then◌else◌, List, [], ◌∷◌, ◌++◌, length, Some, None, refl, arith, length-append, length-set, sym, subst, get_or}
+use Rattle.std.specs.Prelude.{slice_get, slice_set, is_some, nat_le, Option, IfSome, min}
+use Rattle.std.proofs.lemmas.Option.{slice_get_within, get_or_from_slice_get}
+use Rattle.js_heap.specs.declared.cell.Cell.{Cell}
+use Rattle.js_heap.specs.declared.cell.Cell.TheVariants as cells
+use Rattle.js_heap.specs.declared.value.Addr.{Addr}
+use Rattle.js_heap.specs.declared.value.Addr.TheVariants.{Base, Scratch}
+use Rattle.js_heap.specs.declared.change.Change.{Change}
+use Rattle.js_heap.specs.declared.change.Counted.TheVariants as counted
+use Rattle.js_heap.specs.World.{World, Tried, fine, full, written, written_at, write_cell, replaced, room_after}
+use Rattle.js_heap.specs.Cells.{weight, changed}
+use Rattle.js_state.specs.Fits.{changeable, held, Fit, AllShort, plain_world, change_of, IsUnchanged, IsChangedAt}
+use Rattle.js_state.specs.Texts.{elements_of_cell, elements_at}
+use Rattle.js_values.specs.Safe.{IsShort, IsSmall, IsShortValue, IsSmallValue}
+use Rattle.js_heap.specs.declared.value.Value.{Value}
+use Rattle.js_heap.specs.declared.value.Value.TheVariants as values
+
+pub held-behind : (cs : List Cell) (c : Cell) → held (cs ++ c ∷ []) ≡ held cs + changeable c
+held-behind [] c = omega arith
+held-behind (d ∷ cs) c = omega (arith, held-behind cs c)
+
+pub changeable-light : (c : Cell) → changeable c ≤ weight c
+changeable-light (cells.Text us) = omega arith
+changeable-light _ = omega arith
+
+pub held-at : (cs : List Cell) (i : ℕ) (c : Cell) → slice_get cs i ≡ Some c → changeable c ≤ held cs
+held-at [] i c h = cc
+held-at (d ∷ cs) zero c h = let e : d ≡ c = cc in rw (← e) (omega arith)
+held-at (d ∷ cs) (suc i) c h = omega (arith, held-at cs i c h)
+
+pub held-set : (cs : List Cell) (i : ℕ) (c new : Cell) → slice_get cs i ≡ Some c → held (slice_set cs i new) + changeable c ≡ held cs + changeable new
+held-set [] i c new h = cc
+held-set (d ∷ cs) zero c new h = let e : d ≡ c = cc in rw (← e) (omega arith)
+held-set (d ∷ cs) (suc i) c new h = omega (arith, held-set cs i c new h)
+
+-- ---- short texts
+
+pub short-behind : (cs : List Cell) (c : Cell) → AllShort cs → IsShort (Some c) → AllShort (cs ++ c ∷ [])
+short-behind [] c s h = (h, tt)
+short-behind (d ∷ cs) c s h = (s.0, short-behind cs c s.1 h)
+
+pub short-set : (cs : List Cell) (i : ℕ) (c : Cell) → AllShort cs → IsShort (Some c) → AllShort (slice_set cs i c)
+short-set [] i c s h = s
+short-set (d ∷ cs) zero c s h = (h, s.1)
+short-set (d ∷ cs) (suc i) c s h = (s.0, short-set cs i c s.1 h)
+
+pub short-at : (cs : List Cell) (i : ℕ) → AllShort cs → IsShort (slice_get cs i)
+short-at [] i s = tt
+short-at (d ∷ cs) zero s = s.0
+short-at (d ∷ cs) (suc i) s = short-at cs i s.1
+
+-- a cell that counts little is short
+pub light-short : (c : Cell) → weight c < 2 ^ 32 → IsShort (Some c)
+light-short (cells.Array vs) h = omega arith
+light-short (cells.Text us) h = omega arith
+light-short _ h = tt
+
+-- a new cell fits
+pub made-fit : (cs : List Cell) (n u m : ℕ) (c : Cell) → Fit cs n u → m ≡ weight c → (n ≡ 0 → ⊥) → m ≤ u → Fit (cs ++ c ∷ []) (n - 1) (u - m)
+made-fit cs n u m c f e h k = record {
+  places = omega (arith, length-append cs (c ∷ []), f.places);
+  units = omega (arith, held-behind cs c, changeable-light c, f.units);
+  short = short-behind cs c f.short (light-short c (omega (arith, f.units)));
+}
+
+-- ---- writing
+
+unwritten_by : (w : World) (a : Addr) (old : Cell) (d : Option Cell) → is_some d ≡ false → written w a old d ≡ fine tt w
+unwritten_by w a old None h = refl
+unwritten_by w a old (Some new) h = cc
+
+unwritten : (w : World) (a : Addr) (o : Option Cell) (c : Change) → is_some (change_of o c) ≡ false → written_at w a o c ≡ fine tt w
+unwritten w a None c h = refl
+unwritten w a (Some old) c h = unwritten_by w a old (changed old c) h
+
+-- what is no change leaves the world
+pub none-written : (cs : List Cell) (n u : ℕ) (a : Addr) (c : Change) → IsUnchanged cs a c → write_cell (plain_world cs n u) a c ≡ fine tt (plain_world cs n u)
+none-written cs n u (Base i) c h = unwritten (plain_world cs n u) (Base i) (slice_get cs i) c h
+none-written cs n u (Scratch i) c h = refl
+
+-- a cell with a change of its kind, and the cell that it becomes
+pub record Changes (o : Option Cell) (c : Change) : Type 0 where
+  pub old : Cell
+  pub new : Cell
+  pub is : o ≡ Some old
+  pub becomes : changed old c ≡ Some new
+
+changes_by : (o : Option Cell) (c : Change) (old : Cell) → o ≡ Some old → (d : Option Cell) → changed old c ≡ d → is_some d ≡ true → Changes o c
+changes_by o c old e None f h = cc
+changes_by o c old e (Some new) f h = record { old = old; new = new; is = e; becomes = f }
+
+pub changes-at : (o : Option Cell) (c : Change) → is_some (change_of o c) ≡ true → Changes o c
+changes-at None c h = cc
+changes-at (Some old) c h = changes_by (Some old) c old refl (changed old c) refl h
+
+full_if : (a b : ℕ) (t : Tried (Unit {0})) → b < a → (if nat_le a b then t else full counted.Units) ≡ full counted.Units
+full_if a b t h = grind arith
+
+fine_if : (a b : ℕ) (t : Tried (Unit {0})) → a ≤ b → (if nat_le a b then t else full counted.Units) ≡ t
+fine_if a b t h = grind arith
+
+-- a change is refused where it would pass the limit
+pub full-written : (cs : List Cell) (n u : ℕ) (i : ℕ) (c : Change) (old new : Cell) → slice_get cs i ≡ Some old → changed old c ≡ Some new → u + weight old < weight new → write_cell (plain_world cs n u) (Base i) c ≡ full counted.Units
+full-written cs n u i c old new e f h =
+    let w : World = plain_world cs n u in
+    ap (λ o. written_at w (Base i) o c) e ∙ ap (λ d. written w (Base i) old d) f ∙ full_if (weight new) (u + weight old) (fine tt (record (replaced w (Base i) new) { room = room_after w.room (weight old) (weight new) })) h
+
+-- and made where it doesn't
+pub fine-written : (cs : List Cell) (n u : ℕ) (i : ℕ) (c : Change) (old new : Cell) → slice_get cs i ≡ Some old → changed old c ≡ Some new → weight new ≤ u + weight old → write_cell (plain_world cs n u) (Base i) c ≡ fine tt (plain_world (slice_set cs i new) n ((u + weight old) - weight new))
+fine-written cs n u i c old new e f h =
+    let w : World = plain_world cs n u in
+    ap (λ o. written_at w (Base i) o c) e ∙ ap (λ d. written w (Base i) old d) f ∙ fine_if (weight new) (u + weight old) (fine tt (record (replaced w (Base i) new) { room = room_after w.room (weight old) (weight new) })) h
+
+counts-old : (old new : Cell) (c : Change) → changed old c ≡ Some new → changeable old ≡ weight old
+counts-old (cells.Text us) new c h = cc
+counts-old _ new c h = refl
+
+-- a changed cell fits
+pub written-fit : (cs : List Cell) (n u i : ℕ) (c : Change) (old new : Cell) → Fit cs n u → slice_get cs i ≡ Some old → changed old c ≡ Some new → weight new ≤ u + weight old → Fit (slice_set cs i new) n ((u + weight old) - weight new)
+written-fit cs n u i c old new f e g h = record {
+  places = omega (arith, length-set cs i new, f.places);
+  units = omega (arith, held-set cs i old new e, counts-old old new c g, changeable-light new, held-at cs i old e, f.units);
+  short = short-set cs i new f.short (light-short new (omega (arith, counts-old old new c g, held-at cs i old e, f.units)));
+}
+
+-- where memory is wanting, no cell is left
+pub lost-fit : (cs bs : List Cell) (n u : ℕ) → bs ≡ [] → Fit cs n u → Fit bs n u
+lost-fit cs bs n u e f =
+    let P : List Cell → Type 0 = λ xs. Fit xs n u in
+    subst P (sym e) (record { places = omega (arith, f.places); units = omega (arith, f.units); short = tt })
+
+-- ---- the cell at a place, with a change of its kind
+
+pub record Writes (cs : List Cell) (at : ℕ) (cell : Cell) (c : Change) : Type 0 where
+  pub new : Cell
+  pub is : slice_get cs at ≡ Some cell
+  pub becomes : changed cell c ≡ Some new
+  pub within : at < length cs
+
+writes_by : (cs : List Cell) (at : ℕ) (cell : Cell) (c : Change) → cell ≡ get_or cs at cell → Changes (slice_get cs at) c → Writes cs at cell c
+writes_by cs at cell c e h =
+    let same : h.old ≡ cell = sym (e ∙ get_or_from_slice_get cs at h.old cell h.is) in
+    record {
+      new = h.new;
+      is = h.is ∙ ap (λ (x : Cell). Some x) same;
+      becomes = ap (λ x. changed x c) (sym same) ∙ h.becomes;
+      within = slice_get_within cs at h.old h.is;
+    }
+
+pub writes-at : (cs bs : List Cell) (at : ℕ) (cell : Cell) (c : Change) → bs ≡ cs → IsChangedAt bs at c → cell ≡ get_or cs at cell → Writes cs at cell c
+writes-at cs bs at cell c e h f =
+    let P : List Cell → Type 0 = λ xs. IsChangedAt xs at c in
+    writes_by cs at cell c f (changes-at (slice_get cs at) c (subst P e h))
+
+pub cell-light : (cs : List Cell) (n u at : ℕ) (cell : Cell) (c : Change) → Fit cs n u → Writes cs at cell c → weight cell + u ≤ 2 ^ 27
+cell-light cs n u at cell c f w = omega (arith, f.units, counts-old cell w.new c w.becomes, held-at cs at cell w.is)
+
+some_is : (o : Option Cell) (new : Cell) (P : Cell → Type 0) → o ≡ Some new → IfSome o P → P new
+some_is None new P e h = cc
+some_is (Some x) new P e h = let f : x ≡ new = cc in subst P f h
+
+-- what the change counts
+after-is : (cs : List Cell) (at : ℕ) (cell : Cell) (c : Change) (after : ℕ) (w : Writes cs at cell c) → IfSome (changed cell c) (λ new. after ≡ weight new) → after ≡ weight w.new
+after-is cs at cell c after w h = some_is (changed cell c) w.new (λ new. after ≡ weight new) w.becomes h
+
+cells_are : (cs bs : List Cell) (at : ℕ) (cell : Cell) (c : Change) (w : Writes cs at cell c) → IfSome (change_of (slice_get cs at) c) (λ new. bs ≡ slice_set cs at new) → bs ≡ slice_set cs at w.new
+cells_are cs bs at cell c w h = some_is (change_of (slice_get cs at) c) w.new (λ new. bs ≡ slice_set cs at new) (ap (λ o. change_of o c) w.is ∙ w.becomes) h
+
+-- the call on the world, by what the code found
+pub writes-full : (cs : List Cell) (n u : ℕ) (s : World) (a : Addr) (at : ℕ) (cell : Cell) (c : Change) (before after from : ℕ) → plain_world cs n u ≡ s → a ≡ Base at → Fit cs n u → (w : Writes cs at cell c) → before ≡ min (weight cell) 18446744073709551615 → from ≡ u → IfSome (changed cell c) (λ new. after ≡ weight new) → from + before < after → write_cell s a c ≡ full counted.Units
+writes-full cs n u s a at cell c before after from p e f w b g h k =
+    let m : after ≡ weight w.new = after-is cs at cell c after w h in
+    let l : weight cell + u ≤ 2 ^ 27 = cell-light cs n u at cell c f w in
+    let P : World → Type 0 = λ v. write_cell v a c ≡ full counted.Units in
+    let Q : Addr → Type 0 = λ x. write_cell (plain_world cs n u) x c ≡ full counted.Units in
+    subst P p (subst Q (sym e) (full-written cs n u at c cell w.new w.is w.becomes (omega arith)))
+
+pub writes-fit : (cs bs : List Cell) (n u : ℕ) (at : ℕ) (cell : Cell) (c : Change) (before after from : ℕ) → Fit cs n u → (w : Writes cs at cell c) → before ≡ min (weight cell) 18446744073709551615 → from ≡ u → IfSome (changed cell c) (λ new. after ≡ weight new) → after ≤ from + before → IfSome (change_of (slice_get cs at) c) (λ new. bs ≡ slice_set cs at new) → Fit bs n ((from + before) - after)
+writes-fit cs bs n u at cell c before after from f w b g h k i =
+    let m : after ≡ weight w.new = after-is cs at cell c after w h in
+    let l : weight cell + u ≤ 2 ^ 27 = cell-light cs n u at cell c f w in
+    let d : (u + weight cell) - weight w.new ≡ (from + before) - after = omega arith in
+    let P : List Cell → Type 0 = λ xs. Fit xs n ((from + before) - after) in
+    let Q : ℕ → Type 0 = λ x. Fit (slice_set cs at w.new) n x in
+    subst P (sym (cells_are cs bs at cell c w i)) (subst Q d (written-fit cs n u at c cell w.new f w.is w.becomes (omega arith)))
+
+pub writes-fine : (cs bs : List Cell) (n u : ℕ) (s : World) (a : Addr) (at : ℕ) (cell : Cell) (c : Change) (before after from : ℕ) → plain_world cs n u ≡ s → a ≡ Base at → Fit cs n u → (w : Writes cs at cell c) → before ≡ min (weight cell) 18446744073709551615 → from ≡ u → IfSome (changed cell c) (λ new. after ≡ weight new) → after ≤ from + before → IfSome (change_of (slice_get cs at) c) (λ new. bs ≡ slice_set cs at new) → write_cell s a c ≡ fine tt (plain_world bs n ((from + before) - after))
+writes-fine cs bs n u s a at cell c before after from p e f w b g h k i =
+    let m : after ≡ weight w.new = after-is cs at cell c after w h in
+    let l : weight cell + u ≤ 2 ^ 27 = cell-light cs n u at cell c f w in
+    let d : (u + weight cell) - weight w.new ≡ (from + before) - after = omega arith in
+    let P : World → Type 0 = λ v. write_cell v a c ≡ fine tt (plain_world bs n ((from + before) - after)) in
+    let Q : Addr → Type 0 = λ x. write_cell (plain_world cs n u) x c ≡ fine tt (plain_world bs n ((from + before) - after)) in
+    let R : List Cell → Type 0 = λ xs. write_cell (plain_world cs n u) (Base at) c ≡ fine tt (plain_world xs n ((from + before) - after)) in
+    let S : ℕ → Type 0 = λ x. write_cell (plain_world cs n u) (Base at) c ≡ fine tt (plain_world (slice_set cs at w.new) n x) in
+    subst P p (subst Q (sym e) (subst R (sym (cells_are cs bs at cell c w i)) (subst S d (fine-written cs n u at c cell w.new w.is w.becomes (omega arith)))))
+
+-- ---- short texts and small arrays
+
+short_value : (cs : List Cell) (n u : ℕ) (v : Value) → AllShort cs → IsShortValue (plain_world cs n u) v
+short_value cs n u (values.Text (Base i)) s = short-at cs i s
+short_value cs n u (values.Text (Scratch i)) s = tt
+short_value cs n u (values.Object (Base i)) s = short-at cs i s
+short_value cs n u (values.Object (Scratch i)) s = tt
+short_value cs n u _ s = tt
+
+pub short-value : (cs : List Cell) (n u : ℕ) (w : World) (v : Value) → plain_world cs n u ≡ w → Fit cs n u → IsShortValue w v
+short-value cs n u w v e f = let P : World → Type 0 = λ x. IsShortValue x v in subst P e (short_value cs n u v f.short)
+
+small_cell : (c : Cell) (m : ℕ) → changeable c + m ≤ 2 ^ 27 → IsSmall (Some c)
+small_cell (cells.Array vs) m h = omega arith
+small_cell _ m h = tt
+
+small-at : (cs : List Cell) (i : ℕ) → held cs ≤ 2 ^ 27 → IsSmall (slice_get cs i)
+small-at [] i h = tt
+small-at (c ∷ cs) zero h = small_cell c (held cs) h
+small-at (c ∷ cs) (suc i) h = small-at cs i (omega arith)
+
+small_value : (cs : List Cell) (n u : ℕ) (v : Value) → held cs ≤ 2 ^ 27 → IsSmallValue (plain_world cs n u) v
+small_value cs n u (values.Object (Base i)) h = small-at cs i h
+small_value cs n u (values.Object (Scratch i)) h = tt
+small_value cs n u _ h = tt
+
+pub small-value : (cs : List Cell) (n u : ℕ) (w : World) (v : Value) → plain_world cs n u ≡ w → Fit cs n u → IsSmallValue w v
+small-value cs n u w v e f = let P : World → Type 0 = λ x. IsSmallValue x v in subst P e (small_value cs n u v (omega (arith, f.units)))
+
+small_elements : (o : Option Cell) → IsSmall o → length (elements_of_cell o) < 2 ^ 32
+small_elements None h = omega arith
+small_elements (Some (cells.Array vs)) h = h
+small_elements (Some _) h = omega arith
+
+elements_small : (cs : List Cell) (n u : ℕ) (a : Addr) → held cs ≤ 2 ^ 27 → length (elements_at (plain_world cs n u) a) < 2 ^ 32
+elements_small cs n u (Base i) h = small_elements (slice_get cs i) (small-at cs i h)
+elements_small cs n u (Scratch i) h = omega arith
+
+pub elements-small : (cs : List Cell) (n u : ℕ) (w : World) (a : Addr) → plain_world cs n u ≡ w → Fit cs n u → length (elements_at w a) < 2 ^ 32
+elements-small cs n u w a e f = let P : World → Type 0 = λ x. length (elements_at x a) < 2 ^ 32 in subst P e (elements_small cs n u a (omega (arith, f.units)))

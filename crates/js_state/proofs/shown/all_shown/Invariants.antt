@@ -1,0 +1,7 @@
+use Rattle.std.proofs.Common.{◌≡◌, ◌++◌, drop}
+use Rattle.std.specs.Prelude.{map}
+use Rattle.js_values.specs.Values.{shown}
+use Rattle.js_state.proofs.shown.all_shown.Given as goal
+
+abbrev pub invariant-loop-value : goal.invariant-loop-value
+invariant-loop-value g l = l.texts.items ++ map (shown (g.C.Cells.world l.cells)) (drop l.value-index l.values) ≡ map (shown (g.C.Cells.world l.cells)) l.values

@@ -1,0 +1,34 @@
+//! How an action ends before it goes on.
+
+ghost use Rattle.std.specs.Prelude.{◌≡◌};
+ghost use Rattle.js_state.specs.declared.stop.Stop.TheVariants.{Memory as memory};
+
+use js_heap::value::Value;
+use std::alloc::{AllocError, AllocFailed};
+
+/// Why an action doesn't go on.
+#[derive(Clone, Copy, Debug, PartialEq, Eq)]
+pub enum Stop {
+    /// It raises a value.
+    Raised(Value),
+    /// It ends, giving a value.
+    Given(Value),
+    /// Memory was wanting: the state is given up.
+    Memory,
+}
+
+impl From<AllocError> for Stop {
+    ghost from_gives = { λ _ e. e ≡ memory };
+
+    fn from(_error: AllocError) -> Stop {
+        Stop::Memory
+    }
+}
+
+impl<T: Drop> From<AllocFailed<T>> for Stop {
+    ghost from_gives = { λ _ e. e ≡ memory };
+
+    fn from(_error: AllocFailed<T>) -> Stop {
+        Stop::Memory
+    }
+}
