@@ -61,7 +61,8 @@ pub fn typeof_row(
 
 /// Whether a number is a safe integer; every other value is safe.
 pub fn is_safe(value: Value) -> bool
-    ensures { IsTrue result → IsSafe value }
+    ensures safe { IsTrue result → IsSafe value }
+    ensures exact { IsSafe value → IsTrue result }
 {
     match value {
         Value::Number(z) => z.unsigned_abs() < 9_007_199_254_740_992,

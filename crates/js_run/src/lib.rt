@@ -1,4 +1,7 @@
-//! Plain runs of scripts that are given as terms.
+//! Plain runs of scripts that are given as terms or as trees.
 #![tactic(auto)]
 
 pub mod run;
+pub mod scripts;
+#[cfg(test)]
+mod tests;

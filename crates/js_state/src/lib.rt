@@ -9,10 +9,12 @@ mod lists;
 pub mod names;
 pub mod objects;
 pub mod references;
-mod shown;
+pub mod shown;
 mod start;
 pub mod state;
 pub mod stop;
+#[cfg(test)]
+mod tests;
 mod text;
 mod weight;
 pub mod world;

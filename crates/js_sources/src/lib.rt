@@ -1,0 +1,11 @@
+//! The terms of trees: what each form of the grammar is before its first step.
+#![tactic(auto)]
+
+mod blocks;
+mod declarators;
+mod expressions;
+mod functions;
+mod loops;
+mod objects;
+pub mod script;
+mod statements;
