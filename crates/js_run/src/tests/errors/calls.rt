@@ -1,0 +1,167 @@
+//! Errors of calls: of what is called, and of the arguments of built-in functions.
+
+/// Scripts that end by an error of a call.
+pub(super) const ERRORS: [(&str, u64, &str, &str); 27] = [
+    (
+        "(1)();",
+        4,
+        "Uncaught TypeError: Value is not a function",
+        "",
+    ),
+    (
+        "let o = {}; o.m();",
+        9,
+        "Uncaught TypeError: Value is not a function",
+        "",
+    ),
+    (
+        "let a = 1\n(2)",
+        4,
+        "Uncaught TypeError: Value is not a function",
+        "",
+    ),
+    (
+        "String({});",
+        6,
+        "Uncaught TypeError: Cannot convert an object to text",
+        "",
+    ),
+    (
+        "[{}].join();",
+        7,
+        "Uncaught TypeError: Cannot convert an object to text",
+        "",
+    ),
+    (
+        "Error(1);",
+        5,
+        "Uncaught TypeError: Argument has a wrong type",
+        "",
+    ),
+    (
+        "TypeError(null);",
+        5,
+        "Uncaught TypeError: Argument has a wrong type",
+        "",
+    ),
+    (
+        "RangeError({});",
+        6,
+        "Uncaught TypeError: Argument has a wrong type",
+        "",
+    ),
+    (
+        "ReferenceError(true);",
+        5,
+        "Uncaught TypeError: Argument has a wrong type",
+        "",
+    ),
+    (
+        "Object.keys(1);",
+        6,
+        "Uncaught TypeError: Argument has a wrong type",
+        "",
+    ),
+    (
+        "Object.keys('a');",
+        6,
+        "Uncaught TypeError: Argument has a wrong type",
+        "",
+    ),
+    (
+        "[].join(1);",
+        6,
+        "Uncaught TypeError: Argument has a wrong type",
+        "",
+    ),
+    (
+        "[].slice('1');",
+        6,
+        "Uncaught TypeError: Argument has a wrong type",
+        "",
+    ),
+    (
+        "[].slice(0, null);",
+        6,
+        "Uncaught TypeError: Argument has a wrong type",
+        "",
+    ),
+    (
+        "'a'.slice(true);",
+        5,
+        "Uncaught TypeError: Argument has a wrong type",
+        "",
+    ),
+    (
+        "'a'.indexOf(1);",
+        5,
+        "Uncaught TypeError: Argument has a wrong type",
+        "",
+    ),
+    (
+        "'a'.indexOf();",
+        5,
+        "Uncaught TypeError: Argument has a wrong type",
+        "",
+    ),
+    (
+        "'a'.charCodeAt('0');",
+        5,
+        "Uncaught TypeError: Argument has a wrong type",
+        "",
+    ),
+    (
+        "'a'.charCodeAt();",
+        5,
+        "Uncaught TypeError: Argument has a wrong type",
+        "",
+    ),
+    (
+        "let f = [].push; f(1);",
+        9,
+        "Uncaught TypeError: Argument has a wrong type",
+        "",
+    ),
+    (
+        "let o = {p: [].pop}; o.p();",
+        11,
+        "Uncaught TypeError: Argument has a wrong type",
+        "",
+    ),
+    (
+        "let o = {j: [].join}; o.j();",
+        11,
+        "Uncaught TypeError: Argument has a wrong type",
+        "",
+    ),
+    (
+        "let o = {c: 'a'.charCodeAt}; o.c(0);",
+        10,
+        "Uncaught TypeError: Argument has a wrong type",
+        "",
+    ),
+    (
+        "let o = {i: [].indexOf}; o.i(0);",
+        11,
+        "Uncaught TypeError: Argument has a wrong type",
+        "",
+    ),
+    (
+        "let o = {s: [].slice}; o.s(0);",
+        11,
+        "Uncaught TypeError: Argument has a wrong type",
+        "",
+    ),
+    (
+        "'a'.charCodeAt(1);",
+        5,
+        "Uncaught RangeError: Result is not a safe integer",
+        "",
+    ),
+    (
+        "'a'.charCodeAt(-1);",
+        6,
+        "Uncaught RangeError: Result is not a safe integer",
+        "",
+    ),
+];

@@ -1,0 +1,167 @@
+//! Errors of operators: operands of wrong types, and results that are no safe integers.
+
+/// Scripts that end by an error of an operator.
+pub(super) const ERRORS: [(&str, u64, &str, &str); 27] = [
+    (
+        "true + 1;",
+        4,
+        "Uncaught TypeError: Operands must be numbers",
+        "",
+    ),
+    (
+        "undefined + 1;",
+        5,
+        "Uncaught TypeError: Operands must be numbers",
+        "",
+    ),
+    (
+        "({}) + 1;",
+        5,
+        "Uncaught TypeError: Operands must be numbers",
+        "",
+    ),
+    (
+        "'a' - 1;",
+        4,
+        "Uncaught TypeError: Operands must be numbers",
+        "",
+    ),
+    (
+        "1 & null;",
+        4,
+        "Uncaught TypeError: Operands must be numbers",
+        "",
+    ),
+    (
+        "-'1';",
+        4,
+        "Uncaught TypeError: Operands must be numbers",
+        "",
+    ),
+    (
+        "+'1';",
+        4,
+        "Uncaught TypeError: Operands must be numbers",
+        "",
+    ),
+    (
+        "~true;",
+        4,
+        "Uncaught TypeError: Operands must be numbers",
+        "",
+    ),
+    (
+        "let s = 'a'; s++;",
+        6,
+        "Uncaught TypeError: Operands must be numbers",
+        "",
+    ),
+    (
+        "({}) + 'a';",
+        5,
+        "Uncaught TypeError: Cannot convert an object to text",
+        "",
+    ),
+    (
+        "'a' + [];",
+        5,
+        "Uncaught TypeError: Cannot convert an object to text",
+        "",
+    ),
+    (
+        "'a' + (() => 1);",
+        5,
+        "Uncaught TypeError: Cannot convert an object to text",
+        "",
+    ),
+    (
+        "1 < 'a';",
+        4,
+        "Uncaught TypeError: Cannot compare values of different types",
+        "",
+    ),
+    (
+        "'a' > 1;",
+        4,
+        "Uncaught TypeError: Cannot compare values of different types",
+        "",
+    ),
+    (
+        "null <= null;",
+        4,
+        "Uncaught TypeError: Cannot compare values of different types",
+        "",
+    ),
+    (
+        "true >= false;",
+        4,
+        "Uncaught TypeError: Cannot compare values of different types",
+        "",
+    ),
+    (
+        "1 == 'a';",
+        4,
+        "Uncaught TypeError: Cannot compare values of different types",
+        "",
+    ),
+    (
+        "true != 1;",
+        4,
+        "Uncaught TypeError: Cannot compare values of different types",
+        "",
+    ),
+    (
+        "({}) == 'a';",
+        5,
+        "Uncaught TypeError: Cannot compare values of different types",
+        "",
+    ),
+    (
+        "1 / 2;",
+        4,
+        "Uncaught RangeError: Result is not a safe integer",
+        "",
+    ),
+    (
+        "1 / 0;",
+        4,
+        "Uncaught RangeError: Result is not a safe integer",
+        "",
+    ),
+    (
+        "0 % 0;",
+        4,
+        "Uncaught RangeError: Result is not a safe integer",
+        "",
+    ),
+    (
+        "9007199254740991 + 1;",
+        4,
+        "Uncaught RangeError: Result is not a safe integer",
+        "",
+    ),
+    (
+        "-9007199254740991 - 1;",
+        5,
+        "Uncaught RangeError: Result is not a safe integer",
+        "",
+    ),
+    (
+        "94906267 * 94906267;",
+        4,
+        "Uncaught RangeError: Result is not a safe integer",
+        "",
+    ),
+    (
+        "let n = 9007199254740991; n++;",
+        6,
+        "Uncaught RangeError: Result is not a safe integer",
+        "",
+    ),
+    (
+        "let n = -9007199254740991; --n;",
+        7,
+        "Uncaught RangeError: Result is not a safe integer",
+        "",
+    ),
+];
