@@ -8,6 +8,7 @@ mod errors;
 mod finally;
 mod functions;
 mod input;
+mod limits;
 mod loops;
 mod order;
 mod steps;
