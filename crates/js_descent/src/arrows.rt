@@ -1,6 +1,6 @@
 //! Arrow functions (ECMA-262, 15.3).
 
-ghost use Rattle.std.specs.Prelude.{◌≡◌, ◌≤◌, ◌<◌, ◌+◌, suc, max, Some, IfOk};
+ghost use Rattle.std.specs.Prelude.{◌≡◌, ◌≤◌, ◌<◌, ◌+◌, suc, max, Some, IfOk, List, ◌∷◌};
 ghost use Rattle.js_tree.specs.Height.{height};
 ghost use Rattle.js_tree.specs.Views.{expression_view};
 ghost use Rattle.js_syntax.specs.Giving.{Gives};
@@ -12,14 +12,19 @@ ghost use Rattle.js_tree.specs.Views.{parameters_view};
 ghost use Rattle.js_tree.specs.Well.{names_of_parameters};
 ghost use Rattle.js_syntax.specs.Names.{texts};
 ghost use Rattle.js_syntax.specs.Reading.{with_names};
+ghost use Rattle.js_tree.specs.Places.{expression_places, plain, in_turn};
+ghost use Rattle.js_rules.specs.Placed.{Placed};
+ghost use Rattle.js_tree.specs.declared.node.Span.{Span};
+ghost use Rattle.js_tree.specs.Flat.{flat_parameters, flat_arrow_parameters, a};
+ghost use Rattle.js_lexer.specs.declared.token.TokenKind.TheVariants as kinds;
 
 use crate::blocks::braces_at;
-use crate::context::Context;
 use crate::expressions::assignment_below;
 use crate::parsed::Parsed;
-use crate::words::{expect_near, name_at, names_before, names_of};
 use cdp_text::units::Units;
 use js_lexer::token::{Token, TokenKind};
+use js_rules::context::Context;
+use js_rules::words::{expect_near, name_at, names_before, names_of};
 use js_syntax::classes::arrows::take_fresh;
 use js_syntax::fault::ParseError;
 use js_syntax::name_set::NameSet;
@@ -35,6 +40,7 @@ pub fn arrow_of_one<'t, 's>(nodes: &mut Nodes, room: u32, tokens: &'t [Token<'s>
     requires { room < 203 }
     ensures gives { Gives (λ x. (expression_view x.0, tokens_view x.2.now)) result (reading.arrow_of_one (below room) (tokens_view tokens.now)) }
     ensures deep { IfOk result (λ x. (x.1 ≡ height (expression_view x.0)) × (x.1 ≤ room + 1)) }
+    ensures placed { IfOk result (λ x. Placed true nodes.old nodes.new (expression_places x.0) (tokens_view tokens.now) (tokens_view x.2.now)) }
 {
     let (text, rest) = name_at(tokens)?;
     let mut taken = NameSet::new(nodes.alloc());
@@ -55,6 +61,7 @@ pub fn arrow_of_list<'t, 's>(
     requires { room < 203 }
     ensures gives { Gives (λ x. (expression_view x.0, tokens_view x.2.now)) result (reading.arrow_of_list (below room) only (tokens_view tokens.now)) }
     ensures deep { IfOk result (λ x. (x.1 ≡ height (expression_view x.0)) × (x.1 ≤ room + 1)) }
+    ensures placed { IfOk result (λ x. Placed true nodes.old nodes.new (expression_places x.0) (tokens_view tokens.now) (tokens_view x.2.now)) }
 {
     let rest = expect(TokenKind::LeftParenthesis, tokens)?;
     let (names, rest) = names_before(nodes.alloc(), rest)?;
@@ -82,6 +89,7 @@ fn arrow_of_names<'t, 's>(
     requires { room < 203 }
     ensures gives { Gives (λ x. (expression_view x.0, tokens_view x.2.now)) result (reading.arrow_of_names (below room) only (texts names.now) (tokens_view tokens.now)) }
     ensures deep { IfOk result (λ x. (x.1 ≡ height (expression_view x.0)) × (x.1 ≤ room + 1)) }
+    ensures placed { (old : List Span) → Placed true old nodes.old (plain (flat_parameters (texts names.now))) (tokens_view start.now) (tokens_view tokens.now) → IfOk result (λ x. Placed true old nodes.new (expression_places x.0) (tokens_view start.now) (tokens_view x.2.now)) }
 {
     let mut taken = NameSet::new(nodes.alloc());
     if !take_fresh(&mut taken, names)? {
@@ -107,6 +115,7 @@ pub fn arrow_rest<'t, 's>(
     requires taken { taken ≡ with_names [] (names_of_parameters (parameters_view parameters)) }
     ensures gives { Gives (λ x. (expression_view x.0, tokens_view x.2.now)) result (reading.arrow_rest (below room) (parameters_view parameters) (names_of_parameters (parameters_view parameters)) (tokens_view tokens.now)) }
     ensures deep { IfOk result (λ x. (x.1 ≡ height (expression_view x.0)) × (x.1 ≤ room + 1)) }
+    ensures placed { (old : List Span) → Placed true old nodes.old (plain (flat_arrow_parameters (parameters_view parameters))) (tokens_view start.now) (tokens_view tokens.now) → IfOk result (λ x. Placed true old nodes.new (expression_places x.0) (tokens_view start.now) (tokens_view x.2.now)) }
 {
     let rest = expect_near(TokenKind::Arrow, tokens)?;
     if is_next(TokenKind::LeftBrace, rest) {
@@ -133,6 +142,7 @@ fn arrow_block_at<'t, 's>(
     requires taken { taken ≡ with_names [] (names_of_parameters (parameters_view parameters)) }
     ensures gives { Gives (λ x. (expression_view x.0, tokens_view x.2.now)) result (reading.arrow_body_by (below room) (parameters_view parameters) (names_of_parameters (parameters_view parameters)) true (tokens_view tokens.now)) }
     ensures deep { IfOk result (λ x. (x.1 ≡ height (expression_view x.0)) × (x.1 ≤ room + 1)) }
+    ensures placed { (old : List Span) → Placed true old nodes.old (in_turn (plain (flat_arrow_parameters (parameters_view parameters)) ∷ plain (a kinds.Arrow) ∷ [])) (tokens_view start.now) (tokens_view tokens.now) → IfOk result (λ x. Placed true old nodes.new (expression_places x.0) (tokens_view start.now) (tokens_view x.2.now)) }
 {
     let (body, height, rest) = braces_at(nodes, room, Context::function_body(), taken, tokens)?;
     let node = nodes.add(start, rest)?;

@@ -1,19 +1,23 @@
 //! Lists of statements, blocks and functions (ECMA-262, 14.2 and 15.2).
 
-ghost use Rattle.std.specs.Prelude.{◌≡◌, ◌≤◌, ◌<◌, ◌+◌, suc, IfOk};
+ghost use Rattle.std.specs.Prelude.{◌≡◌, ◌≤◌, ◌<◌, ◌+◌, suc, IfOk, true, [], ◌∷◌, false};
 ghost use Rattle.js_tree.specs.Height.{height_of_statements};
 ghost use Rattle.js_tree.specs.Views.{block_view, statements_view};
 ghost use Rattle.js_syntax.specs.Giving.{Gives};
 ghost use Rattle.js_syntax.specs.Parsing.{below};
 ghost use Rattle.js_syntax.specs.Productions as productions;
 ghost use Rattle.js_syntax.specs.Views.{tokens_view};
-ghost use Rattle.js_descent.specs.Views.{context_view, function_view};
+ghost use Rattle.js_descent.specs.Views.{function_view};
+ghost use Rattle.js_rules.specs.Views.{context_view};
+ghost use Rattle.js_tree.specs.Places.{block_places, in_turn, plain, in_braces, statements_places};
+ghost use Rattle.js_rules.specs.Placed.{Placed};
+ghost use Rattle.js_tree.specs.Flat.{flat_parameters};
 
-use crate::context::Context;
 use crate::declarations::item_below;
-use crate::names::parameters_at;
 use crate::parsed::{FunctionParts, ParsedBlock, ParsedFunction, ParsedStatements, deeper};
 use js_lexer::token::{Token, TokenKind};
+use js_rules::context::Context;
+use js_rules::names::parameters_at;
 use js_syntax::classes::lists::ends_list;
 use js_syntax::fault::ParseError;
 use js_syntax::name_set::NameSet;
@@ -34,6 +38,7 @@ pub fn block_below<'t, 's>(
     requires { room ≤ 203 }
     ensures gives { Gives (λ x. (block_view x.0, tokens_view x.2.now)) result ((below room).block (context_view context) names.entry (tokens_view tokens.now)) }
     ensures deep { IfOk result (λ x. (x.1 ≡ suc (height_of_statements (block_view x.0))) × (x.1 ≤ room)) }
+    ensures placed { IfOk result (λ x. Placed true nodes.old nodes.new (block_places x.0) (tokens_view tokens.now) (tokens_view x.2.now)) }
 {
     if room == 0 {
         return Err(ParseError::TooDeep { left: tokens.len() });
@@ -54,6 +59,7 @@ pub fn function_below<'t, 's>(
     requires { room ≤ 203 }
     ensures gives { Gives (λ x. (function_view x.0, tokens_view x.2.now)) result ((below room).function (tokens_view tokens.now)) }
     ensures deep { IfOk result (λ x. (x.1 ≡ height_of_statements (statements_view x.0.body)) × (x.1 < room)) }
+    ensures placed { IfOk result (λ x. Placed true nodes.old nodes.new (in_turn (plain (flat_parameters x.0.parameters) ∷ in_braces (statements_places x.0.body) ∷ [])) (tokens_view tokens.now) (tokens_view x.2.now)) }
 {
     if room == 0 {
         return Err(ParseError::TooDeep { left: tokens.len() });
@@ -74,6 +80,7 @@ pub fn items_at<'t, 's>(
     requires { room ≤ 203 }
     ensures gives { Gives (λ x. (statements_view x.0, tokens_view x.2.now)) result (productions.items_at (below room) (context_view context) names.entry (tokens_view tokens.now)) }
     ensures deep { IfOk result (λ x. (x.1 ≡ height_of_statements (statements_view x.0)) × (x.1 ≤ room)) }
+    ensures placed { IfOk result (λ x. Placed false nodes.old nodes.new (statements_places x.0) (tokens_view tokens.now) (tokens_view x.2.now)) }
 {
     let mut names = names;
     let mut items = Vec::new(nodes.alloc());
@@ -100,6 +107,7 @@ pub fn braces_at<'t, 's>(
     requires { room < 203 }
     ensures gives { Gives (λ x. (statements_view x.0, tokens_view x.2.now)) result (productions.braces (below room) (context_view context) names.entry (tokens_view tokens.now)) }
     ensures deep { IfOk result (λ x. (x.1 ≡ height_of_statements (statements_view x.0)) × (x.1 ≤ room)) }
+    ensures placed { IfOk result (λ x. Placed true nodes.old nodes.new (in_braces (statements_places x.0)) (tokens_view tokens.now) (tokens_view x.2.now)) }
 {
     let rest = expect(TokenKind::LeftBrace, tokens)?;
     let (body, height, rest) = items_at(nodes, room, context, names, rest)?;
@@ -118,6 +126,7 @@ pub fn code_at<'t, 's>(
     requires { room < 203 }
     ensures gives { Gives (λ x. (function_view x.0, tokens_view x.2.now)) result (productions.code_at (below room) (tokens_view tokens.now)) }
     ensures deep { IfOk result (λ x. (x.1 ≡ height_of_statements (statements_view x.0.body)) × (x.1 ≤ room)) }
+    ensures placed { IfOk result (λ x. Placed true nodes.old nodes.new (in_turn (plain (flat_parameters x.0.parameters) ∷ in_braces (statements_places x.0.body) ∷ [])) (tokens_view tokens.now) (tokens_view x.2.now)) }
 {
     let (parameters, names, rest) = parameters_at(nodes.alloc(), tokens)?;
     let (body, height, rest) = braces_at(nodes, room, Context::function_body(), names, rest)?;

@@ -1,6 +1,6 @@
 //! Members and calls (ECMA-262, 13.3).
 
-ghost use Rattle.std.specs.Prelude.{◌≡◌, ◌≤◌, ◌<◌, ◌+◌, suc, max, Some, IfOk};
+ghost use Rattle.std.specs.Prelude.{◌≡◌, ◌≤◌, ◌<◌, ◌+◌, suc, max, Some, IfOk, true, List};
 ghost use Rattle.js_tree.specs.Height.{height};
 ghost use Rattle.js_tree.specs.Views.{expression_view};
 ghost use Rattle.js_syntax.specs.Giving.{Gives};
@@ -10,14 +10,18 @@ ghost use Rattle.js_syntax.specs.Views.{tokens_view};
 ghost use Rattle.js_syntax.specs.Classes.{key};
 ghost use Rattle.js_syntax.specs.Classes as classes;
 ghost use Rattle.js_syntax.specs.Heads.{link_view};
+ghost use Rattle.js_tree.specs.Places.{expression_places};
+ghost use Rattle.js_rules.specs.Placed.{Placed};
+ghost use Rattle.js_tree.specs.declared.node.Span.{Span};
+ghost use Rattle.js_tree.specs.Tokens.{head_of};
 
 use crate::expressions::expression_below;
 use crate::lists::arguments_before;
 use crate::parsed::{Parsed, deeper};
 use crate::primaries::primary_at;
-use crate::words::word_at;
 use cdp_text::units::Units;
 use js_lexer::token::{Token, TokenKind};
+use js_rules::words::word_at;
 use js_syntax::classes::expressions::{Link, link_of};
 use js_syntax::fault::ParseError;
 use js_syntax::nodes::Nodes;
@@ -32,6 +36,7 @@ pub fn call_below<'t, 's>(nodes: &mut Nodes, room: u32, tokens: &'t [Token<'s>])
     requires { room ≤ 203 }
     ensures gives { Gives (λ x. (expression_view x.0, tokens_view x.2.now)) result ((below room).call (tokens_view tokens.now)) }
     ensures deep { IfOk result (λ x. (x.1 ≡ height (expression_view x.0)) × (x.1 ≤ room)) }
+    ensures placed { IfOk result (λ x. Placed true nodes.old nodes.new (expression_places x.0) (tokens_view tokens.now) (tokens_view x.2.now)) }
 {
     if room == 0 {
         return Err(ParseError::TooDeep { left: tokens.len() });
@@ -46,6 +51,7 @@ pub fn call_at<'t, 's>(nodes: &mut Nodes, room: u32, tokens: &'t [Token<'s>]) ->
     requires { room < 203 }
     ensures gives { Gives (λ x. (expression_view x.0, tokens_view x.2.now)) result (reading.call (below room) room (tokens_view tokens.now)) }
     ensures deep { IfOk result (λ x. (x.1 ≡ height (expression_view x.0)) × (x.1 ≤ room + 1)) }
+    ensures placed { IfOk result (λ x. Placed true nodes.old nodes.new (expression_places x.0) (tokens_view tokens.now) (tokens_view x.2.now)) }
 {
     let (callee, height, rest) = primary_at(nodes, room, tokens)?;
     links_at(nodes, room, room + 1, callee, height, tokens, rest)
@@ -69,6 +75,7 @@ fn links_at<'t, 's>(
     requires low { object_height ≤ room + 1 }
     ensures gives { Gives (λ x. (expression_view x.0, tokens_view x.2.now)) result (reading.links (below room) room turns (expression_view object) (tokens_view tokens.now)) }
     ensures deep { IfOk result (λ x. (x.1 ≡ height (expression_view x.0)) × (x.1 ≤ room + 1)) }
+    ensures placed { (old : List Span) → Placed true old nodes.old (expression_places object) (tokens_view start.now) (tokens_view tokens.now) → IfOk result (λ x. Placed true old nodes.new (expression_places x.0) (tokens_view start.now) (tokens_view x.2.now)) }
 {
     if turns == 0 {
         return Err(ParseError::TooDeep { left: tokens.len() });
@@ -101,6 +108,7 @@ fn linked_at<'t, 's>(
     requires low { object_height ≤ room }
     ensures gives { Gives (λ x. (expression_view x.0, tokens_view x.2.now)) result (reading.linked_by (below room) (expression_view object) (link_view (Some link)) (tokens_view tokens.now)) }
     ensures deep { IfOk result (λ x. (x.1 ≡ height (expression_view x.0)) × (x.1 ≤ room + 1)) }
+    ensures placed { (old : List Span) → link_view (Some link) ≡ classes.link (head_of (tokens_view tokens.now)) → Placed true old nodes.old (expression_places object) (tokens_view start.now) (tokens_view tokens.now) → IfOk result (λ x. Placed true old nodes.new (expression_places x.0) (tokens_view start.now) (tokens_view x.2.now)) }
 {
     match link {
         Link::Dot => {
@@ -130,6 +138,7 @@ fn indexed_at<'t, 's>(
     requires low { object_height ≤ room }
     ensures gives { Gives (λ x. (expression_view x.0, tokens_view x.2.now)) result (reading.linked_by (below room) (expression_view object) key (tokens_view tokens.now)) }
     ensures deep { IfOk result (λ x. (x.1 ≡ height (expression_view x.0)) × (x.1 ≤ room + 1)) }
+    ensures placed { (old : List Span) → Placed true old nodes.old (expression_places object) (tokens_view start.now) (tokens_view tokens.now) → IfOk result (λ x. Placed true old nodes.new (expression_places x.0) (tokens_view start.now) (tokens_view x.2.now)) }
 {
     let rest = expect(TokenKind::LeftBracket, tokens)?;
     let (key, key_height, rest) = expression_below(nodes, room, rest)?;
@@ -154,6 +163,7 @@ fn called_at<'t, 's>(
     requires low { object_height ≤ room }
     ensures gives { Gives (λ x. (expression_view x.0, tokens_view x.2.now)) result (reading.linked_by (below room) (expression_view object) classes.arguments (tokens_view tokens.now)) }
     ensures deep { IfOk result (λ x. (x.1 ≡ height (expression_view x.0)) × (x.1 ≤ room + 1)) }
+    ensures placed { (old : List Span) → Placed true old nodes.old (expression_places object) (tokens_view start.now) (tokens_view tokens.now) → IfOk result (λ x. Placed true old nodes.new (expression_places x.0) (tokens_view start.now) (tokens_view x.2.now)) }
 {
     let rest = expect(TokenKind::LeftParenthesis, tokens)?;
     let (arguments, height, rest) = arguments_before(

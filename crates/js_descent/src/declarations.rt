@@ -1,6 +1,6 @@
 //! Declarations, and statements with what they declare (ECMA-262, 14.3.1 and 15.2).
 
-ghost use Rattle.std.specs.Prelude.{◌≡◌, ◌≤◌, ◌<◌, ◌+◌, suc, IfOk};
+ghost use Rattle.std.specs.Prelude.{◌≡◌, ◌≤◌, ◌<◌, ◌+◌, suc, IfOk, true};
 ghost use Rattle.js_tree.specs.Height.{height_of_declarator, height_of_declarators, height_of_statement};
 ghost use Rattle.js_tree.specs.Views.{declarator_view, declarators_view, statement_view};
 ghost use Rattle.js_tree.specs.Well as well;
@@ -11,17 +11,21 @@ ghost use Rattle.js_syntax.specs.Productions as productions;
 ghost use Rattle.js_syntax.specs.Productions.{with_declarator};
 ghost use Rattle.js_syntax.specs.Reading.{with_names};
 ghost use Rattle.js_syntax.specs.Views.{tokens_view};
-ghost use Rattle.js_descent.specs.Views.{context_view};
+ghost use Rattle.js_rules.specs.Views.{context_view};
+ghost use Rattle.js_tree.specs.Places.{statement_places, declarators_places, declarator_places};
+ghost use Rattle.js_rules.specs.Placed.{Placed};
+ghost use Rattle.js_tree.specs.Tokens.{head_of, IsNext, fixed};
+ghost use Rattle.js_lexer.specs.declared.token.TokenKind.TheVariants as kinds;
 
 use crate::blocks::code_at;
-use crate::context::Context;
-use crate::endings::{end_of, semicolon_at};
 use crate::expressions::assignment_below;
-use crate::names::fresh_name;
 use crate::parsed::{ParsedDeclarator, ParsedDeclarators, ParsedStatement, deeper};
 use crate::statements::statement_at;
 use cdp_text::units::Units;
 use js_lexer::token::{Token, TokenKind};
+use js_rules::context::Context;
+use js_rules::endings::{end_of, semicolon_at};
+use js_rules::names::fresh_name;
 use js_syntax::classes::statements::{First, first_of};
 use js_syntax::fault::ParseError;
 use js_syntax::name_set::NameSet;
@@ -44,6 +48,7 @@ pub fn item_below<'t, 's>(
     ensures gives { Gives (λ x. (statement_view x.0, tokens_view x.2.now)) result ((below room).item (context_view context) names.old (tokens_view tokens.now)) }
     ensures deep { IfOk result (λ x. (x.1 ≡ height_of_statement (statement_view x.0)) × (x.1 ≤ room)) }
     ensures names { IfOk result (λ x. names.new ≡ productions.with_declared names.old (statement_view x.0)) }
+    ensures placed { IfOk result (λ x. Placed true nodes.old nodes.new (statement_places x.0) (tokens_view tokens.now) (tokens_view x.2.now)) }
 {
     if room == 0 {
         return Err(ParseError::TooDeep { left: tokens.len() });
@@ -65,6 +70,7 @@ pub fn item_at<'t, 's>(
     ensures gives { Gives (λ x. (statement_view x.0, tokens_view x.2.now)) result (reading.item (below room) (context_view context) names.old (tokens_view tokens.now)) }
     ensures deep { IfOk result (λ x. (x.1 ≡ height_of_statement (statement_view x.0)) × (x.1 ≤ room + 1)) }
     ensures names { IfOk result (λ x. names.new ≡ productions.with_declared names.old (statement_view x.0)) }
+    ensures placed { IfOk result (λ x. Placed true nodes.old nodes.new (statement_places x.0) (tokens_view tokens.now) (tokens_view x.2.now)) }
 {
     match first_of(tokens) {
         First::Lexical { constant } => lexical_at(nodes, room, constant, names, tokens),
@@ -93,6 +99,7 @@ fn lexical_at<'t, 's>(
     ensures gives { Gives (λ x. (statement_view x.0, tokens_view x.2.now)) result (reading.lexical_at (below room) constant names.old (tokens_view tokens.now)) }
     ensures deep { IfOk result (λ x. (x.1 ≡ height_of_statement (statement_view x.0)) × (x.1 ≤ room + 1)) }
     ensures names { IfOk result (λ x. names.new ≡ productions.with_declared names.old (statement_view x.0)) }
+    ensures placed { IsNext (fixed (reading.let_kind constant)) (head_of (tokens_view tokens.now)) → IfOk result (λ x. Placed true nodes.old nodes.new (statement_places x.0) (tokens_view tokens.now) (tokens_view x.2.now)) }
 {
     let (declarators, height, rest) = declarators_at(nodes, room, constant, names, tail(tokens))?;
     let rest = semicolon_at(end_of(&declarators), rest)?;
@@ -114,6 +121,7 @@ fn declaration_at<'t, 's>(
     ensures gives { Gives (λ x. (statement_view x.0, tokens_view x.2.now)) result (reading.declaration_at (below room) names.old (tokens_view tokens.now)) }
     ensures deep { IfOk result (λ x. (x.1 ≡ height_of_statement (statement_view x.0)) × (x.1 ≤ room + 1)) }
     ensures names { IfOk result (λ x. names.new ≡ productions.with_declared names.old (statement_view x.0)) }
+    ensures placed { IsNext (fixed kinds.Function) (head_of (tokens_view tokens.now)) → IfOk result (λ x. Placed true nodes.old nodes.new (statement_places x.0) (tokens_view tokens.now) (tokens_view x.2.now)) }
 {
     let (text, rest) = fresh_name(names, tail(tokens))?;
     let (function, height, rest) = code_at(nodes, room, rest)?;
@@ -138,6 +146,7 @@ pub fn declarators_at<'t, 's>(
     ensures gives { Gives (λ x. (declarators_view x.0, tokens_view x.2.now)) result (productions.declarators_at (below room) constant names.old (tokens_view tokens.now)) }
     ensures deep { IfOk result (λ x. (x.1 ≡ height_of_declarators (declarators_view x.0)) × (x.1 ≤ room)) }
     ensures names { IfOk result (λ x. names.new ≡ with_names names.old (well.names_of_declarators (declarators_view x.0))) }
+    ensures placed { IfOk result (λ x. Placed true nodes.old nodes.new (declarators_places x.0) (tokens_view tokens.now) (tokens_view x.2.now)) }
 {
     let (first, height, rest) = declarator_at(nodes, room, constant, names, tokens)?;
     let mut items = Vec::new(nodes.alloc());
@@ -166,6 +175,7 @@ fn declarator_at<'t, 's>(
     ensures gives { Gives (λ x. (declarator_view x.0, tokens_view x.2.now)) result (productions.declarator_at (below room) constant names.old (tokens_view tokens.now)) }
     ensures deep { IfOk result (λ x. (x.1 ≡ height_of_declarator (declarator_view x.0)) × (x.1 ≤ room)) }
     ensures names { IfOk result (λ x. names.new ≡ with_declarator names.old (declarator_view x.0)) }
+    ensures placed { IfOk result (λ x. Placed true nodes.old nodes.new (declarator_places x.0) (tokens_view tokens.now) (tokens_view x.2.now)) }
 {
     let (text, rest) = fresh_name(names, tokens)?;
     names.insert(text)?;

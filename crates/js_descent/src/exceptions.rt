@@ -1,6 +1,6 @@
 //! `try` (ECMA-262, 14.15).
 
-ghost use Rattle.std.specs.Prelude.{◌≡◌, ◌≤◌, ◌<◌, ◌+◌, suc, max, IfOk};
+ghost use Rattle.std.specs.Prelude.{◌≡◌, ◌≤◌, ◌<◌, ◌+◌, suc, max, IfOk, true, false, List};
 ghost use Rattle.js_tree.specs.Height.{height_of_finalizer, height_of_handler, height_of_statement};
 ghost use Rattle.js_tree.specs.Views.{catch_view, finalizer_view, handler_view, statement_view};
 ghost use Rattle.js_syntax.specs.Giving.{Gives};
@@ -10,14 +10,18 @@ ghost use Rattle.js_syntax.specs.Parsing.{below};
 ghost use Rattle.js_syntax.specs.Views.{tokens_view};
 ghost use Rattle.js_tree.specs.Tokens.{head_of};
 ghost use Rattle.js_lexer.specs.declared.token.TokenKind.TheVariants as kinds;
-ghost use Rattle.js_descent.specs.Views.{context_view};
+ghost use Rattle.js_rules.specs.Views.{context_view};
+ghost use Rattle.js_tree.specs.Places.{statement_places, handler_places, plain, catch_places, finalizer_places};
+ghost use Rattle.js_rules.specs.Placed.{Placed};
+ghost use Rattle.js_tree.specs.declared.node.Span.{Span};
+ghost use Rattle.js_tree.specs.Flat.{a};
 
 use crate::blocks::block_below;
-use crate::context::Context;
 use crate::parsed::{ParsedCatch, ParsedFinalizer, ParsedHandler, ParsedStatement, deeper};
-use crate::words::name_at;
 use cdp_text::units::Units;
 use js_lexer::token::{Token, TokenKind};
+use js_rules::context::Context;
+use js_rules::words::name_at;
 use js_syntax::fault::ParseError;
 use js_syntax::name_set::NameSet;
 use js_syntax::nodes::Nodes;
@@ -38,6 +42,7 @@ pub fn try_at<'t, 's>(
     requires { room < 203 }
     ensures gives { Gives (λ x. (statement_view x.0, tokens_view x.2.now)) result (reading.try_at (below room) (context_view context) (tokens_view tokens.now)) }
     ensures deep { IfOk result (λ x. (x.1 ≡ height_of_statement (statement_view x.0)) × (x.1 ≤ room + 1)) }
+    ensures placed { IfOk result (λ x. Placed true nodes.old nodes.new (statement_places x.0) (tokens_view tokens.now) (tokens_view x.2.now)) }
 {
     let rest = expect(TokenKind::Try, tokens)?;
     let names = NameSet::new(nodes.alloc());
@@ -62,6 +67,7 @@ fn handler_at<'t, 's>(
     requires { room < 203 }
     ensures gives { Gives (λ x. (handler_view x.0, tokens_view x.2.now)) result (reading.handler_at (below room) (context_view context) (tokens_view tokens.now)) }
     ensures deep { IfOk result (λ x. (x.1 ≡ height_of_handler (handler_view x.0)) × (x.1 ≤ room)) }
+    ensures placed { IfOk result (λ x. Placed false nodes.old nodes.new (handler_places x.0) (tokens_view tokens.now) (tokens_view x.2.now)) }
 {
     if !is_next(TokenKind::Catch, tokens) {
         return Ok((None, 0, tokens));
@@ -81,6 +87,7 @@ fn catch_at<'t, 's>(
     requires { room < 203 }
     ensures gives { Gives (λ x. (catch_view x.0, tokens_view x.2.now)) result (reading.catch_by (below room) (context_view context) (is_kind kinds.LeftParenthesis (head_of (tokens_view tokens.now))) (tokens_view tokens.now)) }
     ensures deep { IfOk result (λ x. (x.1 ≡ height_of_handler (catch_view x.0)) × (x.1 ≤ room)) }
+    ensures placed { (old : List Span) (ts : _) → Placed true old nodes.old (plain (a kinds.Catch)) ts (tokens_view tokens.now) → IfOk result (λ x. Placed true old nodes.new (catch_places x.0) ts (tokens_view x.2.now)) }
 {
     let mut names = NameSet::new(nodes.alloc());
     if !is_next(TokenKind::LeftParenthesis, tokens) {
@@ -109,6 +116,7 @@ fn finalizer_at<'t, 's>(
     requires { room < 203 }
     ensures gives { Gives (λ x. (finalizer_view x.0, tokens_view x.2.now)) result (reading.finalizer_at (below room) (context_view context) (handler_view handler.now) (tokens_view tokens.now)) }
     ensures deep { IfOk result (λ x. (x.1 ≡ height_of_finalizer (finalizer_view x.0)) × (x.1 ≤ room)) }
+    ensures placed { IfOk result (λ x. Placed false nodes.old nodes.new (finalizer_places x.0) (tokens_view tokens.now) (tokens_view x.2.now)) }
 {
     if is_next(TokenKind::Finally, tokens) {
         let rest = expect(TokenKind::Finally, tokens)?;

@@ -1,6 +1,6 @@
 //! Assignments, conditional expressions and comma lists (ECMA-262, 13.14 to 13.16).
 
-ghost use Rattle.std.specs.Prelude.{◌≡◌, ◌≤◌, ◌<◌, ◌+◌, suc, max, Some, IfOk};
+ghost use Rattle.std.specs.Prelude.{◌≡◌, ◌≤◌, ◌<◌, ◌+◌, suc, max, Some, IfOk, List};
 ghost use Rattle.js_tree.specs.Height.{height};
 ghost use Rattle.js_tree.specs.Views.{expression_view};
 ghost use Rattle.js_syntax.specs.Giving.{Gives};
@@ -10,13 +10,16 @@ ghost use Rattle.js_syntax.specs.Views.{tokens_view};
 ghost use Rattle.js_syntax.specs.Classes.{question, assigns_by};
 ghost use Rattle.std.specs.Prelude.{true};
 ghost use Rattle.js_syntax.specs.Heads.{joint_view};
+ghost use Rattle.js_tree.specs.Places.{expression_places};
+ghost use Rattle.js_rules.specs.Placed.{Placed};
+ghost use Rattle.js_tree.specs.declared.node.Span.{Span};
 
 use crate::arrows::{arrow_of_list, arrow_of_one};
 use crate::lists::more_assignments;
 use crate::operators::operation_at;
 use crate::parsed::{Parsed, deeper};
-use crate::targets::{assignment_kind, is_target};
 use js_lexer::token::{Token, TokenKind};
+use js_rules::targets::{assignment_kind, is_target};
 use js_syntax::classes::arrows::{Head, arrow_head};
 use js_syntax::classes::expressions::{Joint, joint_of};
 use js_syntax::fault::ParseError;
@@ -38,6 +41,7 @@ pub fn expression_below<'t, 's>(
     requires { room ≤ 203 }
     ensures gives { Gives (λ x. (expression_view x.0, tokens_view x.2.now)) result ((below room).expression (tokens_view tokens.now)) }
     ensures deep { IfOk result (λ x. (x.1 ≡ height (expression_view x.0)) × (x.1 ≤ room)) }
+    ensures placed { IfOk result (λ x. Placed true nodes.old nodes.new (expression_places x.0) (tokens_view tokens.now) (tokens_view x.2.now)) }
 {
     if room == 0 {
         return Err(ParseError::TooDeep { left: tokens.len() });
@@ -56,6 +60,7 @@ pub fn assignment_below<'t, 's>(
     requires { room ≤ 203 }
     ensures gives { Gives (λ x. (expression_view x.0, tokens_view x.2.now)) result ((below room).assignment (tokens_view tokens.now)) }
     ensures deep { IfOk result (λ x. (x.1 ≡ height (expression_view x.0)) × (x.1 ≤ room)) }
+    ensures placed { IfOk result (λ x. Placed true nodes.old nodes.new (expression_places x.0) (tokens_view tokens.now) (tokens_view x.2.now)) }
 {
     if room == 0 {
         return Err(ParseError::TooDeep { left: tokens.len() });
@@ -74,6 +79,7 @@ pub fn expression_at<'t, 's>(
     requires { room < 203 }
     ensures gives { Gives (λ x. (expression_view x.0, tokens_view x.2.now)) result (reading.expression (below room) room (tokens_view tokens.now)) }
     ensures deep { IfOk result (λ x. (x.1 ≡ height (expression_view x.0)) × (x.1 ≤ room + 1)) }
+    ensures placed { IfOk result (λ x. Placed true nodes.old nodes.new (expression_places x.0) (tokens_view tokens.now) (tokens_view x.2.now)) }
 {
     let (first, height, rest) = assignment_at(nodes, room, tokens)?;
     if is_next(TokenKind::Comma, rest) {
@@ -99,6 +105,7 @@ fn comma_at<'t, 's>(
     requires low { first_height ≤ room + 1 }
     ensures gives { Gives (λ x. (expression_view x.0, tokens_view x.2.now)) result (reading.comma_by (below room) room (expression_view first) true (tokens_view tokens.now)) }
     ensures deep { IfOk result (λ x. (x.1 ≡ height (expression_view x.0)) × (x.1 ≤ room + 1)) }
+    ensures placed { (old : List Span) → Placed true old nodes.old (expression_places first) (tokens_view start.now) (tokens_view tokens.now) → IfOk result (λ x. Placed true old nodes.new (expression_places x.0) (tokens_view start.now) (tokens_view x.2.now)) }
 {
     if first_height > room {
         return Err(ParseError::TooDeep {
@@ -123,6 +130,7 @@ pub fn assignment_at<'t, 's>(
     requires { room < 203 }
     ensures gives { Gives (λ x. (expression_view x.0, tokens_view x.2.now)) result (reading.assignment (below room) room (tokens_view tokens.now)) }
     ensures deep { IfOk result (λ x. (x.1 ≡ height (expression_view x.0)) × (x.1 ≤ room + 1)) }
+    ensures placed { IfOk result (λ x. Placed true nodes.old nodes.new (expression_places x.0) (tokens_view tokens.now) (tokens_view x.2.now)) }
 {
     match arrow_head(tokens) {
         Some(Head::Name) => arrow_of_one(nodes, room, tokens),
@@ -150,6 +158,7 @@ fn joined_at<'t, 's>(
     requires low { first_height ≤ room + 1 }
     ensures gives { Gives (λ x. (expression_view x.0, tokens_view x.2.now)) result (reading.joined (below room) room (expression_view first) (tokens_view tokens.now)) }
     ensures deep { IfOk result (λ x. (x.1 ≡ height (expression_view x.0)) × (x.1 ≤ room + 1)) }
+    ensures placed { (old : List Span) → Placed true old nodes.old (expression_places first) (tokens_view start.now) (tokens_view tokens.now) → IfOk result (λ x. Placed true old nodes.new (expression_places x.0) (tokens_view start.now) (tokens_view x.2.now)) }
 {
     match joint_of(tokens) {
         Some(Joint::Question) => conditional_at(nodes, room, first, first_height, start, tokens),
@@ -175,6 +184,7 @@ fn conditional_at<'t, 's>(
     requires low { first_height ≤ room + 1 }
     ensures gives { Gives (λ x. (expression_view x.0, tokens_view x.2.now)) result (reading.joined_by (below room) room (expression_view first) question (tokens_view tokens.now)) }
     ensures deep { IfOk result (λ x. (x.1 ≡ height (expression_view x.0)) × (x.1 ≤ room + 1)) }
+    ensures placed { (old : List Span) → Placed true old nodes.old (expression_places first) (tokens_view start.now) (tokens_view tokens.now) → IfOk result (λ x. Placed true old nodes.new (expression_places x.0) (tokens_view start.now) (tokens_view x.2.now)) }
 {
     if first_height > room {
         return Err(ParseError::TooDeep {
@@ -207,6 +217,7 @@ fn assigned_at<'t, 's>(
     requires low { first_height ≤ room + 1 }
     ensures gives { Gives (λ x. (expression_view x.0, tokens_view x.2.now)) result (reading.joined_by (below room) room (expression_view first) (assigns_by operator) (tokens_view tokens.now)) }
     ensures deep { IfOk result (λ x. (x.1 ≡ height (expression_view x.0)) × (x.1 ≤ room + 1)) }
+    ensures placed { (old : List Span) → Placed true old nodes.old (expression_places first) (tokens_view start.now) (tokens_view tokens.now) → IfOk result (λ x. Placed true old nodes.new (expression_places x.0) (tokens_view start.now) (tokens_view x.2.now)) }
 {
     if !is_target(&first) {
         return Err(ParseError::Syntax { left: tokens.len() });

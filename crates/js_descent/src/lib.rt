@@ -1,23 +1,16 @@
 //! The parser: a recursive descent over lent tokens.
 #![tactic(auto)]
 
-mod arrows;
-mod blocks;
+pub mod arrows;
+pub mod blocks;
 mod calls;
-mod context;
 mod declarations;
-mod endings;
 mod exceptions;
-mod expressions;
-mod functions;
+pub mod expressions;
 mod lists;
 mod loops;
-mod names;
 mod objects;
 mod operators;
-mod parsed;
-mod primaries;
+pub mod parsed;
+pub mod primaries;
 mod statements;
-mod targets;
-pub mod whole;
-mod words;

@@ -1,6 +1,6 @@
 //! Lists of expressions.
 
-ghost use Rattle.std.specs.Prelude.{◌≡◌, ◌≤◌, ◌<◌, ◌+◌, suc, length, map, IfOk};
+ghost use Rattle.std.specs.Prelude.{◌≡◌, ◌≤◌, ◌<◌, ◌+◌, suc, length, map, IfOk, [], ◌∷◌, true, false};
 ghost use Rattle.js_tree.specs.Height.{height};
 ghost use Rattle.js_tree.specs.Views.{expression_view};
 ghost use Rattle.js_syntax.specs.Giving.{Gives};
@@ -12,6 +12,11 @@ ghost use Rattle.js_tree.specs.Views.{expressions, expressions_view};
 ghost use Rattle.js_syntax.specs.Productions as productions;
 ghost use Rattle.js_syntax.specs.Productions.{one_of};
 ghost use Rattle.js_syntax.specs.Reading.{elements, others, no_state};
+ghost use Rattle.js_tree.specs.Flat.{a};
+ghost use Rattle.js_tree.specs.Places.{in_turn, plain, may_stand, expressions_places, with_commas, expression_places, behind_commas};
+ghost use Rattle.js_syntax.specs.Kinds.{is_same_kind};
+ghost use Rattle.js_rules.specs.Placed.{Placed};
+ghost use Rattle.js_lexer.specs.declared.token.TokenKind.TheVariants as kinds;
 
 use crate::expressions::assignment_below;
 use crate::parsed::{ParsedExpressions, ParsedItems, deeper, nothing_read};
@@ -34,6 +39,7 @@ pub fn arguments_before<'t, 's>(
     requires { room < 203 }
     ensures gives { Gives (λ x. (expressions_view x.0, tokens_view x.2.now)) result (productions.arguments_before (below room) closer (tokens_view tokens.now)) }
     ensures deep { IfOk result (λ x. (x.1 ≡ height_of_expressions (expressions_view x.0)) × (x.1 ≤ room)) }
+    ensures placed { is_same_kind closer kinds.Comma ≡ false → IfOk result (λ x. Placed true nodes.old nodes.new (in_turn (expressions_places x.0 ∷ may_stand kinds.Comma ∷ plain (a closer) ∷ [])) (tokens_view tokens.now) (tokens_view x.2.now)) }
 {
     let (items, height, rest) = elements_before(nodes, room, closer, tokens)?;
     Ok((expressions_of(items), height, rest))
@@ -50,6 +56,7 @@ fn elements_before<'t, 's>(
     requires { room < 203 }
     ensures gives { Gives (λ x. (map expression_view x.0.items, tokens_view x.2.now)) result (elements (one_of (below room).assignment) no_state closer (suc (length (tokens_view tokens.now))) tt (tokens_view tokens.now)) }
     ensures deep { IfOk result (λ x. (x.1 ≡ height_of_expressions (expressions (map expression_view x.0.items))) × (x.1 ≤ room)) }
+    ensures placed { is_same_kind closer kinds.Comma ≡ false → IfOk result (λ x. Placed true nodes.old nodes.new (in_turn (with_commas (map expression_places x.0.items) ∷ may_stand kinds.Comma ∷ plain (a closer) ∷ [])) (tokens_view tokens.now) (tokens_view x.2.now)) }
 {
     let mut items = Vec::new(nodes.alloc());
     let mut height = 0;
@@ -79,6 +86,7 @@ pub fn more_assignments<'t, 's>(
     requires { room < 203 }
     ensures gives { Gives (λ x. (map expression_view x.0.items, tokens_view x.2.now)) result (others (one_of (below room).assignment) no_state (suc (length (tokens_view tokens.now))) tt (tokens_view tokens.now)) }
     ensures deep { IfOk result (λ x. (x.1 ≡ height_of_expressions (expressions (map expression_view x.0.items))) × (x.1 ≤ room)) }
+    ensures placed { IfOk result (λ x. Placed false nodes.old nodes.new (behind_commas (map expression_places x.0.items)) (tokens_view tokens.now) (tokens_view x.2.now)) }
 {
     let mut items = Vec::new(nodes.alloc());
     let (mut height, mut rest) = nothing_read(tokens);

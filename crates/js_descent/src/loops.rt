@@ -1,6 +1,6 @@
 //! Loops (ECMA-262, 14.7).
 
-ghost use Rattle.std.specs.Prelude.{◌≡◌, ◌≤◌, ◌<◌, ◌+◌, suc, max, Some, IfOk};
+ghost use Rattle.std.specs.Prelude.{◌≡◌, ◌≤◌, ◌<◌, ◌+◌, suc, max, Some, IfOk, true};
 ghost use Rattle.js_tree.specs.Height.{height_of_statement};
 ghost use Rattle.js_tree.specs.Views.{statement_view};
 ghost use Rattle.js_syntax.specs.Classes as classes;
@@ -8,18 +8,20 @@ ghost use Rattle.js_syntax.specs.Giving.{Gives};
 ghost use Rattle.js_syntax.specs.Parsing as reading;
 ghost use Rattle.js_syntax.specs.Parsing.{below};
 ghost use Rattle.js_syntax.specs.Views.{tokens_view};
-ghost use Rattle.js_descent.specs.Views.{context_view};
+ghost use Rattle.js_rules.specs.Views.{context_view};
+ghost use Rattle.js_tree.specs.Places.{statement_places};
+ghost use Rattle.js_rules.specs.Placed.{Placed};
 
-use crate::context::Context;
 use crate::declarations::declarators_at;
-use crate::endings::semicolon_at;
 use crate::expressions::{assignment_below, expression_below};
-use crate::names::expect_name;
 use crate::parsed::{ParsedStatement, deeper};
 use crate::statements::{optional_before, statement_below};
-use crate::words::name_at;
 use cdp_text::units::Units;
 use js_lexer::token::{Token, TokenKind};
+use js_rules::context::Context;
+use js_rules::endings::semicolon_at;
+use js_rules::names::expect_name;
+use js_rules::words::name_at;
 use js_syntax::classes::statements::{End, ForHead, OF, for_head_of};
 use js_syntax::fault::ParseError;
 use js_syntax::name_set::NameSet;
@@ -41,6 +43,7 @@ pub fn do_at<'t, 's>(
     requires { room < 203 }
     ensures gives { Gives (λ x. (statement_view x.0, tokens_view x.2.now)) result (reading.statement_by (below room) (context_view context) classes.a_do (tokens_view tokens.now)) }
     ensures deep { IfOk result (λ x. (x.1 ≡ height_of_statement (statement_view x.0)) × (x.1 ≤ room + 1)) }
+    ensures placed { IfOk result (λ x. Placed true nodes.old nodes.new (statement_places x.0) (tokens_view tokens.now) (tokens_view x.2.now)) }
 {
     let rest = expect(TokenKind::Do, tokens)?;
     let (body, body_height, rest) = statement_below(nodes, room, context.loop_body(), rest)?;
@@ -65,6 +68,7 @@ pub fn while_at<'t, 's>(
     requires { room < 203 }
     ensures gives { Gives (λ x. (statement_view x.0, tokens_view x.2.now)) result (reading.statement_by (below room) (context_view context) classes.a_while (tokens_view tokens.now)) }
     ensures deep { IfOk result (λ x. (x.1 ≡ height_of_statement (statement_view x.0)) × (x.1 ≤ room + 1)) }
+    ensures placed { IfOk result (λ x. Placed true nodes.old nodes.new (statement_places x.0) (tokens_view tokens.now) (tokens_view x.2.now)) }
 {
     let rest = expect(TokenKind::While, tokens)?;
     let rest = expect(TokenKind::LeftParenthesis, rest)?;
@@ -88,6 +92,7 @@ pub fn for_at<'t, 's>(
     requires { room < 203 }
     ensures gives { Gives (λ x. (statement_view x.0, tokens_view x.2.now)) result (reading.for_at (below room) (context_view context) (tokens_view tokens.now)) }
     ensures deep { IfOk result (λ x. (x.1 ≡ height_of_statement (statement_view x.0)) × (x.1 ≤ room + 1)) }
+    ensures placed { IfOk result (λ x. Placed true nodes.old nodes.new (statement_places x.0) (tokens_view tokens.now) (tokens_view x.2.now)) }
 {
     match for_head_of(tail(tail(tokens))) {
         Some(ForHead::Each { constant }) => for_of_at(nodes, room, context, constant, tokens),
@@ -121,6 +126,7 @@ fn for_of_at<'t, 's>(
     requires { room < 203 }
     ensures gives { Gives (λ x. (statement_view x.0, tokens_view x.2.now)) result (reading.for_by (below room) (context_view context) (classes.each constant) (tokens_view tokens.now)) }
     ensures deep { IfOk result (λ x. (x.1 ≡ height_of_statement (statement_view x.0)) × (x.1 ≤ room + 1)) }
+    ensures placed { IfOk result (λ x. Placed true nodes.old nodes.new (statement_places x.0) (tokens_view tokens.now) (tokens_view x.2.now)) }
 {
     let rest = expect(TokenKind::For, tokens)?;
     let rest = expect(TokenKind::LeftParenthesis, rest)?;
@@ -148,6 +154,7 @@ fn for_lexical_at<'t, 's>(
     requires { room < 203 }
     ensures gives { Gives (λ x. (statement_view x.0, tokens_view x.2.now)) result (reading.for_by (below room) (context_view context) (classes.declares constant) (tokens_view tokens.now)) }
     ensures deep { IfOk result (λ x. (x.1 ≡ height_of_statement (statement_view x.0)) × (x.1 ≤ room + 1)) }
+    ensures placed { IfOk result (λ x. Placed true nodes.old nodes.new (statement_places x.0) (tokens_view tokens.now) (tokens_view x.2.now)) }
 {
     let rest = expect(TokenKind::For, tokens)?;
     let rest = expect(TokenKind::LeftParenthesis, rest)?;
@@ -179,6 +186,7 @@ fn for_plain_at<'t, 's>(
     requires { room < 203 }
     ensures gives { Gives (λ x. (statement_view x.0, tokens_view x.2.now)) result (reading.for_by (below room) (context_view context) classes.plain_head (tokens_view tokens.now)) }
     ensures deep { IfOk result (λ x. (x.1 ≡ height_of_statement (statement_view x.0)) × (x.1 ≤ room + 1)) }
+    ensures placed { IfOk result (λ x. Placed true nodes.old nodes.new (statement_places x.0) (tokens_view tokens.now) (tokens_view x.2.now)) }
 {
     let rest = expect(TokenKind::For, tokens)?;
     let rest = expect(TokenKind::LeftParenthesis, rest)?;

@@ -1,6 +1,6 @@
 //! Object literals (ECMA-262, 13.2.5).
 
-ghost use Rattle.std.specs.Prelude.{◌≡◌, ◌≤◌, ◌<◌, ◌+◌, suc, length, map, IfOk};
+ghost use Rattle.std.specs.Prelude.{◌≡◌, ◌≤◌, ◌<◌, ◌+◌, suc, length, map, IfOk, [], ◌∷◌, true, List};
 ghost use Rattle.js_tree.specs.Height.{height};
 ghost use Rattle.js_tree.specs.Views.{expression_view};
 ghost use Rattle.js_syntax.specs.Giving.{Gives};
@@ -13,14 +13,19 @@ ghost use Rattle.js_tree.specs.Tokens.{head_of};
 ghost use Rattle.js_syntax.specs.Classes as classes;
 ghost use Rattle.js_syntax.specs.Productions.{one_of};
 ghost use Rattle.js_syntax.specs.Reading.{elements, no_state};
+ghost use Rattle.js_tree.specs.Flat.{a};
+ghost use Rattle.js_tree.specs.Places.{in_turn, plain, may_stand, properties_places, with_commas, property_places, key_places};
+ghost use Rattle.js_rules.specs.Placed.{Placed};
+ghost use Rattle.js_tree.specs.declared.node.Span.{Span};
+ghost use Rattle.js_lexer.specs.declared.token.TokenKind.TheVariants as kinds;
 
 use crate::blocks::function_below;
 use crate::expressions::assignment_below;
 use crate::parsed::{ParsedKey, ParsedMembers, ParsedProperties, ParsedProperty, deeper};
-use crate::words::name_at;
 use cdp_text::units::Units;
 use js_lexer::strings::string_value;
 use js_lexer::token::{Token, TokenKind};
+use js_rules::words::name_at;
 use js_syntax::classes::lists::{After, after_of};
 use js_syntax::classes::objects::{AfterKey, KeyStart, after_key_of, is_shorthand, key_start_of};
 use js_syntax::fault::ParseError;
@@ -43,6 +48,7 @@ pub fn properties_at<'t, 's>(
     requires { room < 203 }
     ensures gives { Gives (λ x. (properties_view x.0, tokens_view x.2.now)) result (reading.properties_at (below room) room (tokens_view tokens.now)) }
     ensures deep { IfOk result (λ x. (x.1 ≡ height_of_properties (properties_view x.0)) × (x.1 ≤ room)) }
+    ensures placed { IfOk result (λ x. Placed true nodes.old nodes.new (in_turn (properties_places x.0 ∷ may_stand kinds.Comma ∷ plain (a kinds.RightBrace) ∷ [])) (tokens_view tokens.now) (tokens_view x.2.now)) }
 {
     let (members, height, rest) = members_before(nodes, room, tokens)?;
     Ok((properties_of(members), height, rest))
@@ -58,6 +64,7 @@ fn members_before<'t, 's>(
     requires { room < 203 }
     ensures gives { Gives (λ x. (map property_view x.0.items, tokens_view x.2.now)) result (elements (one_of (λ r. reading.property_at (below room) room r)) no_state TokenKind.RightBrace (suc (length (tokens_view tokens.now))) tt (tokens_view tokens.now)) }
     ensures deep { IfOk result (λ x. (x.1 ≡ height_of_properties (properties (map property_view x.0.items))) × (x.1 ≤ room)) }
+    ensures placed { IfOk result (λ x. Placed true nodes.old nodes.new (in_turn (with_commas (map property_places x.0.items) ∷ may_stand kinds.Comma ∷ plain (a kinds.RightBrace) ∷ [])) (tokens_view tokens.now) (tokens_view x.2.now)) }
 {
     let mut members = Vec::new(nodes.alloc());
     let mut height = 0;
@@ -88,6 +95,7 @@ fn property_at<'t, 's>(
     requires { room < 203 }
     ensures gives { Gives (λ x. (property_view x.0, tokens_view x.2.now)) result (reading.property_at (below room) room (tokens_view tokens.now)) }
     ensures deep { IfOk result (λ x. (x.1 ≡ height_of_property (property_view x.0)) × (x.1 ≤ room)) }
+    ensures placed { IfOk result (λ x. Placed true nodes.old nodes.new (property_places x.0) (tokens_view tokens.now) (tokens_view x.2.now)) }
 {
     if is_shorthand(tokens) {
         let (text, rest) = name_at(tokens)?;
@@ -116,6 +124,7 @@ fn valued_at<'t, 's>(
     requires low { key_height ≤ room }
     ensures gives { Gives (λ x. (property_view x.0, tokens_view x.2.now)) result (reading.member_by (below room) room (key_view key) classes.colon (tokens_view tokens.now)) }
     ensures deep { IfOk result (λ x. (x.1 ≡ height_of_property (property_view x.0)) × (x.1 ≤ room)) }
+    ensures placed { (old : List Span) (ts : _) → Placed true old nodes.old (key_places key) ts (tokens_view tokens.now) → IfOk result (λ x. Placed true old nodes.new (property_places x.0) ts (tokens_view x.2.now)) }
 {
     let rest = expect(TokenKind::Colon, tokens)?;
     let (value, value_height, rest) = assignment_below(nodes, room, rest)?;
@@ -137,6 +146,7 @@ fn method_at<'t, 's>(
     requires low { key_height ≤ room }
     ensures gives { Gives (λ x. (property_view x.0, tokens_view x.2.now)) result (reading.member_by (below room) room (key_view key) classes.parameters (tokens_view tokens.now)) }
     ensures deep { IfOk result (λ x. (x.1 ≡ height_of_property (property_view x.0)) × (x.1 ≤ room)) }
+    ensures placed { (old : List Span) → Placed true old nodes.old (key_places key) (tokens_view start.now) (tokens_view tokens.now) → IfOk result (λ x. Placed true old nodes.new (property_places x.0) (tokens_view start.now) (tokens_view x.2.now)) }
 {
     if key_height >= room {
         return Err(ParseError::TooDeep {
@@ -156,6 +166,7 @@ fn key_at<'t, 's>(nodes: &mut Nodes, room: u32, tokens: &'t [Token<'s>]) -> Pars
     requires { room < 203 }
     ensures gives { Gives (λ x. (key_view x.0, tokens_view x.2.now)) result (reading.key_at (below room) (tokens_view tokens.now)) }
     ensures deep { IfOk result (λ x. (x.1 ≡ height_of_key (key_view x.0)) × (x.1 ≤ room)) }
+    ensures placed { IfOk result (λ x. Placed true nodes.old nodes.new (key_places x.0) (tokens_view tokens.now) (tokens_view x.2.now)) }
 {
     match key_start_of(tokens) {
         Some(KeyStart::Word(text)) => {

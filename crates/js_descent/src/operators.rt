@@ -1,6 +1,6 @@
 //! Operators, prefixes and postfixes (ECMA-262, 13.4 to 13.13).
 
-ghost use Rattle.std.specs.Prelude.{◌≡◌, ◌≤◌, ◌<◌, ◌+◌, suc, max, Some, IfOk};
+ghost use Rattle.std.specs.Prelude.{◌≡◌, ◌≤◌, ◌<◌, ◌+◌, suc, max, Some, IfOk, true, List};
 ghost use Rattle.js_tree.specs.Height.{height};
 ghost use Rattle.js_tree.specs.Views.{expression_view};
 ghost use Rattle.js_syntax.specs.Giving.{Gives};
@@ -8,13 +8,18 @@ ghost use Rattle.js_syntax.specs.Parsing as reading;
 ghost use Rattle.js_syntax.specs.Parsing.{below};
 ghost use Rattle.js_syntax.specs.Views.{tokens_view};
 ghost use Rattle.js_syntax.specs.Classes.{operator, deletes, an_update};
-ghost use Rattle.js_tree.specs.Tokens.{head_of};
+ghost use Rattle.js_tree.specs.Tokens.{head_of, IsNext, fixed};
 ghost use Rattle.js_syntax.specs.Heads.{prefix_view};
+ghost use Rattle.js_tree.specs.Places.{expression_places};
+ghost use Rattle.js_rules.specs.Placed.{Placed};
+ghost use Rattle.js_tree.specs.declared.node.Span.{Span};
+ghost use Rattle.js_tree.specs.Flat.{update_kind};
+ghost use Rattle.js_lexer.specs.declared.token.TokenKind.TheVariants as kinds;
 
 use crate::calls::{call_at, call_below};
 use crate::parsed::{Parsed, deeper};
-use crate::targets::{above, is_property, is_target, strength};
 use js_lexer::token::Token;
+use js_rules::targets::{above, is_property, is_target, strength};
 use js_syntax::classes::expressions::{Prefix, operator_of, prefix_of, update_near};
 use js_syntax::fault::ParseError;
 use js_syntax::nodes::Nodes;
@@ -35,6 +40,7 @@ pub fn operation_below<'t, 's>(
     requires { room ≤ 203 }
     ensures gives { Gives (λ x. (expression_view x.0, tokens_view x.2.now)) result ((below room).operation least (tokens_view tokens.now)) }
     ensures deep { IfOk result (λ x. (x.1 ≡ height (expression_view x.0)) × (x.1 ≤ room)) }
+    ensures placed { IfOk result (λ x. Placed true nodes.old nodes.new (expression_places x.0) (tokens_view tokens.now) (tokens_view x.2.now)) }
 {
     if room == 0 {
         return Err(ParseError::TooDeep { left: tokens.len() });
@@ -49,6 +55,7 @@ pub fn unary_below<'t, 's>(nodes: &mut Nodes, room: u32, tokens: &'t [Token<'s>]
     requires { room ≤ 203 }
     ensures gives { Gives (λ x. (expression_view x.0, tokens_view x.2.now)) result ((below room).unary (tokens_view tokens.now)) }
     ensures deep { IfOk result (λ x. (x.1 ≡ height (expression_view x.0)) × (x.1 ≤ room)) }
+    ensures placed { IfOk result (λ x. Placed true nodes.old nodes.new (expression_places x.0) (tokens_view tokens.now) (tokens_view x.2.now)) }
 {
     if room == 0 {
         return Err(ParseError::TooDeep { left: tokens.len() });
@@ -68,6 +75,7 @@ pub fn operation_at<'t, 's>(
     requires { room < 203 }
     ensures gives { Gives (λ x. (expression_view x.0, tokens_view x.2.now)) result (reading.operation (below room) room least (tokens_view tokens.now)) }
     ensures deep { IfOk result (λ x. (x.1 ≡ height (expression_view x.0)) × (x.1 ≤ room + 1)) }
+    ensures placed { IfOk result (λ x. Placed true nodes.old nodes.new (expression_places x.0) (tokens_view tokens.now) (tokens_view x.2.now)) }
 {
     let (left, left_height, rest) = unary_at(nodes, room, tokens)?;
     chain_at(
@@ -113,6 +121,7 @@ fn chain_at<'t, 's>(
     requires low { left_height ≤ room + 1 }
     ensures gives { Gives (λ x. (expression_view x.0, tokens_view x.2.now)) result (reading.chain (below room) room least turns (expression_view left) (tokens_view tokens.now)) }
     ensures deep { IfOk result (λ x. (x.1 ≡ height (expression_view x.0)) × (x.1 ≤ room + 1)) }
+    ensures placed { (old : List Span) → Placed true old nodes.old (expression_places left) (tokens_view start.now) (tokens_view tokens.now) → IfOk result (λ x. Placed true old nodes.new (expression_places x.0) (tokens_view start.now) (tokens_view x.2.now)) }
 {
     if turns == 0 {
         return Err(ParseError::TooDeep { left: tokens.len() });
@@ -148,6 +157,7 @@ pub fn unary_at<'t, 's>(nodes: &mut Nodes, room: u32, tokens: &'t [Token<'s>]) -
     requires { room < 203 }
     ensures gives { Gives (λ x. (expression_view x.0, tokens_view x.2.now)) result (reading.unary (below room) room (tokens_view tokens.now)) }
     ensures deep { IfOk result (λ x. (x.1 ≡ height (expression_view x.0)) × (x.1 ≤ room + 1)) }
+    ensures placed { IfOk result (λ x. Placed true nodes.old nodes.new (expression_places x.0) (tokens_view tokens.now) (tokens_view x.2.now)) }
 {
     match prefix_of(tokens) {
         Some(Prefix::Delete) => deleted_at(nodes, room, tokens),
@@ -168,6 +178,7 @@ fn deleted_at<'t, 's>(nodes: &mut Nodes, room: u32, tokens: &'t [Token<'s>]) -> 
     requires { room < 203 }
     ensures gives { Gives (λ x. (expression_view x.0, tokens_view x.2.now)) result (reading.unary_by (below room) room deletes (tokens_view tokens.now)) }
     ensures deep { IfOk result (λ x. (x.1 ≡ height (expression_view x.0)) × (x.1 ≤ room + 1)) }
+    ensures placed { IsNext (fixed kinds.Delete) (head_of (tokens_view tokens.now)) → IfOk result (λ x. Placed true nodes.old nodes.new (expression_places x.0) (tokens_view tokens.now) (tokens_view x.2.now)) }
 {
     let (operand, height, rest) = call_below(nodes, room, tail(tokens))?;
     if !is_property(&operand) {
@@ -189,6 +200,7 @@ fn updated_at<'t, 's>(
     requires { room < 203 }
     ensures gives { Gives (λ x. (expression_view x.0, tokens_view x.2.now)) result (reading.unary_by (below room) room (an_update operator) (tokens_view tokens.now)) }
     ensures deep { IfOk result (λ x. (x.1 ≡ height (expression_view x.0)) × (x.1 ≤ room + 1)) }
+    ensures placed { IsNext (fixed (update_kind operator)) (head_of (tokens_view tokens.now)) → IfOk result (λ x. Placed true nodes.old nodes.new (expression_places x.0) (tokens_view tokens.now) (tokens_view x.2.now)) }
 {
     let (operand, height, rest) = call_below(nodes, room, tail(tokens))?;
     if !is_target(&operand) {
@@ -206,6 +218,7 @@ fn postfix_at<'t, 's>(nodes: &mut Nodes, room: u32, tokens: &'t [Token<'s>]) -> 
     requires { room < 203 }
     ensures gives { Gives (λ x. (expression_view x.0, tokens_view x.2.now)) result (reading.postfix (below room) room (tokens_view tokens.now)) }
     ensures deep { IfOk result (λ x. (x.1 ≡ height (expression_view x.0)) × (x.1 ≤ room + 1)) }
+    ensures placed { IfOk result (λ x. Placed true nodes.old nodes.new (expression_places x.0) (tokens_view tokens.now) (tokens_view x.2.now)) }
 {
     let (operand, height, rest) = call_at(nodes, room, tokens)?;
     let Some(operator) = update_near(rest) else {

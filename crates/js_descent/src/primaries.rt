@@ -1,6 +1,6 @@
 //! Primary expressions (ECMA-262, 13.2).
 
-ghost use Rattle.std.specs.Prelude.{◌≡◌, ◌≤◌, ◌<◌, ◌+◌, suc, max, Some, IfOk};
+ghost use Rattle.std.specs.Prelude.{◌≡◌, ◌≤◌, ◌<◌, ◌+◌, suc, max, Some, IfOk, true, List};
 ghost use Rattle.js_tree.specs.Height.{height};
 ghost use Rattle.js_tree.specs.Views.{expression_view};
 ghost use Rattle.js_syntax.specs.Giving.{Gives};
@@ -8,16 +8,22 @@ ghost use Rattle.js_syntax.specs.Parsing as reading;
 ghost use Rattle.js_syntax.specs.Parsing.{below};
 ghost use Rattle.js_syntax.specs.Views.{tokens_view};
 ghost use Rattle.js_syntax.specs.Classes.{bracket, brace, parenthesis, function_word};
+ghost use Rattle.js_tree.specs.Places.{expression_places, plain};
+ghost use Rattle.js_rules.specs.Placed.{Placed};
+ghost use Rattle.js_tree.specs.Tokens.{head_of, IsNext, fixed};
+ghost use Rattle.js_tree.specs.declared.node.Span.{Span};
+ghost use Rattle.js_tree.specs.Flat.{a};
+ghost use Rattle.js_lexer.specs.declared.token.TokenKind.TheVariants as kinds;
 
 use crate::blocks::code_at;
 use crate::expressions::expression_below;
 use crate::lists::arguments_before;
 use crate::objects::properties_at;
 use crate::parsed::Parsed;
-use crate::words::{name_at, single};
 use cdp_text::units::Units;
 use js_lexer::strings::string_value;
 use js_lexer::token::{Token, TokenKind};
+use js_rules::words::{name_at, single};
 use js_syntax::classes::expressions::{Start, start_of};
 use js_syntax::classes::lists::is_name_next;
 use js_syntax::fault::ParseError;
@@ -34,6 +40,7 @@ pub fn primary_at<'t, 's>(nodes: &mut Nodes, room: u32, tokens: &'t [Token<'s>])
     requires { room < 203 }
     ensures gives { Gives (λ x. (expression_view x.0, tokens_view x.2.now)) result (reading.primary (below room) room (tokens_view tokens.now)) }
     ensures deep { IfOk result (λ x. (x.1 ≡ height (expression_view x.0)) × (x.1 ≤ room + 1)) }
+    ensures placed { IfOk result (λ x. Placed true nodes.old nodes.new (expression_places x.0) (tokens_view tokens.now) (tokens_view x.2.now)) }
 {
     match start_of(tokens) {
         Start::This => {
@@ -74,6 +81,7 @@ fn parenthesized_at<'t, 's>(nodes: &mut Nodes, room: u32, tokens: &'t [Token<'s>
     requires { room < 203 }
     ensures gives { Gives (λ x. (expression_view x.0, tokens_view x.2.now)) result (reading.primary_by (below room) room parenthesis (tokens_view tokens.now)) }
     ensures deep { IfOk result (λ x. (x.1 ≡ height (expression_view x.0)) × (x.1 ≤ room + 1)) }
+    ensures placed { IfOk result (λ x. Placed true nodes.old nodes.new (expression_places x.0) (tokens_view tokens.now) (tokens_view x.2.now)) }
 {
     let rest = expect(TokenKind::LeftParenthesis, tokens)?;
     let (inner, height, rest) = expression_below(nodes, room, rest)?;
@@ -89,6 +97,7 @@ fn array_at<'t, 's>(nodes: &mut Nodes, room: u32, tokens: &'t [Token<'s>]) -> Pa
     requires { room < 203 }
     ensures gives { Gives (λ x. (expression_view x.0, tokens_view x.2.now)) result (reading.primary_by (below room) room bracket (tokens_view tokens.now)) }
     ensures deep { IfOk result (λ x. (x.1 ≡ height (expression_view x.0)) × (x.1 ≤ room + 1)) }
+    ensures placed { IfOk result (λ x. Placed true nodes.old nodes.new (expression_places x.0) (tokens_view tokens.now) (tokens_view x.2.now)) }
 {
     let rest = expect(TokenKind::LeftBracket, tokens)?;
     let (elements, height, rest) = arguments_before(nodes, room, TokenKind::RightBracket, rest)?;
@@ -102,6 +111,7 @@ fn object_at<'t, 's>(nodes: &mut Nodes, room: u32, tokens: &'t [Token<'s>]) -> P
     requires { room < 203 }
     ensures gives { Gives (λ x. (expression_view x.0, tokens_view x.2.now)) result (reading.primary_by (below room) room brace (tokens_view tokens.now)) }
     ensures deep { IfOk result (λ x. (x.1 ≡ height (expression_view x.0)) × (x.1 ≤ room + 1)) }
+    ensures placed { IsNext (fixed kinds.LeftBrace) (head_of (tokens_view tokens.now)) → IfOk result (λ x. Placed true nodes.old nodes.new (expression_places x.0) (tokens_view tokens.now) (tokens_view x.2.now)) }
 {
     let (properties, height, rest) = properties_at(nodes, room, tail(tokens))?;
     let node = nodes.add(tokens, rest)?;
@@ -120,6 +130,7 @@ pub fn function_at<'t, 's>(
     requires { room < 203 }
     ensures gives { Gives (λ x. (expression_view x.0, tokens_view x.2.now)) result (reading.function_at (below room) (tokens_view tokens.now)) }
     ensures deep { IfOk result (λ x. (x.1 ≡ height (expression_view x.0)) × (x.1 ≤ room + 1)) }
+    ensures placed { (old : List Span) → Placed true old nodes.old (plain (a kinds.Function)) (tokens_view start.now) (tokens_view tokens.now) → IfOk result (λ x. Placed true old nodes.new (expression_places x.0) (tokens_view start.now) (tokens_view x.2.now)) }
 {
     let (text, rest) = if is_name_next(tokens) {
         let (text, rest) = name_at(tokens)?;

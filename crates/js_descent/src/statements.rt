@@ -1,6 +1,6 @@
 //! Statements (ECMA-262, 14).
 
-ghost use Rattle.std.specs.Prelude.{◌≡◌, ◌≤◌, ◌<◌, ◌+◌, ◌∷◌, [], ℕ, suc, max, IfOk};
+ghost use Rattle.std.specs.Prelude.{◌≡◌, ◌≤◌, ◌<◌, ◌+◌, ◌∷◌, [], ℕ, suc, max, IfOk, true};
 ghost use Rattle.js_tree.specs.Height.{height, height_of_optional, height_of_statement};
 ghost use Rattle.js_tree.specs.Tokens.{head_of, is_on_line, tail_of};
 ghost use Rattle.js_tree.specs.Trees as trees;
@@ -12,17 +12,21 @@ ghost use Rattle.js_syntax.specs.Parsing as reading;
 ghost use Rattle.js_syntax.specs.Parsing.{below};
 ghost use Rattle.js_syntax.specs.Productions as productions;
 ghost use Rattle.js_syntax.specs.Views.{tokens_view};
-ghost use Rattle.js_descent.specs.Views.{context_view};
+ghost use Rattle.js_rules.specs.Views.{context_view};
+ghost use Rattle.js_tree.specs.Places.{statement_places, in_turn, may_stand, expression_places, plain, optional_places};
+ghost use Rattle.js_rules.specs.Placed.{Placed};
+ghost use Rattle.js_tree.specs.Flat.{a};
+ghost use Rattle.js_lexer.specs.declared.token.TokenKind.TheVariants as kinds;
 
 use crate::blocks::braces_at;
-use crate::context::Context;
-use crate::endings::{edge_of, semicolon_at};
 use crate::exceptions::try_at;
 use crate::expressions::expression_below;
 use crate::loops::{do_at, for_at, while_at};
 use crate::parsed::{Parsed, ParsedOptional, ParsedStatement, deeper};
-use crate::words::single;
 use js_lexer::token::{Token, TokenKind};
+use js_rules::context::Context;
+use js_rules::endings::{edge_of, semicolon_at};
+use js_rules::words::single;
 use js_syntax::classes::statements::{End, First, ends_return, first_of};
 use js_syntax::fault::ParseError;
 use js_syntax::name_set::NameSet;
@@ -47,6 +51,7 @@ pub fn statement_below<'t, 's>(
     requires { room ≤ 203 }
     ensures gives { Gives (λ x. (statement_view x.0, tokens_view x.2.now)) result ((below room).statement (context_view context) (tokens_view tokens.now)) }
     ensures deep { IfOk result (λ x. (x.1 ≡ height_of_statement (statement_view x.0)) × (x.1 ≤ room)) }
+    ensures placed { IfOk result (λ x. Placed true nodes.old nodes.new (statement_places x.0) (tokens_view tokens.now) (tokens_view x.2.now)) }
 {
     if room == 0 {
         return Err(ParseError::TooDeep { left: tokens.len() });
@@ -66,6 +71,7 @@ pub fn statement_at<'t, 's>(
     requires { room < 203 }
     ensures gives { Gives (λ x. (statement_view x.0, tokens_view x.2.now)) result (reading.statement (below room) (context_view context) (tokens_view tokens.now)) }
     ensures deep { IfOk result (λ x. (x.1 ≡ height_of_statement (statement_view x.0)) × (x.1 ≤ room + 1)) }
+    ensures placed { IfOk result (λ x. Placed true nodes.old nodes.new (statement_places x.0) (tokens_view tokens.now) (tokens_view x.2.now)) }
 {
     match first_of(tokens) {
         First::Block => block_at(nodes, room, context, tokens),
@@ -99,6 +105,7 @@ fn block_at<'t, 's>(
     requires { room < 203 }
     ensures gives { Gives (λ x. (statement_view x.0, tokens_view x.2.now)) result (reading.statement_by (below room) (context_view context) classes.a_block (tokens_view tokens.now)) }
     ensures deep { IfOk result (λ x. (x.1 ≡ height_of_statement (statement_view x.0)) × (x.1 ≤ room + 1)) }
+    ensures placed { IfOk result (λ x. Placed true nodes.old nodes.new (statement_places x.0) (tokens_view tokens.now) (tokens_view x.2.now)) }
 {
     let names = NameSet::new(nodes.alloc());
     let (body, height, rest) = braces_at(nodes, room, context, names, tokens)?;
@@ -113,6 +120,7 @@ fn ended_expression<'t, 's>(nodes: &mut Nodes, room: u32, tokens: &'t [Token<'s>
     requires { room < 203 }
     ensures gives { Gives (λ x. (expression_view x.0, tokens_view x.2.now)) result (productions.ended_expression (below room) (tokens_view tokens.now)) }
     ensures deep { IfOk result (λ x. (x.1 ≡ height (expression_view x.0)) × (x.1 ≤ room)) }
+    ensures placed { IfOk result (λ x. Placed true nodes.old nodes.new (in_turn (expression_places x.0 ∷ may_stand kinds.Semicolon ∷ [])) (tokens_view tokens.now) (tokens_view x.2.now)) }
 {
     let (tree, height, rest) = expression_below(nodes, room, tokens)?;
     let rest = semicolon_at(End::Expression(edge_of(&tree)), rest)?;
@@ -131,6 +139,7 @@ pub fn optional_before<'t, 's>(
     requires { room < 203 }
     ensures gives { Gives (λ x. (optional_view x.0, tokens_view x.2.now)) result (productions.optional_before (below room) closer (tokens_view tokens.now)) }
     ensures deep { IfOk result (λ x. (x.1 ≡ height_of_optional (optional_view x.0)) × (x.1 ≤ room)) }
+    ensures placed { IfOk result (λ x. Placed true nodes.old nodes.new (in_turn (optional_places x.0 ∷ plain (a closer) ∷ [])) (tokens_view tokens.now) (tokens_view x.2.now)) }
 {
     if is_next(closer, tokens) {
         return Ok((None, 0, tail(tokens)));
@@ -150,6 +159,7 @@ fn expression_statement_at<'t, 's>(
     requires { room < 203 }
     ensures gives { Gives (λ x. (statement_view x.0, tokens_view x.2.now)) result (productions.made (below room) (productions.ended ∷ []) (λ v. trees.expression v.0) (tokens_view tokens.now)) }
     ensures deep { IfOk result (λ x. (x.1 ≡ height_of_statement (statement_view x.0)) × (x.1 ≤ room + 1)) }
+    ensures placed { IfOk result (λ x. Placed true nodes.old nodes.new (statement_places x.0) (tokens_view tokens.now) (tokens_view x.2.now)) }
 {
     let (tree, height, rest) = ended_expression(nodes, room, tokens)?;
     let node = nodes.add(tokens, rest)?;
@@ -168,6 +178,7 @@ fn if_at<'t, 's>(
     requires { room < 203 }
     ensures gives { Gives (λ x. (statement_view x.0, tokens_view x.2.now)) result (reading.if_at (below room) (context_view context) (tokens_view tokens.now)) }
     ensures deep { IfOk result (λ x. (x.1 ≡ height_of_statement (statement_view x.0)) × (x.1 ≤ room + 1)) }
+    ensures placed { IfOk result (λ x. Placed true nodes.old nodes.new (statement_places x.0) (tokens_view tokens.now) (tokens_view x.2.now)) }
 {
     let rest = expect(TokenKind::If, tokens)?;
     let rest = expect(TokenKind::LeftParenthesis, rest)?;
@@ -202,6 +213,7 @@ fn continue_at<'t, 's>(
 ) -> ParsedStatement<'t, 's>
     ensures gives { (room : ℕ) → Gives (λ x. (statement_view x.0, tokens_view x.2.now)) result (reading.statement_by (below room) (context_view context) classes.a_continue (tokens_view tokens.now)) }
     ensures deep { IfOk result (λ x. (x.1 ≡ height_of_statement (statement_view x.0)) × (x.1 ≡ 1)) }
+    ensures placed { IfOk result (λ x. Placed true nodes.old nodes.new (statement_places x.0) (tokens_view tokens.now) (tokens_view x.2.now)) }
 {
     if !context.in_loop {
         return Err(ParseError::Syntax { left: tokens.len() });
@@ -220,6 +232,7 @@ fn break_at<'t, 's>(
 ) -> ParsedStatement<'t, 's>
     ensures gives { (room : ℕ) → Gives (λ x. (statement_view x.0, tokens_view x.2.now)) result (reading.statement_by (below room) (context_view context) classes.a_break (tokens_view tokens.now)) }
     ensures deep { IfOk result (λ x. (x.1 ≡ height_of_statement (statement_view x.0)) × (x.1 ≡ 1)) }
+    ensures placed { IfOk result (λ x. Placed true nodes.old nodes.new (statement_places x.0) (tokens_view tokens.now) (tokens_view x.2.now)) }
 {
     if !context.in_loop {
         return Err(ParseError::Syntax { left: tokens.len() });
@@ -234,6 +247,7 @@ fn break_at<'t, 's>(
 fn debugger_at<'t, 's>(nodes: &mut Nodes, tokens: &'t [Token<'s>]) -> ParsedStatement<'t, 's>
     ensures gives { (room : ℕ) (context : well.Context) → Gives (λ x. (statement_view x.0, tokens_view x.2.now)) result (reading.statement_by (below room) context classes.a_debugger (tokens_view tokens.now)) }
     ensures deep { IfOk result (λ x. (x.1 ≡ height_of_statement (statement_view x.0)) × (x.1 ≡ 1)) }
+    ensures placed { IfOk result (λ x. Placed true nodes.old nodes.new (statement_places x.0) (tokens_view tokens.now) (tokens_view x.2.now)) }
 {
     let rest = expect(TokenKind::Debugger, tokens)?;
     let rest = semicolon_at(End::Word, rest)?;
@@ -252,6 +266,7 @@ fn return_at<'t, 's>(
     requires { room < 203 }
     ensures gives { Gives (λ x. (statement_view x.0, tokens_view x.2.now)) result (reading.statement_by (below room) (context_view context) classes.a_return (tokens_view tokens.now)) }
     ensures deep { IfOk result (λ x. (x.1 ≡ height_of_statement (statement_view x.0)) × (x.1 ≤ room + 1)) }
+    ensures placed { IfOk result (λ x. Placed true nodes.old nodes.new (statement_places x.0) (tokens_view tokens.now) (tokens_view x.2.now)) }
 {
     if !context.in_function {
         return Err(ParseError::Syntax { left: tokens.len() });
@@ -277,6 +292,7 @@ fn throw_at<'t, 's>(
     requires { room < 203 }
     ensures gives { Gives (λ x. (statement_view x.0, tokens_view x.2.now)) result (reading.throw_by (below room) (is_on_line (head_of (tail_of (tokens_view tokens.now)))) (tokens_view tokens.now)) }
     ensures deep { IfOk result (λ x. (x.1 ≡ height_of_statement (statement_view x.0)) × (x.1 ≤ room + 1)) }
+    ensures placed { IfOk result (λ x. Placed true nodes.old nodes.new (statement_places x.0) (tokens_view tokens.now) (tokens_view x.2.now)) }
 {
     let value = tail(tokens);
     if !is_on_line(value) {

@@ -5,3 +5,4 @@ pub mod LexedLemmas
 pub mod OrderLemmas
 pub mod PlaceLemmas
 pub mod ReadLemmas
+pub mod SpanLemmas

@@ -2,3 +2,4 @@ pub mod Answers
 pub mod Faults
 pub mod Lexing
 pub mod Sources
+pub mod Spans

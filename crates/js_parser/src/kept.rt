@@ -1,9 +1,12 @@
 //! What an answer keeps beside its tree.
 
-ghost use Rattle.std.specs.Prelude.{◌≡◌, length, All, IfErr, IfOk};
+ghost use Rattle.std.specs.Prelude.{◌≡◌, length, All, IfErr, IfOk, List};
 ghost use Rattle.cdp_text.specs.Units.{utf16_of};
 ghost use Rattle.js_syntax.specs.declared.fault.ParseFault.TheVariants.{Memory};
+ghost use Rattle.js_tree.specs.Places.{Place};
 ghost use Rattle.js_tree.specs.Spans.{IsWithin};
+ghost use Rattle.js_rules.specs.Placed.{IsForward};
+ghost use Rattle.js_parser.specs.Spans.{AreSpansIn};
 
 use cdp_text::units::{Units, units_of};
 use js_syntax::fault::ParseFault;
@@ -30,9 +33,11 @@ pub fn url_of(alloc: Global, url: &str) -> Result<Units, ParseFault>
 /// The spans of the nodes that were made for a source.
 pub fn spans_of(nodes: &Nodes, source: &[u16]) -> Result<Spans, ParseFault>
     ensures within { IfOk result (λ spans. All (IsWithin (length source.now)) spans) }
+    ensures exact { IfOk result (λ spans. (places : List Place) → AreSpansIn source.now nodes.now places → All IsForward nodes.now → AreSpansIn source.now spans places) }
     ensures fault { IfErr result (λ f. f ≡ Memory) }
 {
-    nodes
-        .spans_within(source.len())
-        .map_err(|_| ParseFault::Memory)
+    match nodes.spans_within(source.len()) {
+        Ok(spans) => Ok(spans),
+        Err(_) => Err(ParseFault::Memory),
+    }
 }

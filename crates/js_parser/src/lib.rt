@@ -2,6 +2,7 @@
 #![tactic(auto)]
 
 mod earlier;
+mod functions;
 mod kept;
 pub mod parse;
 mod reading;
@@ -9,3 +10,4 @@ pub mod source;
 #[cfg(test)]
 mod tests;
 mod trees;
+mod whole;

@@ -4,11 +4,13 @@ ghost use Rattle.std.specs.Prelude.{◌≡◌, ◌<◌, length, Err, IfErr, IfOk
 ghost use Rattle.cdp_text.specs.Units.{utf16_of};
 ghost use Rattle.js_tree.specs.Height.{height, height_of_statements};
 ghost use Rattle.js_tree.specs.Language.{IsExpression, IsFunction, IsScript};
+ghost use Rattle.js_tree.specs.Places.{expression_places, statements_places};
 ghost use Rattle.js_tree.specs.Views.{expression_view, statements_view};
 ghost use Rattle.js_syntax.specs.declared.fault.ParseFault.TheVariants.{TooLong};
 ghost use Rattle.js_parser.specs.Answers.{FailsBy, OkOrMemory};
 ghost use Rattle.js_parser.specs.Faults.{Caused, ComesFirst, IsCause, Stands};
 ghost use Rattle.js_parser.specs.Sources.{IsSource, most_units};
+ghost use Rattle.js_parser.specs.Spans.{AreSpansIn};
 
 use crate::kept::{spans_of, text_of, url_of};
 use crate::trees::{expression_tree, function_tree, script_tree};
@@ -28,6 +30,8 @@ pub fn parse_expression(alloc: Global, source: &[u16]) -> Result<Expression, Par
     // What is answered is the source's tree.
     ensures found { IfOk result (λ x. IsSource IsExpression height source.now (expression_view x.tree)) }
     ensures kept { IfOk result (λ x. x.source ≡ source.now) }
+    // The span of each node is that of its own tokens.
+    ensures spans { IfOk result (λ x. AreSpansIn source.now x.spans (expression_places x.tree)) }
     // A source of the language within the limits is answered with its tree, unless memory runs out.
     ensures only { (e : _) → IsSource IsExpression height source.now e → OkOrMemory (λ x. expression_view x.tree ≡ e) result }
     // A source has at most one tree.
@@ -62,6 +66,8 @@ pub fn parse_function(alloc: Global, source: &[u16]) -> Result<FunctionCode, Par
     // What is answered is the source's tree.
     ensures found { IfOk result (λ x. IsSource IsFunction height source.now (expression_view x.tree)) }
     ensures kept { IfOk result (λ x. x.source ≡ source.now) }
+    // The span of each node is that of its own tokens.
+    ensures spans { IfOk result (λ x. AreSpansIn source.now x.spans (expression_places x.tree)) }
     // A source of the language within the limits is answered with its tree, unless memory runs out.
     ensures only { (e : _) → IsSource IsFunction height source.now e → OkOrMemory (λ x. expression_view x.tree ≡ e) result }
     // A source has at most one tree.
@@ -102,6 +108,8 @@ pub fn parse_script(
     // What is answered is the source's tree.
     ensures found { IfOk result (λ x. IsSource (IsScript declared.now) height_of_statements source.now (statements_view x.body)) }
     ensures kept { IfOk result (λ x. (x.source ≡ source.now) × (x.url ≡ utf16_of url.now) × (x.number ≡ number)) }
+    // The span of each node is that of its own tokens.
+    ensures spans { IfOk result (λ x. AreSpansIn source.now x.spans (statements_places x.body)) }
     // A source of the language within the limits is answered with its tree, unless memory runs out.
     ensures only { (body : _) → IsSource (IsScript declared.now) height_of_statements source.now body → OkOrMemory (λ x. statements_view x.body ≡ body) result }
     // A source has at most one tree.

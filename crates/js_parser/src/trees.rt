@@ -3,14 +3,16 @@
 ghost use Rattle.std.specs.Prelude.{◌≡◌, IfErr, IfOk};
 ghost use Rattle.js_tree.specs.Height.{height, height_of_statements};
 ghost use Rattle.js_tree.specs.Language.{IsExpression, IsFunction, IsScript};
+ghost use Rattle.js_tree.specs.Places.{expression_places, statements_places};
 ghost use Rattle.js_tree.specs.Views.{expression_view, statements_view};
 ghost use Rattle.js_syntax.specs.declared.fault.ParseFault.TheVariants.{Memory};
 ghost use Rattle.js_parser.specs.Answers.{Answers};
+ghost use Rattle.js_parser.specs.Spans.{Stands};
 
 use crate::earlier::earlier_names;
 use crate::reading::{lexed, told};
+use crate::whole::{expression_of, function_of, script_of};
 use cdp_text::units::Units;
-use js_descent::whole::{expression_of, function_of, script_of};
 use js_syntax::fault::ParseFault;
 use js_syntax::name_set::NameSet;
 use js_syntax::nodes::Nodes;
@@ -19,7 +21,8 @@ use std::alloc::Global;
 
 /// The tree of a source that is one expression.
 pub fn expression_tree(nodes: &mut Nodes, source: &[u16]) -> Result<Expr, ParseFault>
-    ensures { Answers IsExpression height source.now (λ x. expression_view x) result }
+    ensures answers { Answers IsExpression height source.now (λ x. expression_view x) result }
+    ensures placed { IfOk result (λ x. Stands source.now nodes.old nodes.new (expression_places x)) }
 {
     let lexed = lexed(nodes.alloc(), source)?;
     let read = expression_of(nodes, lexed.tokens.as_slice());
@@ -28,7 +31,8 @@ pub fn expression_tree(nodes: &mut Nodes, source: &[u16]) -> Result<Expr, ParseF
 
 /// The tree of a source that is one function expression or one arrow function.
 pub fn function_tree(nodes: &mut Nodes, source: &[u16]) -> Result<Expr, ParseFault>
-    ensures { Answers IsFunction height source.now (λ x. expression_view x) result }
+    ensures answers { Answers IsFunction height source.now (λ x. expression_view x) result }
+    ensures placed { IfOk result (λ x. Stands source.now nodes.old nodes.new (expression_places x)) }
 {
     let lexed = lexed(nodes.alloc(), source)?;
     let read = function_of(nodes, lexed.tokens.as_slice());
@@ -49,7 +53,8 @@ pub fn script_tree(
     source: &[u16],
     declared: &[Units],
 ) -> Result<Stmts, ParseFault>
-    ensures { Answers (IsScript declared.now) height_of_statements source.now (λ x. statements_view x) result }
+    ensures answers { Answers (IsScript declared.now) height_of_statements source.now (λ x. statements_view x) result }
+    ensures placed { IfOk result (λ x. Stands source.now nodes.old nodes.new (statements_places x)) }
 {
     let lexed = lexed(nodes.alloc(), source)?;
     let names = names_of(nodes.alloc(), declared)?;

@@ -1,0 +1,9 @@
+use Rattle.js_rules.proofs.ClassLemmas.{start_function}
+use Rattle.js_rules.proofs.PlacedTokens.{symbol}
+use Rattle.js_tree.specs.Tokens.{fixed}
+use Rattle.std.proofs.Common.{sym}
+use Rattle.js_lexer.specs.declared.token.TokenKind.TheVariants as kinds
+use Rattle.js_parser.proofs.functions.function_code_at.Goals as goal
+
+pub returns-in-Function-clause-placed : goal.returns-in-Function-clause-placed
+returns-in-Function-clause-placed c = c.function_at.ensures.placed c.args.nodes.now (symbol _ (fixed kinds.Function) _ _ (start_function _ (sym c.in-Function.ensures)) c.tail.ensures)

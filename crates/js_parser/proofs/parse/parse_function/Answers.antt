@@ -1,0 +1,6 @@
+use Rattle.std.proofs.lemmas.List.Elements.{All-nil}
+use Rattle.js_rules.specs.Placed.{IsForward}
+use Rattle.js_parser.proofs.parse.parse_function.Goals as goal
+
+pub returns-clause-spans : goal.returns-clause-spans
+returns-clause-spans c = c.in_ok-spans.ensures.exact _ c.in_ok-tree.ensures.placed.exact (c.in_ok-tree.ensures.placed.forward (rw c.new-nodes.ensures (All-nil IsForward)))

@@ -1,0 +1,76 @@
+//! Functions that stand alone: a FunctionExpression or an ArrowFunction (ECMA-262, 15.2 and 15.3).
+
+ghost use Rattle.std.specs.Prelude.{◌≡◌, ◌≤◌, ◌<◌, ◌+◌, IfOk, true};
+ghost use Rattle.js_tree.specs.Height.{height};
+ghost use Rattle.js_tree.specs.Tokens.{head_of};
+ghost use Rattle.js_tree.specs.Views.{expression_view};
+ghost use Rattle.js_syntax.specs.Classes.{parenthesis, start};
+ghost use Rattle.js_syntax.specs.Giving.{Gives};
+ghost use Rattle.js_syntax.specs.Parsing as reading;
+ghost use Rattle.js_syntax.specs.Parsing.{below};
+ghost use Rattle.js_syntax.specs.Views.{tokens_view};
+ghost use Rattle.js_tree.specs.Places.{expression_places};
+ghost use Rattle.js_rules.specs.Placed.{Placed};
+
+use js_descent::arrows::{arrow_of_one, arrow_rest};
+use js_descent::parsed::Parsed;
+use js_descent::primaries::function_at;
+use js_lexer::token::Token;
+use js_rules::names::parameters_at;
+use js_syntax::classes::expressions::{Start, start_of};
+use js_syntax::fault::ParseError;
+use js_syntax::nodes::Nodes;
+use js_syntax::token::tail;
+use js_tree::tree::ArrowParameters;
+
+/// A function expression or an arrow function, and the tokens after it. Other expressions are
+/// refused at their first token.
+///
+/// # Errors
+///
+/// `Syntax` at the first token that doesn't go on with a function; `TooDeep` where its tree would
+/// be more than `room` high below it; no memory.
+pub fn function_code_at<'t, 's>(
+    nodes: &mut Nodes,
+    room: u32,
+    tokens: &'t [Token<'s>],
+) -> Parsed<'t, 's>
+    requires { room < 203 }
+    ensures gives { Gives (λ x. (expression_view x.0, tokens_view x.2.now)) result (reading.function_code_by (below room) (start (head_of (tokens_view tokens.now))) (tokens_view tokens.now)) }
+    ensures deep { IfOk result (λ x. (x.1 ≡ height (expression_view x.0)) × (x.1 ≤ room + 1)) }
+    ensures placed { IfOk result (λ x. Placed true nodes.old nodes.new (expression_places x.0) (tokens_view tokens.now) (tokens_view x.2.now)) }
+{
+    match start_of(tokens) {
+        Start::Function => function_at(nodes, room, tokens, tail(tokens)),
+        Start::Name(_) => arrow_of_one(nodes, room, tokens),
+        Start::Parenthesis => arrow_of_parameters(nodes, room, tokens),
+        Start::This | Start::Number(_) | Start::String(_) | Start::Boolean(_) | Start::Null => {
+            Err(ParseError::Syntax { left: tokens.len() })
+        }
+        Start::Bracket | Start::Brace | Start::Other => {
+            Err(ParseError::Syntax { left: tokens.len() })
+        }
+    }
+}
+
+// An arrow function with parameters in parentheses, of which none is named twice.
+fn arrow_of_parameters<'t, 's>(
+    nodes: &mut Nodes,
+    room: u32,
+    tokens: &'t [Token<'s>],
+) -> Parsed<'t, 's>
+    requires { room < 203 }
+    ensures gives { Gives (λ x. (expression_view x.0, tokens_view x.2.now)) result (reading.function_code_by (below room) parenthesis (tokens_view tokens.now)) }
+    ensures deep { IfOk result (λ x. (x.1 ≡ height (expression_view x.0)) × (x.1 ≤ room + 1)) }
+    ensures placed { IfOk result (λ x. Placed true nodes.old nodes.new (expression_places x.0) (tokens_view tokens.now) (tokens_view x.2.now)) }
+{
+    let (parameters, names, rest) = parameters_at(nodes.alloc(), tokens)?;
+    arrow_rest(
+        nodes,
+        room,
+        ArrowParameters::List(parameters),
+        names,
+        tokens,
+        rest,
+    )
+}
