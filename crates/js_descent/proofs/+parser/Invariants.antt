@@ -1,4 +1,4 @@
-use Rattle.std.proofs.Common.{ℕ, ◌+◌, ◌*◌, length, map}
+use Rattle.std.proofs.Common.{◌*◌, ◌+◌, false, length, map, true}
 use Rattle.js_syntax.specs.Views.{tokens_view}
 use Rattle.js_rules.proofs.ListReads.{ReadsElements, ReadsOthers, ReadsMembers}
 use Rattle.js_descent.proofs.+parser.Given as goal
@@ -8,7 +8,6 @@ use Rattle.js_rules.proofs.ListLemmas.{ReadsStatements, ReadsDeclarators}
 use Rattle.js_rules.proofs.PlacedLists.{before_commas}
 use Rattle.js_rules.specs.Placed.{Placed}
 use Rattle.js_tree.specs.Places.{behind_commas, declarator_places, expression_places, in_turn, property_places, statement_places, with_commas}
-use Rattle.std.proofs.Common.{false, true}
 
 abbrev pub decreases-arrows::arrow_of_one : goal.decreases-arrows::arrow_of_one
 decreases-arrows::arrow_of_one l = 1024 * l.room + 865
