@@ -28,29 +28,35 @@ def below(names, lines):
     return sorted(set(found))
 
 
+def write_crate(folder, text, uses):
+    """Writes a program of one file over some crates, with copies of all that it stands on; gives its crate's folder."""
+    crates = os.path.join(folder, "crates")
+    lines = dependencies()
+    for name in below(uses, lines):
+        source = os.path.join(TOP, "crates", name)
+        shutil.copytree(source, os.path.join(crates, name), ignore=shutil.ignore_patterns("must-fail"))
+    for part in ("src", "specs", "proofs"):
+        os.makedirs(os.path.join(crates, "bench", part))
+    for part in ("specs", "proofs"):
+        open(os.path.join(crates, "bench", part, "Lib.antt"), "w").close()
+    with open(os.path.join(crates, "bench", "src", "main.rt"), "w") as f:
+        f.write(text)
+    with open(os.path.join(folder, "crates.txt"), "w") as f:
+        f.writelines(f"{name}: {' '.join(lines[name])}\n" for name in below(uses, lines))
+        f.write(f"bench: {' '.join(uses)}\n")
+    return os.path.join(crates, "bench")
+
+
 class Program:
     """A program of one file over some crates; it reads `source.js` in the folder that it is run in."""
 
     def __init__(self, folder, text, uses):
         """Proves and builds it, which takes some minutes where the crates aren't proved yet."""
         self.folder = folder
-        crates = os.path.join(folder, "crates")
-        lines = dependencies()
-        for name in below(uses, lines):
-            source = os.path.join(TOP, "crates", name)
-            shutil.copytree(source, os.path.join(crates, name), ignore=shutil.ignore_patterns("must-fail"))
-        for part in ("src", "specs", "proofs"):
-            os.makedirs(os.path.join(crates, "bench", part))
-        for part in ("specs", "proofs"):
-            open(os.path.join(crates, "bench", part, "Lib.antt"), "w").close()
-        with open(os.path.join(crates, "bench", "src", "main.rt"), "w") as f:
-            f.write(text)
-        with open(os.path.join(folder, "crates.txt"), "w") as f:
-            f.writelines(f"{name}: {' '.join(lines[name])}\n" for name in below(uses, lines))
-            f.write(f"bench: {' '.join(uses)}\n")
-        self.path = os.path.join(crates, "bench", "out", "bench")
+        crate = write_crate(folder, text, uses)
+        self.path = os.path.join(crate, "out", "bench")
         self.give("")
-        built = subprocess.run(["rt", "run"], cwd=os.path.join(crates, "bench"), capture_output=True, text=True)
+        built = subprocess.run(["rt", "run"], cwd=crate, capture_output=True, text=True)
         if not os.path.exists(self.path):
             sys.exit(built.stdout + built.stderr)
 
