@@ -9,7 +9,7 @@ use Rattle.js_tree.specs.Trees as trees
 use Rattle.js_tree.specs.Trees.{Identifier, Parameters, Expression, Expressions}
 use Rattle.js_tree.specs.Tokens.{Token, fixed, identifier, numeric_literal, Mark, token, beside, head_of, tail_of, IsNext, Matches}
 use Rattle.js_tree.specs.Flat as flats
-use Rattle.js_tree.specs.Flat.{assign_kind, flat, flat_expressions, more_expressions, flat_parameters, flat_arrow_parameters, flat_statements, an_identifier}
+use Rattle.js_tree.specs.Flat.{assign_kind, flat, flat_expressions, more_expressions, flat_parameters, flat_arrow_parameters}
 use Rattle.js_tree.specs.Well.{function_body, is_target, Well, AreAssignments, AreFresh, names_of_parameters, begins_with_brace, is_two_expressions, declared_names}
 use Rattle.js_tree.specs.Height.{height}
 use Rattle.js_syntax.specs.Kinds.{is_kind}

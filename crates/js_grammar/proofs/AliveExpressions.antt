@@ -9,16 +9,16 @@ use Rattle.js_tree.specs.declared.operator.UnaryOperator.TheVariants as unaries
 use Rattle.js_tree.specs.declared.operator.UpdateOperator.{UpdateOperator}
 use Rattle.js_tree.specs.declared.operator.BinaryOperator.{BinaryOperator}
 use Rattle.js_tree.specs.Trees as trees
-use Rattle.js_tree.specs.Trees.{Identifier, Parameters, Expression, Expressions, Key, Property, Properties}
+use Rattle.js_tree.specs.Trees.{Expression, Key, Property, Properties}
 use Rattle.js_tree.specs.Tokens.{Token, fixed, identifier, identifier_name, numeric_literal, Mark, token, beside, head_of, tail_of, IsNext, Matches}
 use Rattle.js_tree.specs.Flat as flats
-use Rattle.js_tree.specs.Flat.{unary_kind, update_kind, binary_kind, assign_kind, flat, flat_expressions, more_expressions, flat_names, flat_parameters, flat_arrow_parameters, flat_statements, flat_key, flat_property, flat_properties, trailing_property}
+use Rattle.js_tree.specs.Flat.{unary_kind, update_kind, binary_kind, flat, flat_parameters, flat_statements, flat_key, flat_property, flat_properties, trailing_property}
 use Rattle.js_tree.specs.Well.{level, strength, is_property, is_target, WellKey, WellProperty, WellProperties, is_function}
 use Rattle.js_tree.specs.Height.{height, height_of_key}
 use Rattle.js_tree.specs.Views.{properties}
 use Rattle.js_syntax.specs.Reading.{Fault, stuck, deep, Read, Reader, ◌>>=◌, name_at, text_of, is_word_next, word_at, elements, no_state}
 use Rattle.js_syntax.specs.Classes as classes
-use Rattle.js_syntax.specs.Classes.{Start, start_by, start, Link, dot, key, no_link, link_by, link, Prefix, deletes, a_unary, an_update, no_prefix, prefix, update_near, operator, Joint, question, assigns_by, no_joint, joint_by, joint, KeyStart, key_start, AfterKey, after_key_by, after_key, is_shorthand}
+use Rattle.js_syntax.specs.Classes.{Start, start_by, start, Link, dot, key, no_link, link_by, link, Prefix, deletes, a_unary, an_update, no_prefix, prefix, update_near, operator, KeyStart, key_start, AfterKey, after_key_by, after_key, is_shorthand}
 use Rattle.js_syntax.specs.Productions.{Code, Below, one_of, Item, Values, made, seq, tok, a_name, an_assignment, an_expression, arguments, code}
 use Rattle.js_syntax.specs.Parsing.{if_low, key_by, key_at, member_by, property_by, property_at, properties_at, is_name_next, function_by, function_at, primary_by, primary, linked_by, is_link, links_by, links, call, updated_by, postfix, unary_by, unary, operator_from, chain_by, chain, operation}
 use Rattle.js_grammar.specs.Laws.{TakesExpression, SoundBelow, marks}

@@ -6,7 +6,7 @@ use Rattle.std.proofs.lemmas.List.{append-nil}
 use Rattle.js_lexer.specs.declared.token.TokenKind.{TokenKind}
 use Rattle.js_lexer.specs.declared.token.TokenKind.TheVariants as kinds
 use Rattle.js_tree.specs.Trees as trees
-use Rattle.js_tree.specs.Trees.{Identifier, Expression, Expressions, OptionalExpression, Declarator, Declarators, Statement, Statements}
+use Rattle.js_tree.specs.Trees.{Identifier, Expression, Expressions, Declarator, Declarators, Statement, Statements}
 use Rattle.js_tree.specs.Tokens.{Token, fixed, identifier, numeric_literal, Mark, token, semicolon, End, after_expression, absent, head_of, tail_of, is_on_line, IsNext, Matches}
 use Rattle.js_tree.specs.Flat as flats
 use Rattle.js_tree.specs.Flat.{edge, flat, flat_expressions, more_expressions, trailing, an_identifier, flat_parameters, flat_declarator, flat_declarators, flat_statement, flat_statements}

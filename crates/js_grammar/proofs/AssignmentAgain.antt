@@ -15,7 +15,7 @@ use Rattle.js_tree.specs.Height.{height, height_of_statements}
 use Rattle.js_syntax.specs.Reading.{with_names}
 use Rattle.js_syntax.specs.Kinds.{is_kind}
 use Rattle.js_syntax.specs.Classes as classes
-use Rattle.js_syntax.specs.Classes.{start, link_by, no_link, update_by, operator_by, joint, no_joint, question, assigns_by, is_arrow, listed, one_parameter, no_arrow, arrow_head}
+use Rattle.js_syntax.specs.Classes.{start, link_by, no_link, update_by, operator_by, joint, no_joint, question, assigns_by, is_arrow}
 use Rattle.js_syntax.specs.Productions.{Below, tok, an_assignment, in_braces}
 use Rattle.js_syntax.specs.Parsing.{operation, arrow_rest, are_fresh, arrow_of_one, arrow_of_list, joined, assignment, expression, function_code_by}
 use Rattle.js_syntax.proofs.KindLemmas.{next_again}

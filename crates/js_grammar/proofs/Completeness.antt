@@ -3,7 +3,7 @@ use Rattle.std.proofs.Common.{◌≡◌, ℕ, zero, suc, ◌≤◌, List, [], Ok
 use Rattle.std.specs.Prelude.{max}
 use Rattle.js_tree.specs.Trees.{Identifier, Expression, Statement, Statements}
 use Rattle.js_tree.specs.Tokens as edges
-use Rattle.js_tree.specs.Tokens.{Token, head_of, Matches, Edge}
+use Rattle.js_tree.specs.Tokens.{Token, Edge}
 use Rattle.js_tree.specs.Flat.{edge}
 use Rattle.js_tree.specs.Well.{top}
 use Rattle.js_tree.specs.Height.{height, height_of_statement, height_of_statements}

@@ -3,7 +3,7 @@ use Rattle.std.proofs.Common.{ℕ, suc, ◌≤◌, true, false, cond, List, [], 
 use Rattle.std.specs.Prelude.{nat_le}
 use Rattle.js_lexer.specs.declared.token.TokenKind.TheVariants as kinds
 use Rattle.js_tree.specs.Trees as trees
-use Rattle.js_tree.specs.Trees.{Identifier, Parameters, Expression, Key, Property}
+use Rattle.js_tree.specs.Trees.{Identifier, Parameters, Expression, Key}
 use Rattle.js_tree.specs.Tokens.{head_of, tail_of}
 use Rattle.js_tree.specs.Flat.{assign_kind}
 use Rattle.js_tree.specs.Well.{function_body, is_target}
@@ -12,7 +12,7 @@ use Rattle.js_tree.specs.Views.{properties}
 use Rattle.js_syntax.specs.Kinds.{is_kind}
 use Rattle.js_syntax.specs.Reading.{stuck, deep, ◌>>=◌, expect_near, word_at, elements, no_state, with_names}
 use Rattle.js_syntax.specs.Classes as classes
-use Rattle.js_syntax.specs.Classes.{Start, start, Link, dot, key, no_link, link, update_near, Prefix, deletes, a_unary, an_update, no_prefix, prefix, operator, Joint, question, assigns_by, no_joint, joint, KeyStart, key_start, AfterKey, after_key}
+use Rattle.js_syntax.specs.Classes.{start, Link, dot, key, no_link, update_near, question, assigns_by, no_joint, joint, key_start, AfterKey, after_key}
 use Rattle.js_syntax.specs.Productions.{Below, one_of, tok, an_assignment, an_expression, arguments, a_name, code, in_braces, made}
 use Rattle.js_syntax.specs.Parsing.{key_by, key_at, member_by, property_at, properties_at, is_name_next, function_by, function_at, primary_by, primary, linked_by, updated_by, arrow_body_by, arrow_rest, joined_by, joined}
 use Rattle.js_grammar.proofs.FollowsTools.{past, shortens}

@@ -11,7 +11,7 @@ use Rattle.js_tree.specs.Height.{height}
 use Rattle.js_syntax.specs.Kinds.{is_kind}
 use Rattle.js_syntax.specs.Reading.{stuck, deep, Read, Reader, ◌>>=◌}
 use Rattle.js_syntax.specs.Classes as classes
-use Rattle.js_syntax.specs.Classes.{Start, start, Link, dot, key, no_link, link, update_near, operator, Joint, question, assigns_by, no_joint, joint, is_arrow, past_names, no_arrow, listed_by}
+use Rattle.js_syntax.specs.Classes.{Start, start, Link, dot, key, no_link, link, update_near, operator, Joint, question, assigns_by, no_joint, joint, is_arrow}
 use Rattle.js_syntax.specs.Productions.{Below}
 use Rattle.js_syntax.specs.Parsing.{links_by, links, updated_by, operator_from, chain_by, chain, joined_by, joined, assignment, below}
 use Rattle.js_syntax.proofs.KindLemmas.{kind_is}

@@ -12,7 +12,7 @@ use Rattle.js_tree.specs.Height.{height}
 use Rattle.js_syntax.specs.Kinds.{is_kind}
 use Rattle.js_syntax.specs.Reading.{stuck, deep, Read, Reader, ◌>>=◌, word_at}
 use Rattle.js_syntax.specs.Classes as classes
-use Rattle.js_syntax.specs.Classes.{Link, dot, key, no_link, link, update_near, Prefix, deletes, a_unary, an_update, no_prefix, prefix, operator}
+use Rattle.js_syntax.specs.Classes.{Link, dot, key, no_link, link, update_near, deletes, a_unary, an_update, no_prefix, prefix, operator}
 use Rattle.js_syntax.specs.Productions.{Below, more_assignments, Item, tok, an_expression, arguments, Values, seq, made}
 use Rattle.js_syntax.specs.Parsing.{primary, linked_by, links_by, links, call, updated_by, postfix, unary_by, unary, operator_from, chain_by, chain, operation, assignment, comma_by, expression}
 use Rattle.js_grammar.proofs.LevelAgain.{height_positive}

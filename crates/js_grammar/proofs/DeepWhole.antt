@@ -3,7 +3,7 @@ use Rattle.std.proofs.Common.{◌≡◌, ℕ, zero, suc, ◌+◌, ◌<◌, ◌�
 use Rattle.std.specs.Prelude.{nat_le}
 use Rattle.std.proofs.lemmas.Bool.{leb-true, leb-false}
 use Rattle.js_tree.specs.Trees as trees
-use Rattle.js_tree.specs.Trees.{Identifier, Expression, Statements}
+use Rattle.js_tree.specs.Trees.{Identifier, Expression}
 use Rattle.js_tree.specs.Tokens.{Token, head_of}
 use Rattle.js_tree.specs.Well.{top}
 use Rattle.js_tree.specs.Height.{height, height_of_statements}

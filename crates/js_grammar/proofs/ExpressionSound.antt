@@ -8,13 +8,13 @@ use Rattle.js_tree.specs.Trees as trees
 use Rattle.js_tree.specs.Trees.{Identifier, Parameters, Expression, Expressions}
 use Rattle.js_tree.specs.Tokens.{Token, fixed, identifier, identifier_name, numeric_literal, string_literal, Mark, token, beside, semicolon, trailing_comma, head_of, IsNext, Matches}
 use Rattle.js_tree.specs.Flat as flats
-use Rattle.js_tree.specs.Flat.{assign_kind, flat, flat_expressions, more_expressions, flat_names, flat_parameters, flat_arrow_parameters, flat_statements}
+use Rattle.js_tree.specs.Flat.{assign_kind, flat, more_expressions, flat_names, flat_parameters, flat_arrow_parameters, flat_statements}
 use Rattle.js_tree.specs.Well.{function_body, is_target, begins_with_brace, is_among, AreFresh, names_of_parameters, is_two_expressions, is_function}
 use Rattle.js_tree.specs.Height.{height}
 use Rattle.js_syntax.specs.Kinds.{is_kind}
 use Rattle.js_syntax.specs.Reading.{stuck, ◌>>=◌, expect, expect_near, name_at, with_names}
 use Rattle.js_syntax.specs.Classes as classes
-use Rattle.js_syntax.specs.Classes.{Start, start, operator, Joint, question, assigns_by, no_joint, joint, Head, one_parameter, listed, no_arrow, arrow_head}
+use Rattle.js_syntax.specs.Classes.{Start, start, Joint, question, assigns_by, no_joint, joint, Head, one_parameter, listed, no_arrow, arrow_head}
 use Rattle.js_syntax.specs.Productions.{Below, more_assignments, names_before, parameters_at, tok, an_assignment, in_braces, made}
 use Rattle.js_syntax.specs.Parsing.{if_low, operation, arrow_body_by, arrow_rest, are_fresh, arrow_of_names, arrow_of_one, arrow_of_list, joined_by, joined, assignment_by, assignment, comma_by, expression, function_code_by}
 use Rattle.js_syntax.proofs.KindLemmas.{next_again}

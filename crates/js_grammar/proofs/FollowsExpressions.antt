@@ -15,7 +15,7 @@ use Rattle.js_tree.specs.Views.{properties}
 use Rattle.js_syntax.specs.Kinds.{is_kind}
 use Rattle.js_syntax.specs.Reading.{stuck, deep, Reader, ◌>>=◌, expect_near, text_of, name_at, word_at, elements, no_state, with_names}
 use Rattle.js_syntax.specs.Classes as classes
-use Rattle.js_syntax.specs.Classes.{Start, start, Link, dot, key, no_link, link, update_near, Prefix, deletes, a_unary, an_update, no_prefix, prefix, operator, Joint, question, assigns_by, no_joint, joint, KeyStart, key_start, AfterKey, after_key, is_shorthand_by, is_shorthand}
+use Rattle.js_syntax.specs.Classes.{start, Link, dot, key, no_link, link, update_near, deletes, a_unary, an_update, no_prefix, prefix, operator, Joint, question, assigns_by, no_joint, joint, key_start, AfterKey, after_key, is_shorthand_by}
 use Rattle.js_syntax.specs.Productions.{Below, one_of, tok, an_assignment, an_expression, arguments, a_name, code, in_braces, made}
 use Rattle.js_syntax.specs.Parsing.{key_by, key_at, member_by, property_by, property_at, properties_at, is_name_next, function_by, function_at, primary_by, primary, linked_by, links_by, links, call, updated_by, postfix, unary_by, unary, operator_from, chain_by, chain, operation, arrow_body_by, arrow_rest, joined_by, joined}
 use Rattle.js_syntax.proofs.KindLemmas.{kind_is}

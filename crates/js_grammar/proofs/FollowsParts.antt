@@ -3,7 +3,7 @@ use Rattle.std.proofs.Common.{◌≡◌, ℕ, suc, ◌≤◌, Bool, true, false,
 use Rattle.js_lexer.specs.declared.token.TokenKind.{TokenKind}
 use Rattle.js_lexer.specs.declared.token.TokenKind.TheVariants as kinds
 use Rattle.js_tree.specs.Trees as trees
-use Rattle.js_tree.specs.Trees.{Identifier, Expression, Declarator, Statement}
+use Rattle.js_tree.specs.Trees.{Identifier, Declarator}
 use Rattle.js_tree.specs.Tokens.{Token, End, after_expression, absent, head_of, tail_of, is_on_line}
 use Rattle.js_tree.specs.Flat.{edge}
 use Rattle.js_tree.specs.Well.{Context, function_body, is_among}

@@ -4,14 +4,14 @@ use Rattle.std.specs.Prelude.{◌&&◌, codes}
 use Rattle.js_lexer.specs.declared.token.TokenKind.{TokenKind}
 use Rattle.js_lexer.specs.declared.token.TokenKind.TheVariants as kinds
 use Rattle.js_tree.specs.Trees as trees
-use Rattle.js_tree.specs.Trees.{Identifier, Expression, Declarator, Declarators, Statement, Handler, Finalizer}
+use Rattle.js_tree.specs.Trees.{Identifier, Expression, Declarator, Declarators, Statement, Handler}
 use Rattle.js_tree.specs.Tokens.{Token, fixed, after_word, head_of, tail_of, IsNext, is_on_line}
 use Rattle.js_tree.specs.Flat.{end_of_declarators}
 use Rattle.js_tree.specs.Well.{Context, loop_body}
 use Rattle.js_tree.specs.Views.{declarators}
 use Rattle.js_syntax.specs.Kinds.{is_kind}
 use Rattle.js_syntax.specs.Classes as classes
-use Rattle.js_syntax.specs.Classes.{Start, start, First, first, ends_return, is_name, ForHead, each, declares, plain_head, for_head_by, for_head}
+use Rattle.js_syntax.specs.Classes.{First, first, ends_return, is_name, ForHead, each, declares, plain_head, for_head_by, for_head}
 use Rattle.js_syntax.specs.Reading.{stuck, Read, Reader, ◌>>=◌, expect, text_of, name_at, fresh_name, semicolon_at, others}
 use Rattle.js_syntax.specs.Productions.{Below, code_at, initializer_by, declarator_at, with_declarator, declarators_at, Item, tok, a_name, the_name, an_assignment, optional, ended, an_end, declared, a_statement, a_block, in_braces, Value, Values, seq, made}
 use Rattle.js_syntax.specs.Productions as productions

@@ -11,7 +11,7 @@ use Rattle.js_tree.specs.Well.{Context, WellOptional, WellStatement, is_some_dec
 use Rattle.js_tree.specs.Height.{height_of_statement}
 use Rattle.js_syntax.specs.Kinds.{is_kind}
 use Rattle.js_syntax.specs.Classes as classes
-use Rattle.js_syntax.specs.Classes.{first, first_by, is_name, ForHead, each, declares, plain_head, for_head, for_head_by}
+use Rattle.js_syntax.specs.Classes.{first, first_by, is_name, each, declares, plain_head, for_head, for_head_by}
 use Rattle.js_syntax.specs.Productions.{Below, Values}
 use Rattle.js_syntax.specs.Parsing.{let_kind, for_items, for_lexical_items, for_of_items, for_at, for_by}
 use Rattle.js_syntax.proofs.KindLemmas.{next_again, kind_not}

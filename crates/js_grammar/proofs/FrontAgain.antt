@@ -8,7 +8,7 @@ use Rattle.js_tree.specs.declared.operator.UnaryOperator.TheVariants as unaries
 use Rattle.js_tree.specs.declared.operator.UpdateOperator.{UpdateOperator}
 use Rattle.js_tree.specs.declared.operator.UpdateOperator.TheVariants as updates
 use Rattle.js_tree.specs.Trees as trees
-use Rattle.js_tree.specs.Trees.{Expression, Expressions, Statement}
+use Rattle.js_tree.specs.Trees.{Expression, Statement}
 use Rattle.js_tree.specs.Tokens.{Token, Symbol, fixed, identifier, identifier_name, numeric_literal, string_literal, IsNext, Edge, plain, braces, update, End, after_expression, after_word, continues, absent, absent_before, Mark, token, semicolon, head_of, tail_of, is_on_line, Matches}
 use Rattle.js_tree.specs.Flat.{edge, flat, flat_statement, unary_kind, update_kind}
 use Rattle.js_tree.specs.Well.{Context, Well, WellStatement, begins_with_brace, begins_with_function}

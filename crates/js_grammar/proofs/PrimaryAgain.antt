@@ -10,7 +10,6 @@ use Rattle.js_tree.specs.Flat as flats
 use Rattle.js_tree.specs.Well.{Well}
 use Rattle.js_tree.specs.Height.{height}
 use Rattle.js_syntax.specs.Classes as classes
-use Rattle.js_syntax.specs.Classes.{start}
 use Rattle.js_syntax.specs.Productions.{Below, tok, a_name, an_expression, arguments, code}
 use Rattle.js_syntax.specs.Parsing.{primary, function_at, properties_at}
 use Rattle.js_grammar.specs.Laws.{AgainBelow, SeqAgain}

@@ -16,7 +16,7 @@ use Rattle.js_tree.specs.Views.{properties}
 use Rattle.js_syntax.specs.Kinds.{is_kind, is_same_kind}
 use Rattle.js_syntax.specs.Reading.{elements, no_state}
 use Rattle.js_syntax.specs.Classes as classes
-use Rattle.js_syntax.specs.Classes.{KeyStart, a_word_key, a_string_key, a_number_key, a_computed_key, no_key, key_start, key_start_by, AfterKey, after_key, after_key_by, is_shorthand, is_shorthand_by}
+use Rattle.js_syntax.specs.Classes.{a_word_key, a_string_key, a_number_key, a_computed_key, no_key, key_start, key_start_by, AfterKey, after_key, after_key_by, is_shorthand, is_shorthand_by}
 use Rattle.js_syntax.specs.Productions.{Below, one_of, tok, an_assignment}
 use Rattle.js_syntax.specs.Parsing.{key_at, property_at, properties_at}
 use Rattle.js_syntax.proofs.KindLemmas.{kind_is}

@@ -5,7 +5,7 @@ use Rattle.std.proofs.lemmas.List.{append-nil}
 use Rattle.js_lexer.specs.declared.token.TokenKind.{TokenKind}
 use Rattle.js_lexer.specs.declared.token.TokenKind.TheVariants as kinds
 use Rattle.js_tree.specs.Trees as trees
-use Rattle.js_tree.specs.Trees.{Identifier, Expression, OptionalExpression, Declarators, Statement, Statements, Handler, Finalizer}
+use Rattle.js_tree.specs.Trees.{Identifier, Statement, Statements, Handler, Finalizer}
 use Rattle.js_tree.specs.Tokens.{Token, fixed, identifier, Mark, token, beside, semicolon, trailing_comma, after_expression, after_word, absent_before, head_of, tail_of, IsNext, is_on_line, Matches}
 use Rattle.js_tree.specs.Flat as flats
 use Rattle.js_tree.specs.Flat.{edge, end_of_declarators, on_line, let_or_const, flat, flat_optional, flat_parameters, flat_declarators, flat_statement, flat_statements, flat_handler, flat_finalizer}

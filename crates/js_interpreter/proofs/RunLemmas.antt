@@ -1,9 +1,9 @@
 -- Lemmas on runs.
-use Rattle.std.proofs.Common.{◌≡◌, ℕ, zero, suc, ◌+◌, ◌-◌, ◌<◌, refl, ap, sym, ◌∙◌, arith, add-zero}
+use Rattle.std.proofs.Common.{◌≡◌, ℕ, zero, suc, ◌+◌, refl, ap, sym, ◌∙◌, arith}
 use Rattle.js_semantics.specs.State.{State}
 use Rattle.js_semantics.specs.Functions.{Program}
 use Rattle.js_semantics.specs.Run.{Run, Finish, running, over, run_of, step, steps, steps_taken}
-use Rattle.js_semantics.specs.Terms.{Term, standing, part}
+use Rattle.js_semantics.specs.Terms.{Term}
 use Rattle.js_interpreter.specs.declared.gap.Reducible.{Reducible}
 use Rattle.js_interpreter.specs.declared.gap.Reducible.TheVariants.{Standing, Part}
 use Rattle.js_interpreter.specs.declared.run.Finish as code

@@ -2,7 +2,7 @@
 use Rattle.std.proofs.Common.{◌≡◌, ℕ, Bool, true, false, List, [], ◌∷◌, ◌++◌, Option, Some, None, map, refl, sym, ap, ◌∙◌, decimal, ◌+◌, ◌<◌, length, drop, get_or, append_assoc, append-nil}
 use Rattle.std.proofs.lemmas.List.{drop_more}
 use Rattle.std.specs.Option.{option_map}
-use Rattle.std.specs.Global.{Vec, Box}
+use Rattle.std.specs.Global.{Box}
 use Rattle.js_tree.specs.declared.node.NodeId.{NodeId}
 use Rattle.js_tree.specs.declared.integer.SafeInteger.{SafeInteger}
 use Rattle.js_tree.specs.declared.operator.UnaryOperator.{UnaryOperator}

@@ -7,7 +7,6 @@ use Rattle.js_tree.specs.declared.operator.BinaryOperator.TheVariants as binarie
 use Rattle.js_heap.specs.declared.value.Value.TheVariants as values
 use Rattle.js_semantics.specs.declared.form.Mark.{Mark}
 use Rattle.js_semantics.specs.declared.form.Reference.{Reference}
-use Rattle.js_semantics.specs.declared.form.Reference.TheVariants as references
 use Rattle.js_semantics.specs.declared.form.Form.{Form}
 use Rattle.js_semantics.specs.declared.form.Form.TheVariants as forms
 use Rattle.js_semantics.specs.Terms as semantics

@@ -1,8 +1,5 @@
 -- What is made of each part of a tree, and where a part of a tree stands.
-use Rattle.std.specs.Prelude.{ℕ, true, false, List, [], ◌∷◌, Option, Some, None}
-use Rattle.std.specs.Option.{option_map}
-use Rattle.std.specs.Global.{Box}
-use Rattle.js_tree.specs.declared.tree.Expr.{Expr}
+use Rattle.std.specs.Prelude.{ℕ, true, false, List, Option, Some, None}
 use Rattle.js_tree.specs.declared.tree.Stmt.{Stmt}
 use Rattle.js_tree.specs.declared.tree.Exprs.{Exprs}
 use Rattle.js_tree.specs.declared.tree.PropertyName.{PropertyName}
@@ -17,7 +14,7 @@ use Rattle.js_heap.specs.declared.cell.Binding.{Binding}
 use Rattle.js_semantics.specs.declared.form.FunctionForm.{FunctionForm}
 use Rattle.js_semantics.specs.Terms as semantics
 use Rattle.js_semantics.specs.declared.form.Form.TheVariants as forms
-use Rattle.js_semantics.specs.Makers.{form_of, initializer_terms, PropertyKey, fixed_key, computed_key, Parts, Context, Made, Item, Items, PropertyMade, DeclaratorMade, CatchMade}
+use Rattle.js_semantics.specs.Makers.{form_of, initializer_terms, PropertyKey, Parts, Context, Made, Item, Items, PropertyMade, DeclaratorMade, CatchMade}
 use Rattle.js_semantics.specs.Sources.{expression_layer, property_layer, key_layer, statement_layer, block_layer, catch_layer, declarator_layer, declarators_layer, expressions_layer, properties_layer, statements_layer}
 use Rattle.js_programs.specs.declared.places.Place.{Place}
 use Rattle.js_programs.specs.declared.objects.ObjectParts.{ObjectParts}

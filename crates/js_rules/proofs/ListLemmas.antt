@@ -3,7 +3,7 @@ use Rattle.std.proofs.Common.{◌≡◌, ℕ, suc, ◌<◌, ◌≤◌, Bool, tru
 use Rattle.std.specs.Prelude.{max}
 use Rattle.js_lexer.specs.declared.token.TokenKind.TheVariants as kinds
 use Rattle.js_tree.specs.Trees as trees
-use Rattle.js_tree.specs.Trees.{Identifier, Declarator, Declarators, Statement}
+use Rattle.js_tree.specs.Trees.{Identifier, Declarator, Statement}
 use Rattle.js_tree.specs.Tokens.{Token, head_of, tail_of}
 use Rattle.js_tree.specs.Well.{Context, names_of_declarators}
 use Rattle.js_tree.specs.Height.{height_of_statement, height_of_statements, height_of_declarator, height_of_declarators}

@@ -1,6 +1,6 @@
 -- Spans cut off at the end of their source lie in it.
-use Rattle.std.proofs.Common.{◌≡◌, ℕ, ◌≤◌, List, [], ◌∷◌, map, arith}
-use Rattle.std.specs.Prelude.{All, min}
+use Rattle.std.proofs.Common.{ℕ, List, map, arith}
+use Rattle.std.specs.Prelude.{All}
 use Rattle.std.specs.List.{slice_index_or}
 use Rattle.std.proofs.lemmas.List.Elements.{All-map}
 use Rattle.js_tree.specs.declared.node.Span.{Span}

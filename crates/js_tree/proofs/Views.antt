@@ -1,8 +1,6 @@
 -- What a tree of each form looks like.
-use Rattle.std.proofs.Common.{◌≡◌, ℕ, Bool, List, [], ◌∷◌, ◌++◌, Option, Some, None, map, refl, sym, ap, ◌∙◌, codes}
-use Rattle.std.specs.Option.{option_map}
+use Rattle.std.proofs.Common.{◌≡◌, ℕ, Bool, List, Option, Some, None, map, sym, ap, ◌∙◌}
 use Rattle.std.specs.Global.{Vec, Box}
-use Rattle.js_lexer.specs.declared.token.TokenKind.TheVariants as kinds
 use Rattle.js_tree.specs.declared.node.NodeId.{NodeId}
 use Rattle.js_tree.specs.declared.integer.SafeInteger.{SafeInteger}
 use Rattle.js_tree.specs.declared.operator.UnaryOperator.{UnaryOperator}

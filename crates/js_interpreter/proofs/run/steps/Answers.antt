@@ -1,4 +1,4 @@
-use Rattle.std.proofs.Common.{◌≡◌, ℕ, suc, ◌+◌, ◌-◌, arith}
+use Rattle.std.proofs.Common.{◌≡◌, suc, ◌+◌, ◌-◌, arith}
 use Rattle.js_interpreter.proofs.RunLemmas.{run_over, turn_steps, turn_count}
 use Rattle.js_interpreter.proofs.run.steps.Goals as goal
 

@@ -1,4 +1,4 @@
-use Rattle.std.proofs.Common.{◌≡◌, sym, ◌∙◌}
+use Rattle.std.proofs.Common.{sym, ◌∙◌}
 use Rattle.js_programs.proofs.LiteralLaws.{found_parts}
 use Rattle.js_programs.proofs.literals.+add_literals.Goals as goal
 

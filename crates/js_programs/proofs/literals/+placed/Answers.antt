@@ -1,4 +1,4 @@
-use Rattle.std.proofs.Common.{◌≡◌, ap, sym, ◌∙◌}
+use Rattle.std.proofs.Common.{ap, sym, ◌∙◌}
 use Rattle.js_heap.specs.declared.value.Addr.TheVariants.{Base}
 use Rattle.js_semantics.specs.Run as run
 use Rattle.js_terms.specs.Views.{listed_view}

@@ -1,4 +1,4 @@
-use Rattle.std.proofs.Common.{◌≡◌, ◌∙◌}
+use Rattle.std.proofs.Common.{◌∙◌}
 use Rattle.js_terms.specs.Views.{term_view, terms_view}
 use Rattle.js_terms.specs.Programs.{program_view}
 use Rattle.js_interpreter.specs.Runs.{progress_view}
