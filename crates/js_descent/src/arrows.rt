@@ -9,13 +9,13 @@ ghost use Rattle.js_syntax.specs.Parsing.{below};
 ghost use Rattle.js_syntax.specs.Views.{tokens_view};
 ghost use Rattle.std.specs.Prelude.{length, true, [], if◌then◌else◌};
 ghost use Rattle.js_tree.specs.Views.{parameters_view};
-ghost use Rattle.js_tree.specs.Well.{names_of_parameters};
+ghost use Rattle.js_language.specs.Well.{names_of_parameters};
 ghost use Rattle.js_syntax.specs.Names.{texts};
 ghost use Rattle.js_syntax.specs.Reading.{with_names};
-ghost use Rattle.js_tree.specs.Places.{expression_places, plain, in_turn};
-ghost use Rattle.js_rules.specs.Placed.{Placed};
+ghost use Rattle.js_language.specs.Places.{expression_places, plain, in_turn};
+ghost use Rattle.js_syntax.specs.Placed.{Placed};
 ghost use Rattle.js_tree.specs.declared.node.Span.{Span};
-ghost use Rattle.js_tree.specs.Flat.{flat_parameters, flat_arrow_parameters, a};
+ghost use Rattle.js_language.specs.Flat.{flat_parameters, flat_arrow_parameters, a};
 ghost use Rattle.js_lexer.specs.declared.token.TokenKind.TheVariants as kinds;
 
 use crate::blocks::braces_at;
@@ -23,14 +23,14 @@ use crate::expressions::assignment_below;
 use crate::parsed::Parsed;
 use cdp_text::units::Units;
 use js_lexer::token::{Token, TokenKind};
-use js_rules::context::Context;
-use js_rules::words::{expect_near, name_at, names_before, names_of};
+use js_syntax::context::Context;
+use js_syntax::words::{expect_near, name_at, names_before, names_of};
 use js_syntax::classes::arrows::take_fresh;
 use js_syntax::fault::ParseError;
 use js_syntax::name_set::NameSet;
 use js_syntax::nodes::Nodes;
 use js_syntax::token::{expect, is_next};
-use js_tree::expressions::{arrow, arrow_block};
+use js_language::expressions::{arrow, arrow_block};
 use js_tree::tree::ArrowParameters;
 
 // An arrow function of one name without parentheses.

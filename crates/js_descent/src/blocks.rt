@@ -8,22 +8,22 @@ ghost use Rattle.js_syntax.specs.Parsing.{below};
 ghost use Rattle.js_syntax.specs.Productions as productions;
 ghost use Rattle.js_syntax.specs.Views.{tokens_view};
 ghost use Rattle.js_descent.specs.Views.{function_view};
-ghost use Rattle.js_rules.specs.Views.{context_view};
-ghost use Rattle.js_tree.specs.Places.{block_places, in_turn, plain, in_braces, statements_places};
-ghost use Rattle.js_rules.specs.Placed.{Placed};
-ghost use Rattle.js_tree.specs.Flat.{flat_parameters};
+ghost use Rattle.js_syntax.specs.Context.{context_view};
+ghost use Rattle.js_language.specs.Places.{block_places, in_turn, plain, in_braces, statements_places};
+ghost use Rattle.js_syntax.specs.Placed.{Placed};
+ghost use Rattle.js_language.specs.Flat.{flat_parameters};
 
 use crate::declarations::item_below;
 use crate::parsed::{FunctionParts, ParsedBlock, ParsedFunction, ParsedStatements, deeper};
 use js_lexer::token::{Token, TokenKind};
-use js_rules::context::Context;
-use js_rules::names::parameters_at;
+use js_syntax::context::Context;
+use js_syntax::names::parameters_at;
 use js_syntax::classes::lists::ends_list;
 use js_syntax::fault::ParseError;
 use js_syntax::name_set::NameSet;
 use js_syntax::nodes::Nodes;
 use js_syntax::token::expect;
-use js_tree::parts::{block, statements_of};
+use js_language::parts::{block, statements_of};
 
 // Statements in braces that declare other names than these, at most `room` high with the braces.
 #[cycle(parser)]

@@ -10,10 +10,10 @@ ghost use Rattle.js_syntax.specs.Views.{tokens_view};
 ghost use Rattle.js_syntax.specs.Classes.{key};
 ghost use Rattle.js_syntax.specs.Classes as classes;
 ghost use Rattle.js_syntax.specs.Heads.{link_view};
-ghost use Rattle.js_tree.specs.Places.{expression_places};
-ghost use Rattle.js_rules.specs.Placed.{Placed};
+ghost use Rattle.js_language.specs.Places.{expression_places};
+ghost use Rattle.js_syntax.specs.Placed.{Placed};
 ghost use Rattle.js_tree.specs.declared.node.Span.{Span};
-ghost use Rattle.js_tree.specs.Tokens.{head_of};
+ghost use Rattle.js_language.specs.Tokens.{head_of};
 
 use crate::expressions::expression_below;
 use crate::lists::arguments_before;
@@ -21,12 +21,12 @@ use crate::parsed::{Parsed, deeper};
 use crate::primaries::primary_at;
 use cdp_text::units::Units;
 use js_lexer::token::{Token, TokenKind};
-use js_rules::words::word_at;
+use js_syntax::words::word_at;
 use js_syntax::classes::expressions::{Link, link_of};
 use js_syntax::fault::ParseError;
 use js_syntax::nodes::Nodes;
 use js_syntax::token::{expect, tail};
-use js_tree::expressions::{call, index, member};
+use js_language::expressions::{call, index, member};
 use js_tree::tree::Expr;
 
 // A CallExpression or a MemberExpression, at most `room` high.

@@ -3,7 +3,7 @@
 ghost use Rattle.std.specs.Prelude.{◌≡◌, ◌≤◌, ◌<◌, ◌+◌, suc, IfOk, true};
 ghost use Rattle.js_tree.specs.Height.{height_of_declarator, height_of_declarators, height_of_statement};
 ghost use Rattle.js_tree.specs.Views.{declarator_view, declarators_view, statement_view};
-ghost use Rattle.js_tree.specs.Well as well;
+ghost use Rattle.js_language.specs.Well as well;
 ghost use Rattle.js_syntax.specs.Giving.{Gives};
 ghost use Rattle.js_syntax.specs.Parsing as reading;
 ghost use Rattle.js_syntax.specs.Parsing.{below};
@@ -11,10 +11,10 @@ ghost use Rattle.js_syntax.specs.Productions as productions;
 ghost use Rattle.js_syntax.specs.Productions.{with_declarator};
 ghost use Rattle.js_syntax.specs.Reading.{with_names};
 ghost use Rattle.js_syntax.specs.Views.{tokens_view};
-ghost use Rattle.js_rules.specs.Views.{context_view};
-ghost use Rattle.js_tree.specs.Places.{statement_places, declarators_places, declarator_places};
-ghost use Rattle.js_rules.specs.Placed.{Placed};
-ghost use Rattle.js_tree.specs.Tokens.{head_of, IsNext, fixed};
+ghost use Rattle.js_syntax.specs.Context.{context_view};
+ghost use Rattle.js_language.specs.Places.{statement_places, declarators_places, declarator_places};
+ghost use Rattle.js_syntax.specs.Placed.{Placed};
+ghost use Rattle.js_language.specs.Tokens.{head_of, IsNext, fixed};
 ghost use Rattle.js_lexer.specs.declared.token.TokenKind.TheVariants as kinds;
 
 use crate::blocks::code_at;
@@ -23,16 +23,16 @@ use crate::parsed::{ParsedDeclarator, ParsedDeclarators, ParsedStatement, deeper
 use crate::statements::statement_at;
 use cdp_text::units::Units;
 use js_lexer::token::{Token, TokenKind};
-use js_rules::context::Context;
-use js_rules::endings::{end_of, semicolon_at};
-use js_rules::names::fresh_name;
+use js_syntax::context::Context;
+use js_syntax::endings::{end_of, semicolon_at};
+use js_syntax::names::fresh_name;
 use js_syntax::classes::statements::{First, first_of};
 use js_syntax::fault::ParseError;
 use js_syntax::name_set::NameSet;
 use js_syntax::nodes::Nodes;
 use js_syntax::token::{is_next, tail};
-use js_tree::parts::{declarator, declarators_of};
-use js_tree::statements::{function_declaration, lexical_declaration};
+use js_language::parts::{declarator, declarators_of};
+use js_language::statements::{function_declaration, lexical_declaration};
 
 // A statement or a declaration of other names than these, at most `room` high. Its names are taken.
 #[cycle(parser)]

@@ -8,26 +8,26 @@ ghost use Rattle.js_syntax.specs.Kinds.{is_kind};
 ghost use Rattle.js_syntax.specs.Parsing as reading;
 ghost use Rattle.js_syntax.specs.Parsing.{below};
 ghost use Rattle.js_syntax.specs.Views.{tokens_view};
-ghost use Rattle.js_tree.specs.Tokens.{head_of};
+ghost use Rattle.js_language.specs.Tokens.{head_of};
 ghost use Rattle.js_lexer.specs.declared.token.TokenKind.TheVariants as kinds;
-ghost use Rattle.js_rules.specs.Views.{context_view};
-ghost use Rattle.js_tree.specs.Places.{statement_places, handler_places, plain, catch_places, finalizer_places};
-ghost use Rattle.js_rules.specs.Placed.{Placed};
+ghost use Rattle.js_syntax.specs.Context.{context_view};
+ghost use Rattle.js_language.specs.Places.{statement_places, handler_places, plain, catch_places, finalizer_places};
+ghost use Rattle.js_syntax.specs.Placed.{Placed};
 ghost use Rattle.js_tree.specs.declared.node.Span.{Span};
-ghost use Rattle.js_tree.specs.Flat.{a};
+ghost use Rattle.js_language.specs.Flat.{a};
 
 use crate::blocks::block_below;
 use crate::parsed::{ParsedCatch, ParsedFinalizer, ParsedHandler, ParsedStatement, deeper};
 use cdp_text::units::Units;
 use js_lexer::token::{Token, TokenKind};
-use js_rules::context::Context;
-use js_rules::words::name_at;
+use js_syntax::context::Context;
+use js_syntax::words::name_at;
 use js_syntax::fault::ParseError;
 use js_syntax::name_set::NameSet;
 use js_syntax::nodes::Nodes;
 use js_syntax::token::{expect, is_next, tail};
-use js_tree::parts::catch_clause;
-use js_tree::statements::try_statement;
+use js_language::parts::catch_clause;
+use js_language::statements::try_statement;
 use js_tree::tree::Catch;
 
 // `try` with its blocks.

@@ -10,8 +10,8 @@ ghost use Rattle.js_syntax.specs.Views.{tokens_view};
 ghost use Rattle.js_syntax.specs.Classes.{question, assigns_by};
 ghost use Rattle.std.specs.Prelude.{true};
 ghost use Rattle.js_syntax.specs.Heads.{joint_view};
-ghost use Rattle.js_tree.specs.Places.{expression_places};
-ghost use Rattle.js_rules.specs.Placed.{Placed};
+ghost use Rattle.js_language.specs.Places.{expression_places};
+ghost use Rattle.js_syntax.specs.Placed.{Placed};
 ghost use Rattle.js_tree.specs.declared.node.Span.{Span};
 
 use crate::arrows::{arrow_of_list, arrow_of_one};
@@ -19,15 +19,15 @@ use crate::lists::more_assignments;
 use crate::operators::operation_at;
 use crate::parsed::{Parsed, deeper};
 use js_lexer::token::{Token, TokenKind};
-use js_rules::targets::{assignment_kind, is_target};
+use js_syntax::targets::{assignment_kind, is_target};
 use js_syntax::classes::arrows::{Head, arrow_head};
 use js_syntax::classes::expressions::{Joint, joint_of};
 use js_syntax::fault::ParseError;
 use js_syntax::nodes::Nodes;
 use js_syntax::token::{expect, is_next, tail};
-use js_tree::expressions::{assign, comma, conditional};
+use js_language::expressions::{assign, comma, conditional};
 use js_tree::operator::AssignmentOperator;
-use js_tree::parts::expressions_of;
+use js_language::parts::expressions_of;
 use js_tree::tree::Expr;
 
 // An Expression, at most `room` high.

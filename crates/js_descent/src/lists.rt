@@ -12,10 +12,10 @@ ghost use Rattle.js_tree.specs.Views.{expressions, expressions_view};
 ghost use Rattle.js_syntax.specs.Productions as productions;
 ghost use Rattle.js_syntax.specs.Productions.{one_of};
 ghost use Rattle.js_syntax.specs.Reading.{elements, others, no_state};
-ghost use Rattle.js_tree.specs.Flat.{a};
-ghost use Rattle.js_tree.specs.Places.{in_turn, plain, may_stand, expressions_places, with_commas, expression_places, behind_commas};
+ghost use Rattle.js_language.specs.Flat.{a};
+ghost use Rattle.js_language.specs.Places.{in_turn, plain, may_stand, expressions_places, with_commas, expression_places, behind_commas};
 ghost use Rattle.js_syntax.specs.Kinds.{is_same_kind};
-ghost use Rattle.js_rules.specs.Placed.{Placed};
+ghost use Rattle.js_syntax.specs.Placed.{Placed};
 ghost use Rattle.js_lexer.specs.declared.token.TokenKind.TheVariants as kinds;
 
 use crate::expressions::assignment_below;
@@ -25,7 +25,7 @@ use js_syntax::classes::lists::{After, after_of};
 use js_syntax::fault::ParseError;
 use js_syntax::nodes::Nodes;
 use js_syntax::token::{is_next, tail};
-use js_tree::parts::expressions_of;
+use js_language::parts::expressions_of;
 
 // Elements or arguments up to the token that ends them, before which a comma may stand.
 #[cycle(parser)]

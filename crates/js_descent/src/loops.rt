@@ -8,9 +8,9 @@ ghost use Rattle.js_syntax.specs.Giving.{Gives};
 ghost use Rattle.js_syntax.specs.Parsing as reading;
 ghost use Rattle.js_syntax.specs.Parsing.{below};
 ghost use Rattle.js_syntax.specs.Views.{tokens_view};
-ghost use Rattle.js_rules.specs.Views.{context_view};
-ghost use Rattle.js_tree.specs.Places.{statement_places};
-ghost use Rattle.js_rules.specs.Placed.{Placed};
+ghost use Rattle.js_syntax.specs.Context.{context_view};
+ghost use Rattle.js_language.specs.Places.{statement_places};
+ghost use Rattle.js_syntax.specs.Placed.{Placed};
 
 use crate::declarations::declarators_at;
 use crate::expressions::{assignment_below, expression_below};
@@ -18,16 +18,16 @@ use crate::parsed::{ParsedStatement, deeper};
 use crate::statements::{optional_before, statement_below};
 use cdp_text::units::Units;
 use js_lexer::token::{Token, TokenKind};
-use js_rules::context::Context;
-use js_rules::endings::semicolon_at;
-use js_rules::names::expect_name;
-use js_rules::words::name_at;
+use js_syntax::context::Context;
+use js_syntax::endings::semicolon_at;
+use js_syntax::names::expect_name;
+use js_syntax::words::name_at;
 use js_syntax::classes::statements::{End, ForHead, OF, for_head_of};
 use js_syntax::fault::ParseError;
 use js_syntax::name_set::NameSet;
 use js_syntax::nodes::Nodes;
 use js_syntax::token::{expect, tail};
-use js_tree::statements::{
+use js_language::statements::{
     boxed, do_while_statement, for_lexical_statement, for_of_statement, for_statement,
     while_statement,
 };

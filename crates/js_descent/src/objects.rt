@@ -9,13 +9,13 @@ ghost use Rattle.js_syntax.specs.Parsing.{below};
 ghost use Rattle.js_syntax.specs.Views.{tokens_view};
 ghost use Rattle.js_tree.specs.Height.{height_of_key, height_of_property, height_of_properties};
 ghost use Rattle.js_tree.specs.Views.{key_view, property_view, properties, properties_view};
-ghost use Rattle.js_tree.specs.Tokens.{head_of};
+ghost use Rattle.js_language.specs.Tokens.{head_of};
 ghost use Rattle.js_syntax.specs.Classes as classes;
 ghost use Rattle.js_syntax.specs.Productions.{one_of};
 ghost use Rattle.js_syntax.specs.Reading.{elements, no_state};
-ghost use Rattle.js_tree.specs.Flat.{a};
-ghost use Rattle.js_tree.specs.Places.{in_turn, plain, may_stand, properties_places, with_commas, property_places, key_places};
-ghost use Rattle.js_rules.specs.Placed.{Placed};
+ghost use Rattle.js_language.specs.Flat.{a};
+ghost use Rattle.js_language.specs.Places.{in_turn, plain, may_stand, properties_places, with_commas, property_places, key_places};
+ghost use Rattle.js_syntax.specs.Placed.{Placed};
 ghost use Rattle.js_tree.specs.declared.node.Span.{Span};
 ghost use Rattle.js_lexer.specs.declared.token.TokenKind.TheVariants as kinds;
 
@@ -25,13 +25,13 @@ use crate::parsed::{ParsedKey, ParsedMembers, ParsedProperties, ParsedProperty, 
 use cdp_text::units::Units;
 use js_lexer::strings::string_value;
 use js_lexer::token::{Token, TokenKind};
-use js_rules::words::name_at;
+use js_syntax::words::name_at;
 use js_syntax::classes::lists::{After, after_of};
 use js_syntax::classes::objects::{AfterKey, KeyStart, after_key_of, is_shorthand, key_start_of};
 use js_syntax::fault::ParseError;
 use js_syntax::nodes::Nodes;
 use js_syntax::token::{expect, is_next, tail};
-use js_tree::parts::{
+use js_language::parts::{
     computed_key, method, number_key, properties_of, property, shorthand_property, string_key,
     word_key,
 };

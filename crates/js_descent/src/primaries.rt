@@ -8,11 +8,11 @@ ghost use Rattle.js_syntax.specs.Parsing as reading;
 ghost use Rattle.js_syntax.specs.Parsing.{below};
 ghost use Rattle.js_syntax.specs.Views.{tokens_view};
 ghost use Rattle.js_syntax.specs.Classes.{bracket, brace, parenthesis, function_word};
-ghost use Rattle.js_tree.specs.Places.{expression_places, plain};
-ghost use Rattle.js_rules.specs.Placed.{Placed};
-ghost use Rattle.js_tree.specs.Tokens.{head_of, IsNext, fixed};
+ghost use Rattle.js_language.specs.Places.{expression_places, plain};
+ghost use Rattle.js_syntax.specs.Placed.{Placed};
+ghost use Rattle.js_language.specs.Tokens.{head_of, IsNext, fixed};
 ghost use Rattle.js_tree.specs.declared.node.Span.{Span};
-ghost use Rattle.js_tree.specs.Flat.{a};
+ghost use Rattle.js_language.specs.Flat.{a};
 ghost use Rattle.js_lexer.specs.declared.token.TokenKind.TheVariants as kinds;
 
 use crate::blocks::code_at;
@@ -23,13 +23,13 @@ use crate::parsed::Parsed;
 use cdp_text::units::Units;
 use js_lexer::strings::string_value;
 use js_lexer::token::{Token, TokenKind};
-use js_rules::words::{name_at, single};
+use js_syntax::words::{name_at, single};
 use js_syntax::classes::expressions::{Start, start_of};
 use js_syntax::classes::lists::is_name_next;
 use js_syntax::fault::ParseError;
 use js_syntax::nodes::Nodes;
 use js_syntax::token::{expect, tail};
-use js_tree::expressions::{
+use js_language::expressions::{
     array, boolean, function, name, null, number, object, parenthesized, string, this,
 };
 

@@ -2,20 +2,20 @@
 
 ghost use Rattle.std.specs.Prelude.{◌≡◌, ◌≤◌, ◌<◌, ◌+◌, ◌∷◌, [], ℕ, suc, max, IfOk, true};
 ghost use Rattle.js_tree.specs.Height.{height, height_of_optional, height_of_statement};
-ghost use Rattle.js_tree.specs.Tokens.{head_of, is_on_line, tail_of};
+ghost use Rattle.js_language.specs.Tokens.{head_of, is_on_line, tail_of};
 ghost use Rattle.js_tree.specs.Trees as trees;
 ghost use Rattle.js_tree.specs.Views.{expression_view, optional_view, statement_view};
-ghost use Rattle.js_tree.specs.Well as well;
+ghost use Rattle.js_language.specs.Well as well;
 ghost use Rattle.js_syntax.specs.Classes as classes;
 ghost use Rattle.js_syntax.specs.Giving.{Gives};
 ghost use Rattle.js_syntax.specs.Parsing as reading;
 ghost use Rattle.js_syntax.specs.Parsing.{below};
 ghost use Rattle.js_syntax.specs.Productions as productions;
 ghost use Rattle.js_syntax.specs.Views.{tokens_view};
-ghost use Rattle.js_rules.specs.Views.{context_view};
-ghost use Rattle.js_tree.specs.Places.{statement_places, in_turn, may_stand, expression_places, plain, optional_places};
-ghost use Rattle.js_rules.specs.Placed.{Placed};
-ghost use Rattle.js_tree.specs.Flat.{a};
+ghost use Rattle.js_syntax.specs.Context.{context_view};
+ghost use Rattle.js_language.specs.Places.{statement_places, in_turn, may_stand, expression_places, plain, optional_places};
+ghost use Rattle.js_syntax.specs.Placed.{Placed};
+ghost use Rattle.js_language.specs.Flat.{a};
 ghost use Rattle.js_lexer.specs.declared.token.TokenKind.TheVariants as kinds;
 
 use crate::blocks::braces_at;
@@ -24,16 +24,16 @@ use crate::expressions::expression_below;
 use crate::loops::{do_at, for_at, while_at};
 use crate::parsed::{Parsed, ParsedOptional, ParsedStatement, deeper};
 use js_lexer::token::{Token, TokenKind};
-use js_rules::context::Context;
-use js_rules::endings::{edge_of, semicolon_at};
-use js_rules::words::single;
+use js_syntax::context::Context;
+use js_syntax::endings::{edge_of, semicolon_at};
+use js_syntax::words::single;
 use js_syntax::classes::statements::{End, First, ends_return, first_of};
 use js_syntax::fault::ParseError;
 use js_syntax::name_set::NameSet;
 use js_syntax::nodes::Nodes;
 use js_syntax::token::{expect, is_next, is_on_line, tail};
-use js_tree::parts::block;
-use js_tree::statements::{
+use js_language::parts::block;
+use js_language::statements::{
     block_statement, boxed, break_statement, continue_statement, debugger_statement,
     empty_statement, expression_statement, if_else_statement, if_statement, return_statement,
     throw_statement,

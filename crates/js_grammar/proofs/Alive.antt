@@ -1,10 +1,10 @@
 -- Where a whole source is not read, the tokens before the fault begin one of the language.
 use Rattle.std.proofs.Common.{◌≡◌, ℕ, zero, suc, List, [], ◌∷◌, ◌++◌, length, Option, Ok, Err, refl, ap, ◌⊎◌, inl, inr}
 use Rattle.js_tree.specs.Trees.{Identifier, Expression, Statements}
-use Rattle.js_tree.specs.Tokens.{Token, Mark, head_of, Matches}
-use Rattle.js_tree.specs.Flat.{flat, flat_statements}
-use Rattle.js_tree.specs.Well.{top, Well}
-use Rattle.js_tree.specs.Language.{IsScript, IsExpression, IsFunction, Begins}
+use Rattle.js_language.specs.Tokens.{Token, Mark, head_of, Matches}
+use Rattle.js_language.specs.Flat.{flat, flat_statements}
+use Rattle.js_language.specs.Well.{top, Well}
+use Rattle.js_language.specs.Language.{IsScript, IsExpression, IsFunction, Begins}
 use Rattle.js_syntax.specs.Reading.{Fault, stuck, deep, Read}
 use Rattle.js_syntax.specs.Classes.{start}
 use Rattle.js_syntax.specs.Productions.{items_at}

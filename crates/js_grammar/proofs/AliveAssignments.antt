@@ -7,10 +7,10 @@ use Rattle.js_lexer.specs.declared.token.TokenKind.TheVariants as kinds
 use Rattle.js_tree.specs.declared.operator.AssignmentOperator.{AssignmentOperator}
 use Rattle.js_tree.specs.Trees as trees
 use Rattle.js_tree.specs.Trees.{Identifier, Parameters, Expression, Expressions}
-use Rattle.js_tree.specs.Tokens.{Token, fixed, identifier, numeric_literal, Mark, token, beside, head_of, tail_of, IsNext, Matches}
-use Rattle.js_tree.specs.Flat as flats
-use Rattle.js_tree.specs.Flat.{assign_kind, flat, flat_expressions, more_expressions, flat_parameters, flat_arrow_parameters}
-use Rattle.js_tree.specs.Well.{function_body, is_target, Well, AreAssignments, AreFresh, names_of_parameters, begins_with_brace, is_two_expressions, declared_names}
+use Rattle.js_language.specs.Tokens.{Token, fixed, identifier, numeric_literal, Mark, token, beside, head_of, tail_of, IsNext, Matches}
+use Rattle.js_language.specs.Flat as flats
+use Rattle.js_language.specs.Flat.{assign_kind, flat, flat_expressions, more_expressions, flat_parameters, flat_arrow_parameters}
+use Rattle.js_language.specs.Well.{function_body, is_target, Well, AreAssignments, AreFresh, names_of_parameters, begins_with_brace, is_two_expressions, declared_names}
 use Rattle.js_tree.specs.Height.{height}
 use Rattle.js_syntax.specs.Kinds.{is_kind}
 use Rattle.js_syntax.specs.Reading.{Fault, stuck, Read, ◌>>=◌, expect, expect_near, name_at, elements, no_state, with_names}

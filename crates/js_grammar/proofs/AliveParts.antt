@@ -7,10 +7,10 @@ use Rattle.js_lexer.specs.declared.token.TokenKind.{TokenKind}
 use Rattle.js_lexer.specs.declared.token.TokenKind.TheVariants as kinds
 use Rattle.js_tree.specs.Trees as trees
 use Rattle.js_tree.specs.Trees.{Identifier, Expression, Expressions, Declarator, Declarators, Statement, Statements}
-use Rattle.js_tree.specs.Tokens.{Token, fixed, identifier, numeric_literal, Mark, token, semicolon, End, after_expression, absent, head_of, tail_of, is_on_line, IsNext, Matches}
-use Rattle.js_tree.specs.Flat as flats
-use Rattle.js_tree.specs.Flat.{edge, flat, flat_expressions, more_expressions, trailing, an_identifier, flat_parameters, flat_declarator, flat_declarators, flat_statement, flat_statements}
-use Rattle.js_tree.specs.Well.{Context, function_body, level, Well, AreAssignments, WellDeclarator, WellDeclarators, IsInitialized, is_some_declarator, WellStatement, WellStatements, is_statement, is_among, AreFresh, DifferIn, declared_by, declared_names, names_of_declarators}
+use Rattle.js_language.specs.Tokens.{Token, fixed, identifier, numeric_literal, Mark, token, semicolon, End, after_expression, absent, head_of, tail_of, is_on_line, IsNext, Matches}
+use Rattle.js_language.specs.Flat as flats
+use Rattle.js_language.specs.Flat.{edge, flat, flat_expressions, more_expressions, trailing, an_identifier, flat_parameters, flat_declarator, flat_declarators, flat_statement, flat_statements}
+use Rattle.js_language.specs.Well.{Context, function_body, level, Well, AreAssignments, WellDeclarator, WellDeclarators, IsInitialized, is_some_declarator, WellStatement, WellStatements, is_statement, is_among, AreFresh, DifferIn, declared_by, declared_names, names_of_declarators}
 use Rattle.js_tree.specs.Views.{expressions, statements, declarators}
 use Rattle.js_syntax.specs.Kinds.{is_same_kind, is_kind}
 use Rattle.js_syntax.specs.Classes.{is_name}

@@ -6,9 +6,9 @@ use Rattle.js_lexer.specs.declared.token.TokenKind.{TokenKind}
 use Rattle.js_lexer.specs.declared.token.TokenKind.TheVariants as kinds
 use Rattle.js_tree.specs.Trees as trees
 use Rattle.js_tree.specs.Trees.{Identifier, Expression, Statement, Statements, Handler, Finalizer}
-use Rattle.js_tree.specs.Tokens.{Token, fixed, identifier, numeric_literal, Mark, token, beside, semicolon, plain, after_expression, after_word, head_of, tail_of, IsNext, is_on_line, Matches}
-use Rattle.js_tree.specs.Flat.{edge, end_of_declarators, on_line, let_or_const, flat, flat_optional, flat_parameters, flat_declarators, flat_statement, flat_statements, flat_handler, flat_finalizer}
-use Rattle.js_tree.specs.Well.{Context, Well, WellHandler, WellFinalizer, is_handled}
+use Rattle.js_language.specs.Tokens.{Token, fixed, identifier, numeric_literal, Mark, token, beside, semicolon, plain, after_expression, after_word, head_of, tail_of, IsNext, is_on_line, Matches}
+use Rattle.js_language.specs.Flat.{edge, end_of_declarators, on_line, let_or_const, flat, flat_optional, flat_parameters, flat_declarators, flat_statement, flat_statements, flat_handler, flat_finalizer}
+use Rattle.js_language.specs.Well.{Context, Well, WellHandler, WellFinalizer, is_handled}
 use Rattle.js_syntax.specs.Kinds.{is_kind}
 use Rattle.js_syntax.specs.Classes as classes
 use Rattle.js_syntax.specs.Classes.{First, first_by, first, ends_return, ForHead, each, declares, plain_head, for_head}

@@ -3,7 +3,7 @@ use Rattle.std.proofs.Common.{◌≡◌, ℕ, Bool, true, false, cond, List, [],
 use Rattle.std.proofs.lemmas.List.{append-nil}
 use Rattle.js_lexer.specs.declared.token.TokenKind.{TokenKind}
 use Rattle.js_lexer.specs.declared.token.TokenKind.TheVariants as kinds
-use Rattle.js_tree.specs.Tokens.{Token, Mark, token, beside, semicolon, trailing_comma, End, after_expression, after_word, after_do, plain, braces, update, absent, head_of, Matches}
+use Rattle.js_language.specs.Tokens.{Token, Mark, token, beside, semicolon, trailing_comma, End, after_expression, after_word, after_do, plain, braces, update, absent, head_of, Matches}
 use Rattle.js_syntax.specs.Reading.{Fault, stuck, deep, Read, ◌>>=◌}
 use Rattle.js_grammar.proofs.MarkLaws.{joins}
 use Rattle.js_grammar.proofs.TokenLaws.{faulty}

@@ -7,10 +7,10 @@ use Rattle.js_lexer.specs.declared.token.TokenKind.TheVariants as kinds
 use Rattle.js_tree.specs.declared.operator.AssignmentOperator.{AssignmentOperator}
 use Rattle.js_tree.specs.Trees as trees
 use Rattle.js_tree.specs.Trees.{Identifier, Parameters, Expression, Expressions, Statements}
-use Rattle.js_tree.specs.Tokens.{Token, fixed, identifier, Edge, plain, braces, update, Mark, token, beside, head_of, tail_of, IsNext, Matches}
-use Rattle.js_tree.specs.Flat as flats
-use Rattle.js_tree.specs.Flat.{edge, flat, more_expressions, flat_parameters, flat_arrow_parameters, flat_statements, assign_kind}
-use Rattle.js_tree.specs.Well.{function_body, level, begins_with_brace, AreFresh, DifferIn, declared_names, names_of_parameters, is_function, Well, WellStatements}
+use Rattle.js_language.specs.Tokens.{Token, fixed, identifier, Edge, plain, braces, update, Mark, token, beside, head_of, tail_of, IsNext, Matches}
+use Rattle.js_language.specs.Flat as flats
+use Rattle.js_language.specs.Flat.{edge, flat, more_expressions, flat_parameters, flat_arrow_parameters, flat_statements, assign_kind}
+use Rattle.js_language.specs.Well.{function_body, level, begins_with_brace, AreFresh, DifferIn, declared_names, names_of_parameters, is_function, Well, WellStatements}
 use Rattle.js_tree.specs.Height.{height, height_of_statements}
 use Rattle.js_syntax.specs.Reading.{with_names}
 use Rattle.js_syntax.specs.Kinds.{is_kind}

@@ -2,12 +2,12 @@
 use Rattle.std.proofs.Common.{◌≡◌, ℕ, zero, suc, ◌≤◌, List, [], Ok, refl, arith}
 use Rattle.std.specs.Prelude.{max}
 use Rattle.js_tree.specs.Trees.{Identifier, Expression, Statement, Statements}
-use Rattle.js_tree.specs.Tokens as edges
-use Rattle.js_tree.specs.Tokens.{Token, Edge}
-use Rattle.js_tree.specs.Flat.{edge}
-use Rattle.js_tree.specs.Well.{top}
+use Rattle.js_language.specs.Tokens as edges
+use Rattle.js_language.specs.Tokens.{Token, Edge}
+use Rattle.js_language.specs.Flat.{edge}
+use Rattle.js_language.specs.Well.{top}
 use Rattle.js_tree.specs.Height.{height, height_of_statement, height_of_statements}
-use Rattle.js_tree.specs.Language.{IsScript, IsExpression, IsFunction}
+use Rattle.js_language.specs.Language.{IsScript, IsExpression, IsFunction}
 use Rattle.js_syntax.specs.Parsing.{below, parse_script, parse_expression, parse_function}
 use Rattle.js_grammar.specs.Laws.{AgainBelow, Stops}
 use Rattle.js_grammar.proofs.ExpressionAgain.{assignment_again, expression_again, operation_again, unary_again, call_again}

@@ -3,8 +3,8 @@ use Rattle.std.proofs.Common.{◌≡◌, ℕ, suc, Bool, true, false, List, [], 
 use Rattle.js_lexer.specs.declared.token.TokenKind.TheVariants as kinds
 use Rattle.js_tree.specs.Trees as trees
 use Rattle.js_tree.specs.Trees.{Identifier, Expression}
-use Rattle.js_tree.specs.Tokens.{Token, fixed, identifier, token, beside, head_of, tail_of, is_on_line}
-use Rattle.js_tree.specs.Flat.{flat}
+use Rattle.js_language.specs.Tokens.{Token, fixed, identifier, token, beside, head_of, tail_of, is_on_line}
+use Rattle.js_language.specs.Flat.{flat}
 use Rattle.js_syntax.specs.Kinds.{is_kind}
 use Rattle.js_syntax.specs.Reading.{Fault, deep, Reader, ◌>>=◌}
 use Rattle.js_syntax.specs.Classes as classes

@@ -3,7 +3,7 @@ use Rattle.std.proofs.Common.{◌≡◌, ℕ, suc, ◌≤◌, Bool, true, false,
 use Rattle.js_lexer.specs.declared.token.TokenKind.TheVariants as kinds
 use Rattle.js_tree.specs.Trees as trees
 use Rattle.js_tree.specs.Trees.{Expression}
-use Rattle.js_tree.specs.Tokens.{Token, head_of}
+use Rattle.js_language.specs.Tokens.{Token, head_of}
 use Rattle.js_syntax.specs.Reading.{stuck, deep, Read, Reader, ◌>>=◌, expect}
 use Rattle.js_syntax.specs.Classes.{update_near, is_arrow, past_names, Head, listed, no_arrow, listed_by}
 use Rattle.js_syntax.specs.Productions.{Below, an_expression, Values, seq}

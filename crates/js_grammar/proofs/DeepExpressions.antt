@@ -4,9 +4,9 @@ use Rattle.std.specs.Prelude.{nat_le}
 use Rattle.js_lexer.specs.declared.token.TokenKind.TheVariants as kinds
 use Rattle.js_tree.specs.Trees as trees
 use Rattle.js_tree.specs.Trees.{Identifier, Parameters, Expression, Key}
-use Rattle.js_tree.specs.Tokens.{head_of, tail_of}
-use Rattle.js_tree.specs.Flat.{assign_kind}
-use Rattle.js_tree.specs.Well.{function_body, is_target}
+use Rattle.js_language.specs.Tokens.{head_of, tail_of}
+use Rattle.js_language.specs.Flat.{assign_kind}
+use Rattle.js_language.specs.Well.{function_body, is_target}
 use Rattle.js_tree.specs.Height.{height, height_of_key}
 use Rattle.js_tree.specs.Views.{properties}
 use Rattle.js_syntax.specs.Kinds.{is_kind}

@@ -6,7 +6,7 @@ use Rattle.js_lexer.specs.declared.token.TokenKind.TheVariants as kinds
 use Rattle.js_tree.specs.declared.operator.BinaryOperator.{BinaryOperator}
 use Rattle.js_tree.specs.Trees as trees
 use Rattle.js_tree.specs.Trees.{Identifier, Expression}
-use Rattle.js_tree.specs.Tokens.{Token, head_of, tail_of}
+use Rattle.js_language.specs.Tokens.{Token, head_of, tail_of}
 use Rattle.js_tree.specs.Height.{height}
 use Rattle.js_syntax.specs.Kinds.{is_kind}
 use Rattle.js_syntax.specs.Reading.{stuck, deep, Read, Reader, ◌>>=◌}

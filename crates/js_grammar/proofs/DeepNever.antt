@@ -2,7 +2,7 @@
 use Rattle.std.proofs.Common.{ℕ, suc, ◌≤◌, true, false, [], ◌∷◌, arith}
 use Rattle.js_tree.specs.Trees as trees
 use Rattle.js_tree.specs.Trees.{Identifier, Expression}
-use Rattle.js_tree.specs.Tokens.{head_of}
+use Rattle.js_language.specs.Tokens.{head_of}
 use Rattle.js_syntax.specs.Reading.{Reader, ◌>>=◌}
 use Rattle.js_syntax.specs.Classes as classes
 use Rattle.js_syntax.specs.Classes.{Start, start, update_near, is_arrow}

@@ -6,8 +6,8 @@ use Rattle.js_lexer.specs.declared.token.TokenKind.TheVariants as kinds
 use Rattle.js_tree.specs.declared.operator.UnaryOperator.TheVariants as unaries
 use Rattle.js_tree.specs.Trees as trees
 use Rattle.js_tree.specs.Trees.{Expression}
-use Rattle.js_tree.specs.Tokens.{head_of, tail_of}
-use Rattle.js_tree.specs.Well.{strength, is_property, is_target}
+use Rattle.js_language.specs.Tokens.{head_of, tail_of}
+use Rattle.js_language.specs.Well.{strength, is_property, is_target}
 use Rattle.js_tree.specs.Height.{height}
 use Rattle.js_syntax.specs.Kinds.{is_kind}
 use Rattle.js_syntax.specs.Reading.{stuck, deep, Read, Reader, ◌>>=◌, word_at}

@@ -5,7 +5,7 @@ use Rattle.std.proofs.lemmas.Bool.{le-leb}
 use Rattle.js_lexer.specs.declared.token.TokenKind.TheVariants as kinds
 use Rattle.js_tree.specs.Trees as trees
 use Rattle.js_tree.specs.Trees.{Expression}
-use Rattle.js_tree.specs.Tokens.{Token, head_of}
+use Rattle.js_language.specs.Tokens.{Token, head_of}
 use Rattle.js_grammar.proofs.FollowsTools.{head_past}
 use Rattle.js_tree.specs.Height.{height}
 use Rattle.js_tree.specs.Views.{expressions}

@@ -3,9 +3,9 @@ use Rattle.std.proofs.Common.{◌≡◌, ℕ, ◌+◌, ◌<◌, ◌≤◌, false
 use Rattle.js_lexer.specs.declared.token.TokenKind.{TokenKind}
 use Rattle.js_lexer.specs.declared.token.TokenKind.TheVariants as k
 use Rattle.js_tree.specs.Trees.{Identifier, name_list, Expression, arrow_block, no_statements}
-use Rattle.js_tree.specs.Tokens.{Token}
+use Rattle.js_language.specs.Tokens.{Token}
 use Rattle.js_tree.specs.Height.{height}
-use Rattle.js_tree.specs.Language.{IsExpression}
+use Rattle.js_language.specs.Language.{IsExpression}
 use Rattle.js_syntax.specs.Reading as r
 use Rattle.js_syntax.specs.Productions as q
 use Rattle.js_syntax.specs.Parsing as p

@@ -1,8 +1,8 @@
 -- Readers of all heights over the readers at the bottom: they answer what reads trees at most n high answers, and what they answer, so does what reads trees that are three higher. Where they are too deep, the tokens through the one that shows it are read by none of them.
 use Rattle.std.proofs.Common.{◌≡◌, ℕ, zero, suc, true, List, length, Err, arith}
 use Rattle.js_tree.specs.Trees.{Identifier}
-use Rattle.js_tree.specs.Tokens.{Token}
-use Rattle.js_tree.specs.Well.{Context}
+use Rattle.js_language.specs.Tokens.{Token}
+use Rattle.js_language.specs.Well.{Context}
 use Rattle.js_syntax.specs.Reading.{deep}
 use Rattle.js_syntax.specs.Classes.{past_names, no_arrow, listed_by}
 use Rattle.js_syntax.specs.Productions.{Below}

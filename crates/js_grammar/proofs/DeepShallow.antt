@@ -4,9 +4,9 @@ use Rattle.std.specs.Prelude.{◌||◌}
 use Rattle.js_lexer.specs.declared.token.TokenKind.TheVariants as kinds
 use Rattle.js_tree.specs.Trees as trees
 use Rattle.js_tree.specs.Trees.{Identifier, Expression, Statement, Statements}
-use Rattle.js_tree.specs.Tokens.{Token, fixed, Mark, token, head_of, tail_of}
-use Rattle.js_tree.specs.Flat.{flat, flat_statement}
-use Rattle.js_tree.specs.Well.{Context}
+use Rattle.js_language.specs.Tokens.{Token, fixed, Mark, token, head_of, tail_of}
+use Rattle.js_language.specs.Flat.{flat, flat_statement}
+use Rattle.js_language.specs.Well.{Context}
 use Rattle.js_syntax.specs.Kinds.{is_kind}
 use Rattle.js_syntax.specs.Reading.{Fault, stuck, deep, Reader}
 use Rattle.js_syntax.specs.Classes as classes

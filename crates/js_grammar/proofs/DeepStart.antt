@@ -3,8 +3,8 @@ use Rattle.std.proofs.Common.{◌≡◌, ℕ, Bool, true, false, List, length, O
 use Rattle.std.specs.Prelude.{◌||◌}
 use Rattle.js_lexer.specs.declared.token.TokenKind.TheVariants as kinds
 use Rattle.js_tree.specs.Trees.{Identifier}
-use Rattle.js_tree.specs.Tokens.{Token, head_of}
-use Rattle.js_tree.specs.Well.{Context}
+use Rattle.js_language.specs.Tokens.{Token, head_of}
+use Rattle.js_language.specs.Well.{Context}
 use Rattle.js_syntax.specs.Kinds.{is_kind}
 use Rattle.js_syntax.specs.Reading.{stuck, expect}
 use Rattle.js_syntax.specs.Classes as classes

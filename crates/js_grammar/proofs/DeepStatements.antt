@@ -4,9 +4,9 @@ use Rattle.std.specs.Prelude.{codes}
 use Rattle.js_lexer.specs.declared.token.TokenKind.TheVariants as kinds
 use Rattle.js_tree.specs.Trees as trees
 use Rattle.js_tree.specs.Trees.{Identifier, Expression, Declarator, Statement, Handler}
-use Rattle.js_tree.specs.Tokens.{after_word, head_of, tail_of, is_on_line}
-use Rattle.js_tree.specs.Flat.{end_of_declarators}
-use Rattle.js_tree.specs.Well.{Context}
+use Rattle.js_language.specs.Tokens.{after_word, head_of, tail_of, is_on_line}
+use Rattle.js_language.specs.Flat.{end_of_declarators}
+use Rattle.js_language.specs.Well.{Context}
 use Rattle.js_tree.specs.Views.{declarators}
 use Rattle.js_syntax.specs.Kinds.{is_kind}
 use Rattle.js_syntax.specs.Classes as classes

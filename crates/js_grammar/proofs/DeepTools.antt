@@ -1,7 +1,7 @@
 -- Where a tree would be too deep, the tokens through the one that shows it are read by nothing: how readers that are made of others keep this.
 use Rattle.std.proofs.Common.{◌≡◌, ℕ, zero, suc, ◌≤◌, Bool, true, false, cond, List, [], ◌∷◌, ◌++◌, length, Option, Some, None, Ok, Err, refl, sym, ap, ◌∙◌, append_assoc, arith}
 use Rattle.std.specs.Prelude.{nat_le}
-use Rattle.js_tree.specs.Tokens.{Token, head_of, tail_of}
+use Rattle.js_language.specs.Tokens.{Token, head_of, tail_of}
 use Rattle.js_syntax.specs.Reading.{stuck, deep, Read, Reader, ◌>>=◌}
 use Rattle.js_grammar.proofs.TokenLaws.{bind_ok, faulty}
 use Rattle.js_grammar.proofs.FollowsTools.{Follows, head_past, reads_again, shortens, Local, Turns, enough_of, one_turn}

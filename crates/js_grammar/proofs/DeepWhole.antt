@@ -4,10 +4,10 @@ use Rattle.std.specs.Prelude.{nat_le}
 use Rattle.std.proofs.lemmas.Bool.{leb-true, leb-false}
 use Rattle.js_tree.specs.Trees as trees
 use Rattle.js_tree.specs.Trees.{Identifier, Expression}
-use Rattle.js_tree.specs.Tokens.{Token, head_of}
-use Rattle.js_tree.specs.Well.{top}
+use Rattle.js_language.specs.Tokens.{Token, head_of}
+use Rattle.js_language.specs.Well.{top}
 use Rattle.js_tree.specs.Height.{height, height_of_statements}
-use Rattle.js_tree.specs.Language.{IsScript, IsExpression, IsFunction}
+use Rattle.js_language.specs.Language.{IsScript, IsExpression, IsFunction}
 use Rattle.js_syntax.specs.Reading.{Fault, stuck, deep, Read, Reader, name_at}
 use Rattle.js_syntax.specs.Classes as classes
 use Rattle.js_syntax.specs.Classes.{Start, start}

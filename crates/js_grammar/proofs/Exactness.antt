@@ -1,8 +1,8 @@
 -- Where a whole source is stuck, the tokens leave the language.
 use Rattle.std.proofs.Common.{◌≡◌, ℕ, List, Err}
 use Rattle.js_tree.specs.Trees.{Identifier}
-use Rattle.js_tree.specs.Tokens.{Token}
-use Rattle.js_tree.specs.Language.{IsScript, IsExpression, IsFunction}
+use Rattle.js_language.specs.Tokens.{Token}
+use Rattle.js_language.specs.Language.{IsScript, IsExpression, IsFunction}
 use Rattle.js_syntax.specs.Reading.{stuck}
 use Rattle.js_syntax.specs.Parsing.{parse_script, parse_expression, parse_function}
 use Rattle.js_grammar.specs.Exact.{LeavesAt}

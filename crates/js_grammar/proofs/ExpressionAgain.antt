@@ -1,9 +1,9 @@
 -- What reads below a node reads every expression one higher.
 use Rattle.std.proofs.Common.{◌≡◌, ℕ, suc, ◌≤◌, List, Ok}
 use Rattle.js_tree.specs.Trees.{Expression}
-use Rattle.js_tree.specs.Tokens.{Token, head_of, Matches}
-use Rattle.js_tree.specs.Flat.{edge, flat}
-use Rattle.js_tree.specs.Well.{level, Well}
+use Rattle.js_language.specs.Tokens.{Token, head_of, Matches}
+use Rattle.js_language.specs.Flat.{edge, flat}
+use Rattle.js_language.specs.Well.{level, Well}
 use Rattle.js_tree.specs.Height.{height}
 use Rattle.js_syntax.specs.Classes.{link, no_link}
 use Rattle.js_syntax.specs.Productions.{Below}

@@ -6,10 +6,10 @@ use Rattle.js_lexer.specs.declared.token.TokenKind.{TokenKind}
 use Rattle.js_lexer.specs.declared.token.TokenKind.TheVariants as kinds
 use Rattle.js_tree.specs.Trees as trees
 use Rattle.js_tree.specs.Trees.{Identifier, Parameters, Expression, Expressions}
-use Rattle.js_tree.specs.Tokens.{Token, fixed, identifier, identifier_name, numeric_literal, string_literal, Mark, token, beside, semicolon, trailing_comma, head_of, IsNext, Matches}
-use Rattle.js_tree.specs.Flat as flats
-use Rattle.js_tree.specs.Flat.{assign_kind, flat, more_expressions, flat_names, flat_parameters, flat_arrow_parameters, flat_statements}
-use Rattle.js_tree.specs.Well.{function_body, is_target, begins_with_brace, is_among, AreFresh, names_of_parameters, is_two_expressions, is_function}
+use Rattle.js_language.specs.Tokens.{Token, fixed, identifier, identifier_name, numeric_literal, string_literal, Mark, token, beside, semicolon, trailing_comma, head_of, IsNext, Matches}
+use Rattle.js_language.specs.Flat as flats
+use Rattle.js_language.specs.Flat.{assign_kind, flat, more_expressions, flat_names, flat_parameters, flat_arrow_parameters, flat_statements}
+use Rattle.js_language.specs.Well.{function_body, is_target, begins_with_brace, is_among, AreFresh, names_of_parameters, is_two_expressions, is_function}
 use Rattle.js_tree.specs.Height.{height}
 use Rattle.js_syntax.specs.Kinds.{is_kind}
 use Rattle.js_syntax.specs.Reading.{stuck, ◌>>=◌, expect, expect_near, name_at, with_names}

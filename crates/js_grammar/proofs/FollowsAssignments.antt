@@ -6,7 +6,7 @@ use Rattle.js_lexer.specs.declared.token.TokenKind.TheVariants as kinds
 use Rattle.js_tree.specs.declared.operator.UpdateOperator.{UpdateOperator}
 use Rattle.js_tree.specs.Trees as trees
 use Rattle.js_tree.specs.Trees.{Identifier, Expression, Expressions}
-use Rattle.js_tree.specs.Tokens.{Token, fixed, head_of, tail_of, identifier, IsNext}
+use Rattle.js_language.specs.Tokens.{Token, fixed, head_of, tail_of, identifier, IsNext}
 use Rattle.js_tree.specs.Height.{height}
 use Rattle.js_tree.specs.Views.{expressions}
 use Rattle.js_syntax.specs.Kinds.{is_same_kind, is_kind}

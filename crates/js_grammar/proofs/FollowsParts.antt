@@ -4,9 +4,9 @@ use Rattle.js_lexer.specs.declared.token.TokenKind.{TokenKind}
 use Rattle.js_lexer.specs.declared.token.TokenKind.TheVariants as kinds
 use Rattle.js_tree.specs.Trees as trees
 use Rattle.js_tree.specs.Trees.{Identifier, Declarator}
-use Rattle.js_tree.specs.Tokens.{Token, End, after_expression, absent, head_of, tail_of, is_on_line}
-use Rattle.js_tree.specs.Flat.{edge}
-use Rattle.js_tree.specs.Well.{Context, function_body, is_among}
+use Rattle.js_language.specs.Tokens.{Token, End, after_expression, absent, head_of, tail_of, is_on_line}
+use Rattle.js_language.specs.Flat.{edge}
+use Rattle.js_language.specs.Well.{Context, function_body, is_among}
 use Rattle.js_tree.specs.Views.{expressions, statements, declarators}
 use Rattle.js_syntax.specs.Kinds.{is_kind}
 use Rattle.js_syntax.specs.Classes.{is_name}

@@ -3,7 +3,7 @@ use Rattle.std.proofs.Common.{◌≡◌, ℕ, zero, suc, ◌<◌, ◌≤◌, Boo
 use Rattle.std.specs.Prelude.{nat_le}
 use Rattle.std.proofs.lemmas.List.{length-append}
 use Rattle.std.proofs.lemmas.Bool.{leb-true, le-leb}
-use Rattle.js_tree.specs.Tokens.{Token, head_of, tail_of}
+use Rattle.js_language.specs.Tokens.{Token, head_of, tail_of}
 use Rattle.js_syntax.specs.Reading.{stuck, deep, Read, Reader, ◌>>=◌}
 use Rattle.js_grammar.proofs.TokenLaws.{got, faulty}
 

@@ -5,9 +5,9 @@ use Rattle.js_lexer.specs.declared.token.TokenKind.{TokenKind}
 use Rattle.js_lexer.specs.declared.token.TokenKind.TheVariants as kinds
 use Rattle.js_tree.specs.Trees as trees
 use Rattle.js_tree.specs.Trees.{Identifier, Expression, OptionalExpression, Declarators, Statement}
-use Rattle.js_tree.specs.Tokens.{Token, fixed, identifier, IsNext, Mark, token, head_of, tail_of, Matches}
-use Rattle.js_tree.specs.Flat.{let_or_const, flat, flat_optional, flat_declarators, flat_statement}
-use Rattle.js_tree.specs.Well.{Context, WellOptional, WellStatement, is_some_declarator}
+use Rattle.js_language.specs.Tokens.{Token, fixed, identifier, IsNext, Mark, token, head_of, tail_of, Matches}
+use Rattle.js_language.specs.Flat.{let_or_const, flat, flat_optional, flat_declarators, flat_statement}
+use Rattle.js_language.specs.Well.{Context, WellOptional, WellStatement, is_some_declarator}
 use Rattle.js_tree.specs.Height.{height_of_statement}
 use Rattle.js_syntax.specs.Kinds.{is_kind}
 use Rattle.js_syntax.specs.Classes as classes

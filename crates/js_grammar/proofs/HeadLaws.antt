@@ -11,9 +11,9 @@ use Rattle.js_tree.specs.declared.operator.UpdateOperator.TheVariants as updates
 use Rattle.js_tree.specs.declared.operator.BinaryOperator.{BinaryOperator}
 use Rattle.js_tree.specs.declared.operator.BinaryOperator.TheVariants as binaries
 use Rattle.js_tree.specs.Trees.{Expression}
-use Rattle.js_tree.specs.Tokens.{Token, fixed, identifier, numeric_literal, string_literal, head_of, tail_of, IsNext, is_on_line, Matches}
-use Rattle.js_tree.specs.Flat.{unary_kind, update_kind, binary_kind, flat_boolean}
-use Rattle.js_tree.specs.Well.{strength, takes}
+use Rattle.js_language.specs.Tokens.{Token, fixed, identifier, numeric_literal, string_literal, head_of, tail_of, IsNext, is_on_line, Matches}
+use Rattle.js_language.specs.Flat.{unary_kind, update_kind, binary_kind, flat_boolean}
+use Rattle.js_language.specs.Well.{strength, takes}
 use Rattle.js_syntax.specs.Classes.{this_word, a_name, a_number, a_string, a_boolean, null_word, brace, function_word, start_by, start, dot, link_by, link, update_by, update_near, deletes, a_unary, an_update, prefix_by, prefix, operator_by, operator}
 use Rattle.js_syntax.specs.Parsing.{operator_from}
 

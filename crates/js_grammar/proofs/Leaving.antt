@@ -3,10 +3,10 @@ use Rattle.std.proofs.Common.{◌≡◌, ℕ, zero, suc, ◌≤◌, List, [], �
 use Rattle.std.specs.Prelude.{max}
 use Rattle.std.proofs.lemmas.List.{append-nil, length-append, append_cancel_left}
 use Rattle.js_tree.specs.Trees.{Identifier, Expression}
-use Rattle.js_tree.specs.Tokens.{Token, head_of}
-use Rattle.js_tree.specs.Well.{top}
+use Rattle.js_language.specs.Tokens.{Token, head_of}
+use Rattle.js_language.specs.Well.{top}
 use Rattle.js_tree.specs.Height.{height, height_of_statements}
-use Rattle.js_tree.specs.Language.{IsScript, IsExpression, IsFunction}
+use Rattle.js_language.specs.Language.{IsScript, IsExpression, IsFunction}
 use Rattle.js_syntax.specs.Reading.{Fault, stuck, deep, Read, Reader}
 use Rattle.js_syntax.specs.Classes.{start}
 use Rattle.js_syntax.specs.Productions.{items_at}

@@ -5,9 +5,9 @@ use Rattle.std.proofs.lemmas.Bool.{leb-false, lt-leb}
 use Rattle.js_tree.specs.declared.operator.BinaryOperator.{BinaryOperator}
 use Rattle.js_tree.specs.declared.operator.BinaryOperator.TheVariants as binaries
 use Rattle.js_tree.specs.Trees.{Expression, this, name, number, string, boolean, null, array, object, function, arrow, arrow_block, parenthesized, member, index, call, postfix, prefix, unary, binary, conditional, assign, comma}
-use Rattle.js_tree.specs.Tokens.{Token, Edge, plain, braces, update, head_of}
-use Rattle.js_tree.specs.Flat.{edge}
-use Rattle.js_tree.specs.Well.{strength, level, is_property, is_target, Well}
+use Rattle.js_language.specs.Tokens.{Token, Edge, plain, braces, update, head_of}
+use Rattle.js_language.specs.Flat.{edge}
+use Rattle.js_language.specs.Well.{strength, level, is_property, is_target, Well}
 use Rattle.js_tree.specs.Height.{height}
 use Rattle.js_syntax.specs.Classes.{operator}
 use Rattle.js_syntax.specs.Parsing.{operator_from}

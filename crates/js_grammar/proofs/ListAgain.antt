@@ -2,7 +2,7 @@
 use Rattle.std.proofs.Common.{◌≡◌, ℕ, zero, suc, ◌<◌, ◌≤◌, Bool, true, false, List, [], ◌∷◌, ◌++◌, length, Option, Ok, refl, sym, ap, subst, ◌⊎◌, inl, inr, append_assoc, arith}
 use Rattle.js_lexer.specs.declared.token.TokenKind.{TokenKind}
 use Rattle.js_lexer.specs.declared.token.TokenKind.TheVariants as kinds
-use Rattle.js_tree.specs.Tokens.{Token, Symbol, fixed, Mark, token, beside, semicolon, trailing_comma, head_of, tail_of, IsNext, Matches}
+use Rattle.js_language.specs.Tokens.{Token, Symbol, fixed, Mark, token, beside, semicolon, trailing_comma, head_of, tail_of, IsNext, Matches}
 use Rattle.js_syntax.specs.Kinds.{is_kind, is_same_kind}
 use Rattle.js_syntax.specs.Reading.{Reader, elements, others, items, ends_list}
 use Rattle.js_syntax.proofs.KindLemmas.{next_again, kind_not}

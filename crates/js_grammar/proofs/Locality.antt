@@ -2,8 +2,8 @@
 use Rattle.std.proofs.Common.{ℕ, zero, suc, ◌≤◌, List, [], ◌∷◌, length, Err, refl, inl, arith}
 use Rattle.js_tree.specs.Trees as trees
 use Rattle.js_tree.specs.Trees.{Identifier}
-use Rattle.js_tree.specs.Tokens.{head_of}
-use Rattle.js_tree.specs.Well.{Context}
+use Rattle.js_language.specs.Tokens.{head_of}
+use Rattle.js_language.specs.Well.{Context}
 use Rattle.js_syntax.specs.Reading.{deep, name_at}
 use Rattle.js_syntax.specs.Classes as classes
 use Rattle.js_syntax.specs.Classes.{Start, start}

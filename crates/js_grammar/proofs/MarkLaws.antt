@@ -1,6 +1,6 @@
 -- Marks one after the other.
 use Rattle.std.proofs.Common.{List, [], ◌∷◌, ◌++◌, refl, sym, subst, inl, inr}
-use Rattle.js_tree.specs.Tokens.{Token, Mark, token, beside, semicolon, trailing_comma, tail_of, Matches}
+use Rattle.js_language.specs.Tokens.{Token, Mark, token, beside, semicolon, trailing_comma, tail_of, Matches}
 
 pub joins : (ms ns : List Mark) (ts us r : List Token) → Matches ms ts us → Matches ns us r → Matches (ms ++ ns) ts r
 joins [] ns ts us r p q = subst (λ (l : List Token). Matches ns l r) (sym p) q

@@ -5,9 +5,9 @@ use Rattle.std.proofs.lemmas.Bool.{le-leb, lt-leb}
 use Rattle.js_tree.specs.declared.operator.BinaryOperator.{BinaryOperator}
 use Rattle.js_tree.specs.Trees as trees
 use Rattle.js_tree.specs.Trees.{Expression}
-use Rattle.js_tree.specs.Tokens.{Token, fixed, Edge, plain, braces, update, Mark, token, head_of, tail_of, IsNext, Matches}
-use Rattle.js_tree.specs.Flat.{edge, flat, binary_kind}
-use Rattle.js_tree.specs.Well.{strength, level, Well}
+use Rattle.js_language.specs.Tokens.{Token, fixed, Edge, plain, braces, update, Mark, token, head_of, tail_of, IsNext, Matches}
+use Rattle.js_language.specs.Flat.{edge, flat, binary_kind}
+use Rattle.js_language.specs.Well.{strength, level, Well}
 use Rattle.js_tree.specs.Height.{height}
 use Rattle.js_syntax.specs.Classes.{link, no_link, update_near, operator}
 use Rattle.js_syntax.specs.Productions.{Below}

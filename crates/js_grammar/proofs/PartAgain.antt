@@ -7,10 +7,10 @@ use Rattle.js_lexer.specs.declared.token.TokenKind.{TokenKind}
 use Rattle.js_lexer.specs.declared.token.TokenKind.TheVariants as kinds
 use Rattle.js_tree.specs.Trees as trees
 use Rattle.js_tree.specs.Trees.{Identifier, Expression, Expressions, OptionalExpression, Declarator, Declarators, Statement, Statements}
-use Rattle.js_tree.specs.Tokens.{Token, fixed, identifier, IsNext, after_expression, after_word, Mark, token, semicolon, trailing_comma, head_of, tail_of, Matches}
-use Rattle.js_tree.specs.Flat as flats
-use Rattle.js_tree.specs.Flat.{edge, edge_of_last, end_of_declarators, an_identifier, more_names, flat_names, flat_parameters, flat, flat_expressions, more_expressions, trailing, flat_optional, flat_declarator, flat_declarators, more_declarators, flat_statement, flat_statements}
-use Rattle.js_tree.specs.Well.{Context, function_body, level, Well, WellOptional, AreAssignments, WellDeclarator, WellDeclarators, has_initializer, IsInitialized, is_some_declarator, WellStatement, WellStatements, is_among, AreFresh, DifferIn, declared_by, declared_names, names_of_declarators}
+use Rattle.js_language.specs.Tokens.{Token, fixed, identifier, IsNext, after_expression, after_word, Mark, token, semicolon, trailing_comma, head_of, tail_of, Matches}
+use Rattle.js_language.specs.Flat as flats
+use Rattle.js_language.specs.Flat.{edge, edge_of_last, end_of_declarators, an_identifier, more_names, flat_names, flat_parameters, flat, flat_expressions, more_expressions, trailing, flat_optional, flat_declarator, flat_declarators, more_declarators, flat_statement, flat_statements}
+use Rattle.js_language.specs.Well.{Context, function_body, level, Well, WellOptional, AreAssignments, WellDeclarator, WellDeclarators, has_initializer, IsInitialized, is_some_declarator, WellStatement, WellStatements, is_among, AreFresh, DifferIn, declared_by, declared_names, names_of_declarators}
 use Rattle.js_tree.specs.Height.{height, height_of_optional, height_of_expressions, height_of_declarator, height_of_declarators, height_of_statement, height_of_statements}
 use Rattle.js_tree.specs.Views.{expressions, statements, declarators}
 use Rattle.js_syntax.specs.Kinds.{is_kind}

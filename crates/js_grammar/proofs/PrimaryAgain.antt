@@ -4,10 +4,10 @@ use Rattle.std.proofs.lemmas.List.{append-nil}
 use Rattle.js_lexer.specs.declared.token.TokenKind.TheVariants as kinds
 use Rattle.js_tree.specs.Trees as trees
 use Rattle.js_tree.specs.Trees.{Expression}
-use Rattle.js_tree.specs.Tokens.{Token, fixed, Mark, token, head_of, tail_of, Matches}
-use Rattle.js_tree.specs.Flat.{flat, flat_expressions, trailing, flat_parameters, flat_statements}
-use Rattle.js_tree.specs.Flat as flats
-use Rattle.js_tree.specs.Well.{Well}
+use Rattle.js_language.specs.Tokens.{Token, fixed, Mark, token, head_of, tail_of, Matches}
+use Rattle.js_language.specs.Flat.{flat, flat_expressions, trailing, flat_parameters, flat_statements}
+use Rattle.js_language.specs.Flat as flats
+use Rattle.js_language.specs.Well.{Well}
 use Rattle.js_tree.specs.Height.{height}
 use Rattle.js_syntax.specs.Classes as classes
 use Rattle.js_syntax.specs.Productions.{Below, tok, a_name, an_expression, arguments, code}

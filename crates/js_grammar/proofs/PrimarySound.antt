@@ -5,10 +5,10 @@ use Rattle.js_lexer.specs.declared.token.TokenKind.{TokenKind}
 use Rattle.js_lexer.specs.declared.token.TokenKind.TheVariants as kinds
 use Rattle.js_tree.specs.Trees as trees
 use Rattle.js_tree.specs.Trees.{Expression, Expressions, Key, Property, Statements}
-use Rattle.js_tree.specs.Tokens.{Token, fixed, identifier_name, numeric_literal, string_literal, Mark, token, trailing_comma, head_of, tail_of, is_word, IsNext, Matches}
-use Rattle.js_tree.specs.Flat as flats
-use Rattle.js_tree.specs.Flat.{flat, flat_expressions, trailing, flat_parameters, flat_statements, flat_key, flat_property, flat_properties, more_properties, trailing_property}
-use Rattle.js_tree.specs.Well.{WellKey, WellProperty, WellProperties, WellStatements, DifferIn, function_body, is_function}
+use Rattle.js_language.specs.Tokens.{Token, fixed, identifier_name, numeric_literal, string_literal, Mark, token, trailing_comma, head_of, tail_of, is_word, IsNext, Matches}
+use Rattle.js_language.specs.Flat as flats
+use Rattle.js_language.specs.Flat.{flat, flat_expressions, trailing, flat_parameters, flat_statements, flat_key, flat_property, flat_properties, more_properties, trailing_property}
+use Rattle.js_language.specs.Well.{WellKey, WellProperty, WellProperties, WellStatements, DifferIn, function_body, is_function}
 use Rattle.js_tree.specs.Height.{height, height_of_key, height_of_property, height_of_properties, height_of_statements}
 use Rattle.js_tree.specs.Views.{properties}
 use Rattle.js_syntax.specs.Reading.{Reader, ◌>>=◌, name_at, word_at, elements, no_state}

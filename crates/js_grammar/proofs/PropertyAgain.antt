@@ -7,10 +7,10 @@ use Rattle.js_lexer.specs.declared.token.TokenKind.{TokenKind}
 use Rattle.js_lexer.specs.declared.token.TokenKind.TheVariants as kinds
 use Rattle.js_tree.specs.Trees as trees
 use Rattle.js_tree.specs.Trees.{Identifier, Expression, Key, Property, Properties, Statements}
-use Rattle.js_tree.specs.Tokens.{Token, fixed, identifier_name, string_literal, numeric_literal, Edge, Mark, token, head_of, tail_of, IsNext, is_word, Matches}
-use Rattle.js_tree.specs.Flat as flats
-use Rattle.js_tree.specs.Flat.{edge, flat, flat_key, flat_property, flat_properties, more_properties, trailing_property, flat_parameters, flat_statements}
-use Rattle.js_tree.specs.Well.{WellKey, WellProperty, WellProperties}
+use Rattle.js_language.specs.Tokens.{Token, fixed, identifier_name, string_literal, numeric_literal, Edge, Mark, token, head_of, tail_of, IsNext, is_word, Matches}
+use Rattle.js_language.specs.Flat as flats
+use Rattle.js_language.specs.Flat.{edge, flat, flat_key, flat_property, flat_properties, more_properties, trailing_property, flat_parameters, flat_statements}
+use Rattle.js_language.specs.Well.{WellKey, WellProperty, WellProperties}
 use Rattle.js_tree.specs.Height.{height_of_key, height_of_property, height_of_properties}
 use Rattle.js_tree.specs.Views.{properties}
 use Rattle.js_syntax.specs.Kinds.{is_kind, is_same_kind}

@@ -1,10 +1,10 @@
 -- What is read is in the language: the laws of all that reads, by induction on the height that is allowed.
 use Rattle.std.proofs.Common.{◌≡◌, ℕ, zero, suc, ◌≤◌, List, [], ◌∷◌, Ok, Err, refl, ap}
 use Rattle.js_tree.specs.Trees.{Identifier, Expression, Statements}
-use Rattle.js_tree.specs.Tokens.{Token, head_of}
-use Rattle.js_tree.specs.Well.{top}
+use Rattle.js_language.specs.Tokens.{Token, head_of}
+use Rattle.js_language.specs.Well.{top}
 use Rattle.js_tree.specs.Height.{height, height_of_statements}
-use Rattle.js_tree.specs.Language.{IsScript, IsExpression, IsFunction}
+use Rattle.js_language.specs.Language.{IsScript, IsExpression, IsFunction}
 use Rattle.js_syntax.specs.Reading.{Read}
 use Rattle.js_syntax.specs.Classes.{start}
 use Rattle.js_syntax.specs.Productions.{items_at}

@@ -6,10 +6,10 @@ use Rattle.js_lexer.specs.declared.token.TokenKind.{TokenKind}
 use Rattle.js_lexer.specs.declared.token.TokenKind.TheVariants as kinds
 use Rattle.js_tree.specs.Trees as trees
 use Rattle.js_tree.specs.Trees.{Identifier, Expression, OptionalExpression, Declarators, Statement, Statements, Handler, Finalizer}
-use Rattle.js_tree.specs.Tokens.{Token, fixed, IsNext, after_expression, after_word, absent, Mark, token, semicolon, head_of, tail_of, is_on_line, Matches}
-use Rattle.js_tree.specs.Flat as flats
-use Rattle.js_tree.specs.Flat.{edge, end_of_declarators, on_line, flat, flat_declarators, flat_parameters, flat_statement, flat_statements, flat_handler, flat_finalizer}
-use Rattle.js_tree.specs.Well.{Context, Well, WellStatement, WellStatements, WellHandler, WellFinalizer, function_body, is_statement, is_handled, AreFresh, DifferIn, declared_by, declared_names}
+use Rattle.js_language.specs.Tokens.{Token, fixed, IsNext, after_expression, after_word, absent, Mark, token, semicolon, head_of, tail_of, is_on_line, Matches}
+use Rattle.js_language.specs.Flat as flats
+use Rattle.js_language.specs.Flat.{edge, end_of_declarators, on_line, flat, flat_declarators, flat_parameters, flat_statement, flat_statements, flat_handler, flat_finalizer}
+use Rattle.js_language.specs.Well.{Context, Well, WellStatement, WellStatements, WellHandler, WellFinalizer, function_body, is_statement, is_handled, AreFresh, DifferIn, declared_by, declared_names}
 use Rattle.js_tree.specs.Height.{height_of_statement, height_of_statements, height_of_handler, height_of_finalizer}
 use Rattle.js_syntax.specs.Kinds.{is_kind}
 use Rattle.js_syntax.specs.Reading.{◌>>=◌, fresh_name}

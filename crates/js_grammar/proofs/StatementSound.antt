@@ -6,10 +6,10 @@ use Rattle.js_lexer.specs.declared.token.TokenKind.{TokenKind}
 use Rattle.js_lexer.specs.declared.token.TokenKind.TheVariants as kinds
 use Rattle.js_tree.specs.Trees as trees
 use Rattle.js_tree.specs.Trees.{Identifier, Statement, Statements, Handler, Finalizer}
-use Rattle.js_tree.specs.Tokens.{Token, fixed, identifier, Mark, token, beside, semicolon, trailing_comma, after_expression, after_word, absent_before, head_of, tail_of, IsNext, is_on_line, Matches}
-use Rattle.js_tree.specs.Flat as flats
-use Rattle.js_tree.specs.Flat.{edge, end_of_declarators, on_line, let_or_const, flat, flat_optional, flat_parameters, flat_declarators, flat_statement, flat_statements, flat_handler, flat_finalizer}
-use Rattle.js_tree.specs.Well.{Context, begins_with_brace, begins_with_function, WellHandler, WellFinalizer, is_statement, ends_in_if, is_handled, AreFresh, declared_by}
+use Rattle.js_language.specs.Tokens.{Token, fixed, identifier, Mark, token, beside, semicolon, trailing_comma, after_expression, after_word, absent_before, head_of, tail_of, IsNext, is_on_line, Matches}
+use Rattle.js_language.specs.Flat as flats
+use Rattle.js_language.specs.Flat.{edge, end_of_declarators, on_line, let_or_const, flat, flat_optional, flat_parameters, flat_declarators, flat_statement, flat_statements, flat_handler, flat_finalizer}
+use Rattle.js_language.specs.Well.{Context, begins_with_brace, begins_with_function, WellHandler, WellFinalizer, is_statement, ends_in_if, is_handled, AreFresh, declared_by}
 use Rattle.js_tree.specs.Height.{height_of_statements, height_of_handler, height_of_finalizer}
 use Rattle.js_syntax.specs.Kinds.{is_kind}
 use Rattle.js_syntax.specs.Classes as classes

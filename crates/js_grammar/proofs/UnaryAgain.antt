@@ -8,9 +8,9 @@ use Rattle.js_tree.specs.declared.operator.UnaryOperator.TheVariants as unaries
 use Rattle.js_tree.specs.declared.operator.UpdateOperator.{UpdateOperator}
 use Rattle.js_tree.specs.Trees as trees
 use Rattle.js_tree.specs.Trees.{Expression}
-use Rattle.js_tree.specs.Tokens.{Token, fixed, identifier_name, Edge, plain, Mark, token, beside, head_of, tail_of, Matches}
-use Rattle.js_tree.specs.Flat.{edge, flat, flat_expressions, trailing, unary_kind, update_kind}
-use Rattle.js_tree.specs.Well.{level, Well}
+use Rattle.js_language.specs.Tokens.{Token, fixed, identifier_name, Edge, plain, Mark, token, beside, head_of, tail_of, Matches}
+use Rattle.js_language.specs.Flat.{edge, flat, flat_expressions, trailing, unary_kind, update_kind}
+use Rattle.js_language.specs.Well.{level, Well}
 use Rattle.js_tree.specs.Height.{height}
 use Rattle.js_syntax.specs.Classes as classes
 use Rattle.js_syntax.specs.Classes.{link, no_link, update_near, prefix, prefix_by, no_prefix}

@@ -1,7 +1,7 @@
 -- Where tokens leave a language, and which begin only trees that are too deep.
 use Rattle.std.specs.Prelude.{◌≡◌, ℕ, ◌<◌, List, [], ◌∷◌, ◌++◌, length}
-use Rattle.js_tree.specs.Tokens.{Token}
-use Rattle.js_tree.specs.Language.{InLanguage, Begins}
+use Rattle.js_language.specs.Tokens.{Token}
+use Rattle.js_language.specs.Language.{InLanguage, Begins}
 
 -- With the next token the tokens begin no source of the language any more; where none is left, they are none.
 abbrev pub Leaves : {Tree : Type 0} → (List Token → Tree → Type 0) → List Token → List Token → Type 0

@@ -3,10 +3,10 @@ use Rattle.std.specs.Prelude.{◌≡◌, ℕ, suc, max, ◌≤◌, Bool, true, f
 use Rattle.js_lexer.specs.declared.token.TokenKind.{TokenKind}
 use Rattle.js_lexer.specs.declared.token.TokenKind.TheVariants as kinds
 use Rattle.js_tree.specs.Trees.{Identifier, Expression, Statement, Statements}
-use Rattle.js_tree.specs.Tokens.{Token, fixed, identifier, Mark, token, beside, semicolon, Edge, plain, braces, update, after_expression, head_of, Matches}
-use Rattle.js_tree.specs.Flat as flats
-use Rattle.js_tree.specs.Flat.{edge, flat, flat_optional, flat_expressions, trailing, flat_declarators, flat_statement, flat_statements, flat_parameters}
-use Rattle.js_tree.specs.Well.{Context, function_body, level, Well, WellOptional, AreAssignments, WellDeclarators, IsInitialized, is_some_declarator, WellStatement, WellStatements, is_statement, ends_in_if, AreFresh, DifferIn, declared_by, declared_names, names_of_declarators}
+use Rattle.js_language.specs.Tokens.{Token, fixed, identifier, Mark, token, beside, semicolon, Edge, plain, braces, update, after_expression, head_of, Matches}
+use Rattle.js_language.specs.Flat as flats
+use Rattle.js_language.specs.Flat.{edge, flat, flat_optional, flat_expressions, trailing, flat_declarators, flat_statement, flat_statements, flat_parameters}
+use Rattle.js_language.specs.Well.{Context, function_body, level, Well, WellOptional, AreAssignments, WellDeclarators, IsInitialized, is_some_declarator, WellStatement, WellStatements, is_statement, ends_in_if, AreFresh, DifferIn, declared_by, declared_names, names_of_declarators}
 use Rattle.js_tree.specs.Height.{height, height_of_optional, height_of_expressions, height_of_declarators, height_of_statement, height_of_statements}
 use Rattle.js_syntax.specs.Kinds.{is_kind}
 use Rattle.js_syntax.specs.Classes.{no_link, link, update_near, operator, no_joint, joint, is_arrow}

@@ -2,7 +2,7 @@
 
 ghost use Rattle.std.specs.Prelude.{◌≡◌, ◌+◌, ◌≤◌, Ok, Err};
 ghost use Rattle.js_tree.specs.Height.{height, height_of_statements};
-ghost use Rattle.js_tree.specs.Language.{IsExpression, IsFunction, IsScript};
+ghost use Rattle.js_language.specs.Language.{IsExpression, IsFunction, IsScript};
 ghost use Rattle.js_grammar.specs.Exact.{LeavesAt, TooDeepFrom};
 ghost use Rattle.js_syntax.specs.Reading.{stuck, deep};
 ghost use Rattle.js_syntax.specs.Parsing.{parse_expression, parse_function, parse_script};

@@ -4,3 +4,6 @@ pub mod Cells
 pub mod World
 pub mod Worlds
 pub mod BuiltIns
+pub mod Values
+pub mod Operators
+pub mod Properties

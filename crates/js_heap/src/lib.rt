@@ -4,6 +4,7 @@
 pub mod built_in;
 pub mod cell;
 pub mod change;
+pub mod computed;
 pub mod keys;
 pub mod laws;
 pub mod properties;

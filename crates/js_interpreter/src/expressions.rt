@@ -8,7 +8,7 @@ ghost use Rattle.js_semantics.specs.BuiltIns.{argument};
 ghost use Rattle.js_semantics.specs.References.{found, get, remove, with_result};
 ghost use Rattle.js_semantics.specs.Functions.{function_row};
 ghost use Rattle.js_semantics.specs.Rows.{type_of_found, comma_row, compound_row, assign_row, callee_this, callee_row};
-ghost use Rattle.js_values.specs.Operators.{unary_result, binary_result};
+ghost use Rattle.js_heap.specs.Operators.{unary_result, binary_result};
 ghost use Rattle.js_values.specs.Safe.{IsSafe};
 ghost use Rattle.js_terms.specs.Views.{terms_view};
 ghost use Rattle.js_interpreter.specs.Moves.{Moves};

@@ -4,8 +4,8 @@ use Rattle.std.specs.Prelude.{slice_get, Bool, true, false, nat_lt, IfOk}
 use borrow.Author.Tests.{ltb-true, ltb-false}
 use Rattle.std.proofs.lemmas.Bool.{cases_lt}
 use Rattle.std.proofs.lemmas.List.{append-nil, length-append}
-use Rattle.js_tree.specs.Tokens.{Token}
-use Rattle.js_tree.specs.Language.{InLanguage, Begins}
+use Rattle.js_language.specs.Tokens.{Token}
+use Rattle.js_language.specs.Language.{InLanguage, Begins}
 use Rattle.js_grammar.specs.Exact.{Leaves, LeavesAt, TooDeepFrom}
 use Rattle.js_syntax.specs.declared.fault.ParseError.{ParseError}
 use Rattle.js_syntax.specs.declared.fault.ParseError.TheVariants as errors

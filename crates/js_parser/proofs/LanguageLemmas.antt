@@ -1,8 +1,8 @@
 -- The readers of expressions, functions and scripts read exactly their trees.
 use Rattle.std.proofs.Common.{ℕ, List}
 use Rattle.js_tree.specs.Height.{height, height_of_statements}
-use Rattle.js_tree.specs.Language.{IsExpression, IsFunction, IsScript}
-use Rattle.js_tree.specs.Tokens.{Token}
+use Rattle.js_language.specs.Language.{IsExpression, IsFunction, IsScript}
+use Rattle.js_language.specs.Tokens.{Token}
 use Rattle.js_tree.specs.Trees.{Identifier}
 use Rattle.js_syntax.specs.Parsing.{parse_expression, parse_function, parse_script}
 use Rattle.js_grammar.proofs.Soundness.{expression_read, function_read, script_read}

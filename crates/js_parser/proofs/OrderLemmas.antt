@@ -1,7 +1,7 @@
 -- The fault that stands in a source comes first of those for which the source has a cause.
 use Rattle.std.proofs.Common.{◌≡◌, ℕ, ◌<◌, inl, inr, List, [], ◌∷◌, ◌++◌, length, None, Some, sym, ap, subst, ◌∙◌, append_assoc, arith}
 use Rattle.std.proofs.lemmas.Bool.{cases_lt}
-use Rattle.js_tree.specs.Tokens.{Token}
+use Rattle.js_language.specs.Tokens.{Token}
 use Rattle.js_syntax.specs.declared.fault.ParseFault.{ParseFault}
 use Rattle.js_syntax.specs.declared.fault.ParseFault.TheVariants as faults
 use Rattle.js_parser.specs.Faults.{IsPlace, LeavesLanguage, PassesLimit, HasSyntaxFault, HasTooMany, Stands, IsCause, IsNoLater, ComesFirst}

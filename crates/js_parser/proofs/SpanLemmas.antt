@@ -11,11 +11,11 @@ use Rattle.js_lexer.specs.Tokens.{Lent}
 use Rattle.js_lexer.proofs.Fronts.{longest_here}
 use Rattle.js_lexer.proofs.Tiling.{gap_within}
 use Rattle.js_tree.specs.declared.node.Span.{Span}
-use Rattle.js_tree.specs.Tokens.{Token, head_of, tail_of}
-use Rattle.js_tree.specs.Places.{Place, stands, stands_maybe, opens, closes, start_of, end_of, AreSpans}
+use Rattle.js_language.specs.Tokens.{Token, head_of, tail_of}
+use Rattle.js_language.specs.Places.{Place, stands, stands_maybe, opens, closes, start_of, end_of, AreSpans}
 use Rattle.js_tree.specs.Spans.{span_of}
 use Rattle.js_syntax.specs.Places.{cut_at}
-use Rattle.js_rules.specs.Placed.{Behind, AreInOrder, IsForward}
+use Rattle.js_syntax.specs.Placed.{Behind, AreInOrder, IsForward}
 use Rattle.js_syntax.specs.declared.fault.ParseError.{ParseError}
 use Rattle.js_syntax.specs.declared.fault.ParseFault.{ParseFault}
 use Rattle.js_parser.specs.Lexing.{Lexed, Stop, lexed, lexed_of, unless_deep, complete, told}

@@ -1,6 +1,6 @@
 -- What an answer says of its source.
 use Rattle.std.specs.Prelude.{◌≡◌, ◌<◌, ℕ, List, length, Result, Ok, Err, IfOk, IfErr}
-use Rattle.js_tree.specs.Tokens.{Token}
+use Rattle.js_language.specs.Tokens.{Token}
 use Rattle.js_syntax.specs.declared.fault.ParseFault.{ParseFault}
 use Rattle.js_syntax.specs.declared.fault.ParseFault.TheVariants as faults
 use Rattle.js_parser.specs.Sources.{most_units, IsSource}

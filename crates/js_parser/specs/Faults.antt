@@ -1,7 +1,7 @@
 -- The faults that stand in a source, and which of them comes first.
 use Rattle.std.specs.Prelude.{◌≡◌, ◌≤◌, ◌<◌, ◌⊎◌, ℕ, List, [], ◌∷◌, ◌++◌, length, Some, None}
-use Rattle.js_tree.specs.Tokens.{Token}
-use Rattle.js_tree.specs.Language.{Begins}
+use Rattle.js_language.specs.Tokens.{Token}
+use Rattle.js_language.specs.Language.{Begins}
 use Rattle.js_syntax.specs.declared.fault.ParseFault.{ParseFault}
 use Rattle.js_syntax.specs.declared.fault.ParseFault.TheVariants as faults
 use Rattle.js_grammar.specs.Exact.{Leaves, TooDeepFrom}

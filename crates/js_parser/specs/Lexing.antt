@@ -2,7 +2,7 @@
 use Rattle.std.specs.Prelude.{ℕ, zero, suc, List, [], ◌∷◌, length, ◌-◌, slice_get, Bool, true, false, nat_lt, Option, Some, None, Result, Ok, Err}
 use Rattle.js_lexer.specs.State.{items_of}
 use Rattle.js_lexer.specs.Tokens.{Lent}
-use Rattle.js_tree.specs.Tokens.{Token}
+use Rattle.js_language.specs.Tokens.{Token}
 use Rattle.js_parser.specs.declared.source.Lexed as source
 use Rattle.js_parser.specs.declared.source.Stop as declared
 use Rattle.js_parser.specs.declared.source.Stop.TheVariants as stops

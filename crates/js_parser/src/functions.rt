@@ -2,21 +2,21 @@
 
 ghost use Rattle.std.specs.Prelude.{◌≡◌, ◌≤◌, ◌<◌, ◌+◌, IfOk, true};
 ghost use Rattle.js_tree.specs.Height.{height};
-ghost use Rattle.js_tree.specs.Tokens.{head_of};
+ghost use Rattle.js_language.specs.Tokens.{head_of};
 ghost use Rattle.js_tree.specs.Views.{expression_view};
 ghost use Rattle.js_syntax.specs.Classes.{parenthesis, start};
 ghost use Rattle.js_syntax.specs.Giving.{Gives};
 ghost use Rattle.js_syntax.specs.Parsing as reading;
 ghost use Rattle.js_syntax.specs.Parsing.{below};
 ghost use Rattle.js_syntax.specs.Views.{tokens_view};
-ghost use Rattle.js_tree.specs.Places.{expression_places};
-ghost use Rattle.js_rules.specs.Placed.{Placed};
+ghost use Rattle.js_language.specs.Places.{expression_places};
+ghost use Rattle.js_syntax.specs.Placed.{Placed};
 
 use js_descent::arrows::{arrow_of_one, arrow_rest};
 use js_descent::parsed::Parsed;
 use js_descent::primaries::function_at;
 use js_lexer::token::Token;
-use js_rules::names::parameters_at;
+use js_syntax::names::parameters_at;
 use js_syntax::classes::expressions::{Start, start_of};
 use js_syntax::fault::ParseError;
 use js_syntax::nodes::Nodes;

@@ -3,9 +3,9 @@
 ghost use Rattle.std.specs.Prelude.{◌≡◌, length, All, IfErr, IfOk, List};
 ghost use Rattle.cdp_text.specs.Units.{utf16_of};
 ghost use Rattle.js_syntax.specs.declared.fault.ParseFault.TheVariants.{Memory};
-ghost use Rattle.js_tree.specs.Places.{Place};
+ghost use Rattle.js_language.specs.Places.{Place};
 ghost use Rattle.js_tree.specs.Spans.{IsWithin};
-ghost use Rattle.js_rules.specs.Placed.{IsForward};
+ghost use Rattle.js_syntax.specs.Placed.{IsForward};
 ghost use Rattle.js_parser.specs.Spans.{AreSpansIn};
 
 use cdp_text::units::{Units, units_of};

@@ -2,8 +2,8 @@
 
 ghost use Rattle.std.specs.Prelude.{◌≡◌, IfErr, IfOk};
 ghost use Rattle.js_tree.specs.Height.{height, height_of_statements};
-ghost use Rattle.js_tree.specs.Language.{IsExpression, IsFunction, IsScript};
-ghost use Rattle.js_tree.specs.Places.{expression_places, statements_places};
+ghost use Rattle.js_language.specs.Language.{IsExpression, IsFunction, IsScript};
+ghost use Rattle.js_language.specs.Places.{expression_places, statements_places};
 ghost use Rattle.js_tree.specs.Views.{expression_view, statements_view};
 ghost use Rattle.js_syntax.specs.declared.fault.ParseFault.TheVariants.{Memory};
 ghost use Rattle.js_parser.specs.Answers.{Answers};

@@ -6,14 +6,14 @@ ghost use Rattle.js_tree.specs.Views.{expression_view, statements_view};
 ghost use Rattle.js_syntax.specs.Giving.{Gives};
 ghost use Rattle.js_syntax.specs.Parsing.{parse_expression, parse_function, parse_script};
 ghost use Rattle.js_syntax.specs.Views.{tokens_view};
-ghost use Rattle.js_rules.specs.Placed.{AreInOrder, IsForward};
-ghost use Rattle.js_tree.specs.Places.{AreSpans, expression_places, statements_places};
+ghost use Rattle.js_syntax.specs.Placed.{AreInOrder, IsForward};
+ghost use Rattle.js_language.specs.Places.{AreSpans, expression_places, statements_places};
 
 use crate::functions::function_code_at;
 use js_descent::blocks::items_at;
 use js_descent::expressions::expression_below;
 use js_lexer::token::Token;
-use js_rules::context::Context;
+use js_syntax::context::Context;
 use js_syntax::fault::ParseError;
 use js_syntax::name_set::NameSet;
 use js_syntax::nodes::Nodes;

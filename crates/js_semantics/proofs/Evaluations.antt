@@ -15,7 +15,7 @@ use Rattle.js_heap.specs.declared.change.Counted.TheVariants as counted
 use Rattle.js_heap.specs.World.{Room, scratch_room}
 use Rattle.js_heap.specs.BuiltIns.{script_scope}
 use Rattle.js_semantics.specs.Terms.{kept_source, Term, Terms, one}
-use Rattle.js_values.specs.Values.{shown}
+use Rattle.js_heap.specs.Values.{shown}
 use Rattle.js_semantics.specs.State.{Frame, State}
 use Rattle.js_semantics.specs.Functions.{Program}
 use Rattle.js_semantics.specs.Clean.{expression_made, clean_script}

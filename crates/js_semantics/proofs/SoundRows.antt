@@ -19,10 +19,10 @@ use Rattle.js_heap.specs.Worlds.{Leads, IsObjectKind, SoundValue, SoundScope, So
 use Rattle.js_heap.specs.BuiltIns.{script_scope}
 use Rattle.js_heap.proofs.SoundLemmas.{sound-value, sound-scope, read-sound, put_sound}
 use Rattle.js_semantics.specs.Terms.{Mark, Completion, throws, returns, breaks, continues, Reference, to_name, to_member, to_index, FunctionForm, Member, keyed, computed, Stage, first, doing, testing, body, updating, Form, script, enter, enter_debugger, enter_for, enter_for_of, block, scoped, frame, initialize, choose, both, either, loop, list_of, turn_of, body_of, break_, continue_, return_, throw_, catching, finishing, ending, this, read, typeof_name, unary, binary, comma, function, array, object, method, assign, compound, update, delete, call, call_of, Term, done, standing, part, Terms, end, more, one, joined, dones, at_test, at_update, settled, settle}
-use Rattle.js_values.specs.Values.{type_text, is_truthy, key_of}
-use Rattle.js_values.specs.Operators.{not_numbers, binary_result, unary_result, update_result}
-use Rattle.js_values.specs.declared.computed.Computed.{Computed as Result}
-use Rattle.js_values.specs.declared.computed.Computed.TheVariants.{Value as a_value, Text as a_text, Error as an_error}
+use Rattle.js_heap.specs.Values.{type_text, is_truthy, key_of}
+use Rattle.js_heap.specs.Operators.{not_numbers, binary_result, unary_result, update_result}
+use Rattle.js_heap.specs.declared.computed.Computed.{Computed as Result}
+use Rattle.js_heap.specs.declared.computed.Computed.TheVariants.{Value as a_value, Text as a_text, Error as an_error}
 use Rattle.js_semantics.specs.State.{State, Action, go, make, give, make_text, fail}
 use Rattle.js_semantics.specs.References.{Found, found, value_of_found, read_result, put}
 use Rattle.js_semantics.specs.BuiltIns.{argument, last_of, is_array}

@@ -23,13 +23,13 @@ use Rattle.js_heap.specs.Worlds.{Leads, IsTextKind, IsObjectKind, SoundValue, So
 use Rattle.js_heap.specs.BuiltIns.{function_value, message_property}
 use Rattle.js_heap.proofs.SoundLemmas.{sound-value, read-sound}
 use Rattle.js_semantics.specs.Terms.{Reference, to_name, to_member, to_index}
-use Rattle.js_values.specs.Values.{a_number, text_of, key_of, units_at, same_integer, class_text}
-use Rattle.js_values.specs.declared.computed.Computed.{Computed as Result}
-use Rattle.js_values.specs.declared.computed.Computed.TheVariants.{Value as a_value, Text as a_text, Error as an_error}
-use Rattle.js_values.specs.Operators.{not_safe, safe, quotient, remainder, on_numbers, numeric, joined_texts, sum_of, answer_of, negated, is_before, is_equal, binary_result, number_result, unary_result, update_result}
-use Rattle.js_values.specs.Properties.{value_or, array_method, string_method, element_or_method, unit_or_undefined, unit_or_method, function_property, own_or, error_property, cell_property, property_of, not_changeable, length_change, array_change, cell_change, property_written, cell_removal, property_deleted, bad_key}
-use Rattle.js_values.specs.declared.computed.Written.{Written}
-use Rattle.js_values.specs.declared.computed.Written.TheVariants.{Change as a_change, Refused as refused}
+use Rattle.js_heap.specs.Values.{a_number, text_of, key_of, units_at, same_integer, class_text}
+use Rattle.js_heap.specs.declared.computed.Computed.{Computed as Result}
+use Rattle.js_heap.specs.declared.computed.Computed.TheVariants.{Value as a_value, Text as a_text, Error as an_error}
+use Rattle.js_heap.specs.Operators.{not_safe, safe, quotient, remainder, on_numbers, numeric, joined_texts, sum_of, answer_of, negated, is_before, is_equal, binary_result, number_result, unary_result, update_result}
+use Rattle.js_heap.specs.Properties.{value_or, array_method, string_method, element_or_method, unit_or_undefined, unit_or_method, function_property, own_or, error_property, cell_property, property_of, not_changeable, length_change, array_change, cell_change, property_written, cell_removal, property_deleted, bad_key}
+use Rattle.js_heap.specs.declared.computed.Written.{Written}
+use Rattle.js_heap.specs.declared.computed.Written.TheVariants.{Change as a_change, Refused as refused}
 use Rattle.js_semantics.specs.References.{Found, found_here, found_outward, found_in, found_within, found, value_or_uninitialized, value_of_found, bound_unless, name_written, with_result, with_written, with_key, keyed_result, read_result, get, put, remove}
 use Rattle.js_semantics.specs.State.{Action, make, give, make_text, fail}
 use Rattle.js_semantics.specs.Sound.{HasBuiltIns, Later, SoundAction}

@@ -13,9 +13,9 @@ use Rattle.js_heap.specs.declared.cell.Property.{Property}
 use Rattle.js_heap.specs.declared.change.Change.TheVariants as changes
 use Rattle.js_heap.specs.World.{World, read_cell}
 use Rattle.js_heap.specs.BuiltIns.{message_property}
-use Rattle.js_values.specs.Values.{text_of, units_at, is_same, shown, between}
+use Rattle.js_heap.specs.Values.{text_of, units_at, is_same, shown, between}
 use Rattle.js_semantics.specs.State.{Action, make, write, print, take_line, give, make_text, fail}
-use Rattle.js_values.specs.Operators.{not_a_text, not_safe}
+use Rattle.js_heap.specs.Operators.{not_a_text, not_safe}
 use Rattle.js_semantics.specs.References.{with_result}
 
 -- ---- arguments

@@ -14,7 +14,7 @@ use Rattle.js_heap.specs.declared.change.Change.TheVariants as changes
 use Rattle.js_heap.specs.Cells.{declared}
 use Rattle.js_heap.specs.World.{read_cell}
 use Rattle.js_semantics.specs.Terms.{Source, script_source, kept_source, Mark, start, FunctionForm, Form, function, method, frame, Term, done, standing, part, Terms, end, more, one, settle}
-use Rattle.js_values.specs.Values.{same_address}
+use Rattle.js_heap.specs.Values.{same_address}
 use Rattle.js_semantics.specs.State.{State, Action, go, make, write, set_here, push_frame, give, fail, this_of}
 use Rattle.js_semantics.specs.BuiltIns.{argument, built_in_call}
 

@@ -11,13 +11,13 @@ use Rattle.js_heap.specs.declared.change.Change.TheVariants as changes
 use Rattle.js_heap.specs.Cells.{binding_of}
 use Rattle.js_heap.specs.World.{World, read_cell}
 use Rattle.js_semantics.specs.Terms.{Reference, to_name, to_member, to_index}
-use Rattle.js_values.specs.Values.{key_of}
-use Rattle.js_values.specs.declared.computed.Computed.{Computed as Result}
-use Rattle.js_values.specs.declared.computed.Computed.TheVariants.{Value as a_value, Text as a_text, Error as an_error}
+use Rattle.js_heap.specs.Values.{key_of}
+use Rattle.js_heap.specs.declared.computed.Computed.{Computed as Result}
+use Rattle.js_heap.specs.declared.computed.Computed.TheVariants.{Value as a_value, Text as a_text, Error as an_error}
 use Rattle.js_semantics.specs.State.{Action, write, give, make_text, fail}
-use Rattle.js_values.specs.Properties.{bad_key, property_of, property_written, property_deleted}
-use Rattle.js_values.specs.declared.computed.Written.{Written}
-use Rattle.js_values.specs.declared.computed.Written.TheVariants.{Change as a_change, Refused as refused}
+use Rattle.js_heap.specs.Properties.{bad_key, property_of, property_written, property_deleted}
+use Rattle.js_heap.specs.declared.computed.Written.{Written}
+use Rattle.js_heap.specs.declared.computed.Written.TheVariants.{Change as a_change, Refused as refused}
 
 -- ---- names (9.1.2.1)
 

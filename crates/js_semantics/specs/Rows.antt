@@ -15,11 +15,11 @@ use Rattle.js_heap.specs.Keys.{put_property}
 use Rattle.js_heap.specs.World.{World, read_cell}
 use Rattle.js_heap.specs.BuiltIns.{script_scope}
 use Rattle.js_semantics.specs.Terms.{Mark, start, Completion, throws, returns, breaks, continues, Reference, to_name, Member, keyed, computed, Stage, first, testing, body, Form, script, enter, enter_debugger, enter_for, enter_for_of, block, scoped, frame, initialize, choose, both, either, loop, list_of, turn_of, body_of, break_, continue_, return_, throw_, catching, finishing, ending, this, read, typeof_name, unary, binary, comma, function, array, object, method, assign, compound, update, delete, call, call_of, Term, done, part, Terms, end, more, one, joined, dones, at_test, at_update, at_body, settled, settle, script_source, beginning}
-use Rattle.js_values.specs.Values.{type_text, is_truthy, key_of}
+use Rattle.js_heap.specs.Values.{type_text, is_truthy, key_of}
 use Rattle.js_semantics.specs.State.{State, Action, go, raise, leave, make, write, set_here, pop_frame, give, make_text, fail, this_of, Frame, push_frame}
-use Rattle.js_values.specs.Operators.{not_numbers, binary_result, unary_result, update_result}
-use Rattle.js_values.specs.declared.computed.Computed.{Computed as Result}
-use Rattle.js_values.specs.declared.computed.Computed.TheVariants.{Value as a_value, Text as a_text, Error as an_error}
+use Rattle.js_heap.specs.Operators.{not_numbers, binary_result, unary_result, update_result}
+use Rattle.js_heap.specs.declared.computed.Computed.{Computed as Result}
+use Rattle.js_heap.specs.declared.computed.Computed.TheVariants.{Value as a_value, Text as a_text, Error as an_error}
 use Rattle.js_semantics.specs.References.{Found, found, value_of_found, with_result, with_key, read_result, get, put, remove}
 use Rattle.js_semantics.specs.BuiltIns.{argument, last_of, is_array}
 use Rattle.js_semantics.specs.Functions.{Program, function_cell, function_row, with_functions, new_scope, with_names, call_row}

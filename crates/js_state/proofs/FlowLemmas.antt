@@ -12,7 +12,7 @@ use Rattle.js_heap.specs.declared.value.Value.{Value}
 use Rattle.js_heap.specs.declared.built_in.ErrorClass.{ErrorClass}
 use Rattle.js_semantics.specs.declared.form.Mark.{Mark}
 use Rattle.js_semantics.specs.State.{Frame, State, Action, make, write, raise, make_text, set_here, push_frame, pop_frame, fail, give, perform, after, with_world, moved_frames, with_here, rest_of, first_line, other_lines}
-use Rattle.js_values.specs.declared.computed.Computed.{Computed}
+use Rattle.js_heap.specs.declared.computed.Computed.{Computed}
 use Rattle.js_semantics.specs.References.{with_result}
 use Rattle.js_state.specs.declared.stop.Stop.{Stop}
 use Rattle.js_state.specs.Flow.{performed, Goes, Stops, Yields, Passes, Gives, Takes, Prints, tried, or_full, raised_or, with_error}

@@ -1,7 +1,7 @@
 -- Lemmas on texts with another between each two.
 use Rattle.std.proofs.Common.{◌≡◌, ℕ, List, [], ◌∷◌, ◌++◌, sym, ap, ◌∙◌, append_assoc, ◌<◌, length, drop, get_or, arith}
 use Rattle.std.proofs.lemmas.List.{append-nil}
-use Rattle.js_values.specs.Values.{between}
+use Rattle.js_heap.specs.Values.{between}
 use Rattle.js_state.specs.Texts.{behind_each}
 
 regroup : (t s u r : List ℕ) → t ++ s ++ (u ++ r) ≡ t ++ (s ++ u ++ r)

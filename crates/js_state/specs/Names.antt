@@ -3,12 +3,12 @@ use Rattle.std.specs.Prelude.{ℕ, List, ◌++◌, Option, Some, None, codes}
 use Rattle.js_heap.specs.declared.value.Addr.{Addr}
 use Rattle.js_heap.specs.declared.value.Value.{Value}
 use Rattle.js_heap.specs.declared.built_in.ErrorClass.TheVariants as classes
-use Rattle.js_values.specs.declared.computed.Computed.{Computed}
-use Rattle.js_values.specs.declared.computed.Written.{Written}
-use Rattle.js_values.specs.declared.computed.Written.TheVariants.{Refused as refused}
+use Rattle.js_heap.specs.declared.computed.Computed.{Computed}
+use Rattle.js_heap.specs.declared.computed.Written.{Written}
+use Rattle.js_heap.specs.declared.computed.Written.TheVariants.{Refused as refused}
 use Rattle.js_semantics.specs.References.{Found, not_defined, value_or_uninitialized, bound_unless, with_result}
 use Rattle.js_heap.specs.World.{World}
-use Rattle.js_values.specs.Values.{type_text}
+use Rattle.js_heap.specs.Values.{type_text}
 use Rattle.js_semantics.specs.State.{Action, make_text, give}
 use Rattle.js_state.specs.declared.names.FoundName.{FoundName}
 use Rattle.js_state.specs.declared.names.Looked.{Looked}

@@ -1,8 +1,8 @@
 -- The cases of reading, writing and deleting.
 use Rattle.js_heap.specs.declared.value.Value.{Value}
 use Rattle.js_heap.specs.World.{World}
-use Rattle.js_values.specs.Values.{key_of}
-use Rattle.js_values.specs.Properties.{property_of, property_written, property_deleted}
+use Rattle.js_heap.specs.Values.{key_of}
+use Rattle.js_heap.specs.Properties.{property_of, property_written, property_deleted}
 use Rattle.js_semantics.specs.State.{Action}
 use Rattle.js_semantics.specs.References.{with_result, with_written, with_key, keyed_result}
 

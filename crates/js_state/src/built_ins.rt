@@ -5,7 +5,7 @@ ghost use Rattle.js_semantics.specs.State.{take_line as line_taken};
 ghost use Rattle.js_semantics.specs.BuiltIns.{wrong_type, line_value, new_error, error_of, text_or_fail, string_of, make_texts, new_array, keys_of, push_all, pop_last, joined_or_fail, join, slice_places, array_or_wrong, text_or_wrong, occurrence_of, unit_or_fail, unit_at, array_call, on_array, string_call, on_string, built_in_call};
 ghost use Rattle.js_state.specs.Flow.{Stops, Yields, Gives, Logs, Answers, IsSilent};
 ghost use Rattle.js_state.specs.Texts.{elements_at};
-ghost use Rattle.js_values.specs.Values.{units_at};
+ghost use Rattle.js_heap.specs.Values.{units_at};
 
 use crate::lists::{
     Texts, argument, elements_at, first_occurrence, first_same, is_array, joined_parts,

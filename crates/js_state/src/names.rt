@@ -13,7 +13,7 @@ use js_heap::change::Change;
 use js_heap::properties::binding_of;
 use js_heap::reading::Cells;
 use js_heap::value::{Addr, Value};
-use js_values::computed::{Computed, Written};
+use js_heap::computed::{Computed, Written};
 use js_values::text::ascii;
 use std::alloc::{AllocError, Global};
 

@@ -1,7 +1,7 @@
 //! Reading, writing and deleting what references refer to.
 
 ghost use Rattle.std.specs.Prelude.{◌≡◌};
-ghost use Rattle.js_values.specs.Properties.{bad_key, property_of, property_written, property_deleted};
+ghost use Rattle.js_heap.specs.Properties.{bad_key, property_of, property_written, property_deleted};
 ghost use Rattle.js_semantics.specs.State.{give};
 ghost use Rattle.js_semantics.specs.Rows.{type_of_found};
 ghost use Rattle.js_semantics.specs.References.{found, not_initialized, value_of_found, name_written, with_result, with_written, get, put, remove};
@@ -16,7 +16,7 @@ use cdp_text::units::Units;
 use js_heap::built_in::ErrorClass;
 use js_heap::value::{Addr, Value};
 use js_semantics::form::Reference;
-use js_values::computed::{Computed, Written};
+use js_heap::computed::{Computed, Written};
 use js_values::operators::key_of;
 use js_values::properties::property_deleted;
 use js_values::text::ascii;

@@ -1,7 +1,7 @@
 //! Values as `console.log` shows them.
 
 ghost use Rattle.std.specs.Prelude.{◌≡◌, ◌++◌, IfOk, option_copied, map, codes};
-ghost use Rattle.js_values.specs.Values.{shown, cell_text, error_text, with_message, message_units, between};
+ghost use Rattle.js_heap.specs.Values.{shown, cell_text, error_text, with_message, message_units, between};
 
 use cdp_text::units::Units;
 use js_heap::built_in::ErrorClass;

@@ -2,7 +2,7 @@
 use Rattle.std.proofs.Common.{◌≡◌, ℕ, ◌+◌, ◌<◌, true, false, List, ◌∷◌, length, get_or, drop, refl, add-one, drop-cons}
 use Rattle.std.proofs.lemmas.List.{drop-map}
 use Rattle.std.specs.Borrow.{Bor}
-use Rattle.js_tree.specs.Well.{is_among}
+use Rattle.js_language.specs.Well.{is_among}
 use Rattle.js_syntax.specs.Names.{texts}
 use Rattle.js_syntax.specs.Parsing.{are_fresh}
 use Rattle.js_syntax.specs.Reading.{with_names}

@@ -10,7 +10,7 @@ use Rattle.js_tree.specs.declared.operator.BinaryOperator.TheVariants as binarie
 use Rattle.js_tree.specs.declared.operator.AssignmentOperator.TheVariants as assigns
 use Rattle.js_tree.specs.Trees.{one_name, name_list, Expression, this, name, number, string, boolean, null, array, object, function, arrow, arrow_block, parenthesized, member, index, call, postfix, prefix, unary, binary, conditional, assign, comma, omitted, present, word_key, string_key, number_key, computed_key, shorthand, value, method, declarator, block, lexical, empty, expression, if_then, if_else, do_while, while, for, for_lexical, for_of, continue, break, return, throw, try, debugger, declared_function, catch, no_finally, finally}
 use Rattle.js_tree.specs.Views.{expressions, statements, properties, declarators}
-use Rattle.js_tree.specs.Tokens.{Token}
+use Rattle.js_language.specs.Tokens.{Token}
 use Rattle.js_syntax.specs.Reading as r
 use Rattle.js_syntax.specs.Productions as q
 use Rattle.js_syntax.specs.Parsing as p

@@ -3,8 +3,8 @@ use Rattle.std.specs.Prelude.{Bool, List, Option, Some, None}
 use Rattle.std.specs.Borrow.{Bor}
 use Rattle.js_lexer.specs.declared.token.Token as lexer
 use Rattle.js_lexer.specs.Characters.{string_value}
-use Rattle.js_tree.specs.Tokens as tokens
-use Rattle.js_tree.specs.Tokens.{Token}
+use Rattle.js_language.specs.Tokens as tokens
+use Rattle.js_language.specs.Tokens.{Token}
 use Rattle.js_syntax.specs.declared.classes.arrows.Head.{Head}
 use Rattle.js_syntax.specs.declared.classes.arrows.Head.TheVariants as heads
 use Rattle.js_syntax.specs.declared.classes.expressions.Joint.{Joint}

@@ -3,7 +3,7 @@ use Rattle.std.specs.Prelude.{Bool, false, Option, Some, None}
 use denote.Enum.Bare.{sameb}
 use Rattle.js_lexer.specs.declared.token.TokenKind.{TokenKind}
 use Rattle.js_lexer.specs.contracts.token.TokenKind.{the_type}
-use Rattle.js_tree.specs.Tokens.{Token}
+use Rattle.js_language.specs.Tokens.{Token}
 
 -- the kinds are the same, as == answers
 abbrev pub is_same_kind : TokenKind → TokenKind → Bool

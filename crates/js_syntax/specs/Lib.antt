@@ -8,3 +8,5 @@ pub mod Heads
 pub mod Productions
 pub mod Parsing
 pub mod Giving
+pub mod Context
+pub mod Placed

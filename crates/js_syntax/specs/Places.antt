@@ -1,7 +1,7 @@
 -- The places of what was read in the source.
 use Rattle.std.specs.Prelude.{ℕ, min, ◌-◌, List, length, Option, Some, None, slice_get}
 use Rattle.js_tree.specs.declared.node.Span.{Span}
-use Rattle.js_tree.specs.Tokens.{Token, head_of}
+use Rattle.js_language.specs.Tokens.{Token, head_of}
 
 -- where a token begins, and 0 without one
 abbrev pub start_of : Option Token → ℕ

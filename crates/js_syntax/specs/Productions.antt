@@ -4,9 +4,9 @@ use Rattle.js_lexer.specs.declared.token.TokenKind.{TokenKind}
 use Rattle.js_lexer.specs.declared.token.TokenKind.TheVariants as kinds
 use Rattle.js_tree.specs.Trees as trees
 use Rattle.js_tree.specs.Trees.{Identifier, Expression, Expressions, OptionalExpression, Declarator, Declarators, Statement, Statements}
-use Rattle.js_tree.specs.Tokens.{End, after_expression, head_of, tail_of}
-use Rattle.js_tree.specs.Flat.{edge}
-use Rattle.js_tree.specs.Well.{Context, function_body, declared_by}
+use Rattle.js_language.specs.Tokens.{End, after_expression, head_of, tail_of}
+use Rattle.js_language.specs.Flat.{edge}
+use Rattle.js_language.specs.Well.{Context, function_body, declared_by}
 use Rattle.js_tree.specs.Views.{expressions, statements, declarators}
 use Rattle.js_syntax.specs.Kinds.{is_kind}
 use Rattle.js_syntax.specs.Reading.{stuck, Reader, ◌>>=◌, expect, expect_near, name_at, fresh_name, semicolon_at, elements, others, items, no_state, with_name, with_names}

@@ -5,7 +5,7 @@ use Rattle.js_lexer.specs.declared.token.TokenKind.{TokenKind}
 use Rattle.js_lexer.specs.declared.token.TokenKind.TheVariants as kinds
 use Rattle.js_lexer.specs.Characters.{string_value}
 use Rattle.js_lexer.specs.Numbers.{number_value}
-use Rattle.js_tree.specs.Tokens.{Token}
+use Rattle.js_language.specs.Tokens.{Token}
 
 -- what a string literal stands for (ECMA-262, 12.9.4.2); of any other token its text
 abbrev pub string_value_of : TokenKind → List ℕ → List ℕ

@@ -1,7 +1,7 @@
 //! The names that are taken in a scope.
 
 ghost use Rattle.std.specs.Prelude.{◌≡◌, ◌∷◌, [], OnErr, OnOk};
-ghost use Rattle.js_tree.specs.Well.{is_among};
+ghost use Rattle.js_language.specs.Well.{is_among};
 
 use std::alloc::{AllocError, Global};
 use std::collections::HashSet;
@@ -21,7 +21,7 @@ impl<'s> Model for NameSet<'s> {
     ghost use Rattle.std.specs.Borrow.{Bor};
     ghost use Rattle.std.specs.Coded.{coded_ℕ, coded_list};
     ghost use Rattle.std.specs.HashSet.{contains};
-    ghost use Rattle.js_tree.specs.Well.{is_among};
+    ghost use Rattle.js_language.specs.Well.{is_among};
     ghost use Rattle.js_syntax.specs.Names.{is_same_name, taken};
 
     ghost Value = { List (List ℕ) };

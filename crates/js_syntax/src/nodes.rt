@@ -2,7 +2,7 @@
 
 ghost use Rattle.std.specs.Prelude.{◌≡◌, ◌∷◌, ◌++◌, [], length, map, All, IfOk, OnOk, OnErr, IfSome};
 ghost use Rattle.js_tree.specs.Spans.{IsWithin};
-ghost use Rattle.js_tree.specs.Tokens.{head_of};
+ghost use Rattle.js_language.specs.Tokens.{head_of};
 ghost use Rattle.js_syntax.specs.Places as spec;
 ghost use Rattle.js_syntax.specs.Views.{tokens_view};
 

@@ -1,7 +1,7 @@
 //! Lent tokens, the next one first.
 
 ghost use Rattle.std.specs.Prelude.{◌≡◌};
-ghost use Rattle.js_tree.specs.Tokens.{head_of, is_on_line, tail_of};
+ghost use Rattle.js_language.specs.Tokens.{head_of, is_on_line, tail_of};
 ghost use Rattle.js_syntax.specs.Giving.{Gives};
 ghost use Rattle.js_syntax.specs.Kinds.{is_kind};
 ghost use Rattle.js_syntax.specs.Reading as reading;

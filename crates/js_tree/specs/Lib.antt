@@ -1,10 +1,5 @@
 pub mod Trees
 pub mod Views
-pub mod Tokens
-pub mod Flat
-pub mod Well
 pub mod Height
-pub mod Language
 pub mod Spans
-pub mod Places
 pub mod Kept

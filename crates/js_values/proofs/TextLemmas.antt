@@ -2,7 +2,7 @@
 use Rattle.std.proofs.Common.{◌≡◌, ℕ, zero, suc, ◌<◌, Bool, true, false, List, [], ◌∷◌, length, drop, get_or, refl, sym, ap, ◌∙◌, arith}
 use Rattle.std.specs.Prelude.{nat_eq, nat_lt, ◌&&◌, ◌||◌, ◌≢◌, min}
 use Rattle.js_heap.specs.Keys.{same_units}
-use Rattle.js_values.specs.Operators.{units_before}
+use Rattle.js_heap.specs.Operators.{units_before}
 
 -- ---- one more unit
 

@@ -1,4 +1,1 @@
-pub mod Values
-pub mod Operators
-pub mod Properties
 pub mod Safe

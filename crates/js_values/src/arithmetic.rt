@@ -1,10 +1,10 @@
 //! Operators on two numbers.
 
 ghost use Rattle.std.specs.Prelude.{◌≡◌, ◌<◌, ◌^◌, nat_abs, IfOk, ◌*ℤ◌, ◌*◌, ◌%◌};
-ghost use Rattle.js_values.specs.Values.{a_number};
-ghost use Rattle.js_values.specs.Operators.{on_numbers, safe, to_unsigned, to_signed, shift_count, numeric, update_result};
+ghost use Rattle.js_heap.specs.Values.{a_number};
+ghost use Rattle.js_heap.specs.Operators.{on_numbers, safe, to_unsigned, to_signed, shift_count, numeric, update_result};
 
-use crate::computed::Computed;
+use js_heap::computed::Computed;
 use crate::numbers::{shift_count, shifted_right, to_signed, to_unsigned};
 use crate::results::{not_numbers, not_safe, quotient, remainder, safe};
 use js_heap::value::Value;

@@ -2,7 +2,6 @@
 #![tactic(auto)]
 
 pub mod arithmetic;
-pub mod computed;
 pub mod numbers;
 pub mod operators;
 pub mod properties;

@@ -1,7 +1,7 @@
 //! Operators on numbers: integers from -(2^53 - 1) to 2^53 - 1.
 
 ghost use Rattle.std.specs.Prelude.{◌≡◌, ◌<◌, ◌^◌, nat_abs};
-ghost use Rattle.js_values.specs.Operators.{to_unsigned, to_signed, shift_count, shifted_right};
+ghost use Rattle.js_heap.specs.Operators.{to_unsigned, to_signed, shift_count, shifted_right};
 
 /// A number modulo 2^32 (ECMA-262, 7.1.7).
 pub fn to_unsigned(z: i64) -> u32

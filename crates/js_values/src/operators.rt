@@ -2,12 +2,12 @@
 
 ghost use Rattle.std.specs.Prelude.{◌≡◌, ◌<◌, ◌^◌, nat_abs, IfOk, ◌++◌, min};
 ghost use Rattle.std.specs.Fmt.{signed_decimal};
-ghost use Rattle.js_values.specs.Values.{text_of, key_of, units_at, bool_text};
-ghost use Rattle.js_values.specs.Operators.{units_before, is_before, is_equal, answer_of, negated, numeric, joined_texts, sum_of, binary_result, number_result, unary_result, update_result};
+ghost use Rattle.js_heap.specs.Values.{text_of, key_of, units_at, bool_text};
+ghost use Rattle.js_heap.specs.Operators.{units_before, is_before, is_equal, answer_of, negated, numeric, joined_texts, sum_of, binary_result, number_result, unary_result, update_result};
 ghost use Rattle.js_values.specs.Safe.{IsSafe};
 
 use crate::arithmetic::on_numbers;
-use crate::computed::Computed;
+use js_heap::computed::Computed;
 use crate::numbers::{to_signed, to_unsigned};
 use crate::results::{not_a_text, not_comparable, not_numbers};
 use crate::text::ascii;

@@ -3,15 +3,15 @@
 ghost use Rattle.std.specs.Prelude.{◌≡◌, IfOk, option_copied, ◌<◌, ◌^◌, ◌++◌, length, codes, pos};
 ghost use Rattle.js_heap.specs.Keys.{index_of_key};
 ghost use Rattle.js_heap.specs.declared.value.Value.TheVariants as values;
-ghost use Rattle.js_values.specs.Values.{a_number, units_of_cell};
+ghost use Rattle.js_heap.specs.Values.{a_number, units_of_cell};
 ghost use Rattle.js_values.specs.Safe.{IsShort, IsShortValue, IsSmall, IsSmallValue};
 ghost use Rattle.js_heap.specs.BuiltIns.{function_value};
-ghost use Rattle.js_values.specs.declared.computed.Computed.TheVariants.{Value as a_value};
-ghost use Rattle.js_values.specs.Properties.{bad_key, cannot_read, cannot_set, cannot_change, not_changeable, array_method, string_method, element_or_method, unit_or_method, function_property, error_property, cell_property, property_of, element_change, length_change, array_change, cell_change, property_written, cell_removal, property_deleted, bad_length};
+ghost use Rattle.js_heap.specs.declared.computed.Computed.TheVariants.{Value as a_value};
+ghost use Rattle.js_heap.specs.Properties.{bad_key, cannot_read, cannot_set, cannot_change, not_changeable, array_method, string_method, element_or_method, unit_or_method, function_property, error_property, cell_property, property_of, element_change, length_change, array_change, cell_change, property_written, cell_removal, property_deleted, bad_length};
 ghost use Rattle.js_heap.specs.declared.built_in.ErrorClass.TheVariants as classes;
-ghost use Rattle.js_values.specs.declared.computed.Written.TheVariants.{Refused as refused};
+ghost use Rattle.js_heap.specs.declared.computed.Written.TheVariants.{Refused as refused};
 
-use crate::computed::{Computed, Written};
+use js_heap::computed::{Computed, Written};
 use crate::operators::joined;
 use crate::text::{ascii, is_ascii};
 use crate::values::{class_text, units_at};

@@ -1,9 +1,9 @@
 //! Results of operations on numbers, and the errors that operations may come to.
 
 ghost use Rattle.std.specs.Prelude.{◌≡◌, ◌<◌, ◌^◌, nat_abs, IfOk, ◌≤ℤ◌, ◌<ℤ◌, pos};
-ghost use Rattle.js_values.specs.Operators.{safe, quotient, remainder, not_safe, not_numbers, not_a_text, not_comparable};
+ghost use Rattle.js_heap.specs.Operators.{safe, quotient, remainder, not_safe, not_numbers, not_a_text, not_comparable};
 
-use crate::computed::Computed;
+use js_heap::computed::Computed;
 use crate::text::ascii;
 use js_heap::built_in::ErrorClass;
 use js_heap::value::Value;

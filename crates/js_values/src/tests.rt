@@ -1,7 +1,7 @@
 //! Each call that takes memory, with ample memory, and the operators' tables.
 
 use crate::arithmetic::on_numbers;
-use crate::computed::{Computed, Written};
+use js_heap::computed::{Computed, Written};
 use crate::operators::{
     binary_result, joined, key_of, number_text, numeric, sum_of, text_of, unary_result,
     update_result,

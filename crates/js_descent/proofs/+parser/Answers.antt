@@ -1,33 +1,33 @@
 use Rattle.std.proofs.Common.{rules, ◌≡◌, ◌≤◌, ◌-◌, ℕ, zero, suc, List, refl, sym, ◌∙◌, arith, true, false, map}
 use Rattle.std.proofs.lemmas.Result.{err_from_is_err_and}
 use Rattle.js_lexer.specs.declared.token.TokenKind.TheVariants as kinds
-use Rattle.js_tree.specs.Tokens.{Token, fixed, head_of, identifier, numeric_literal, string_literal}
+use Rattle.js_language.specs.Tokens.{Token, fixed, head_of, identifier, numeric_literal, string_literal}
 use Rattle.js_tree.specs.Trees.{Identifier}
-use Rattle.js_tree.specs.Well.{Context}
+use Rattle.js_language.specs.Well.{Context}
 use Rattle.js_tree.specs.Views.{declarator_view, expression_view, parameters_view, statement_view}
 use Rattle.js_syntax.specs.Reading.{no_state, after, goes_on, ends}
 use Rattle.js_syntax.specs.Productions.{braces, one_of}
 use Rattle.js_syntax.specs.Parsing.{below, property_at, if_at, statement}
 use Rattle.js_syntax.specs.Views.{tokens_view}
-use Rattle.js_rules.proofs.Leaves.{short, shorter}
-use Rattle.js_rules.proofs.LinkLemmas.{links_deep, links_more, chain_deep, chain_more}
-use Rattle.js_rules.proofs.ListReads.{elements_init, elements_next, others_init, others_next, others_smaller, members_init, members_next, member_shorter, last_height, last_property_height}
-use Rattle.js_rules.proofs.LoopSteps.{elements_none, elements_fail, elements_end, elements_stop, others_none, others_fail, map_push, less_by_view, length_view}
+use Rattle.js_syntax.proofs.Leaves.{short, shorter}
+use Rattle.js_syntax.proofs.LinkLemmas.{links_deep, links_more, chain_deep, chain_more}
+use Rattle.js_syntax.proofs.ListReads.{elements_init, elements_next, others_init, others_next, others_smaller, members_init, members_next, member_shorter, last_height, last_property_height}
+use Rattle.js_syntax.proofs.LoopSteps.{elements_none, elements_fail, elements_end, elements_stop, others_none, others_fail, map_push, less_by_view, length_view}
 use Rattle.js_descent.proofs.+parser.Goals as goal
 use Rattle.js_descent.proofs.+parser.Goals.{primaries::function_at-then-is_name_next+in_ok-text+in_ok-from_slice, primaries::function_at-else-is_name_next}
-use Rattle.js_rules.specs.Views.{context_view}
-use Rattle.js_rules.proofs.ListLemmas.{map_push as map_pushed, statements_begin, statements_go_on, statements_end, statements_fail, declarators_begin, declarators_go_on, declarators_shorten, declarators_end, declarators_fail}
-use Rattle.js_rules.proofs.ParameterLemmas.{less_in_view as less_of_view}
-use Rattle.js_rules.proofs.ShorterLemmas.{item_shorter}
-use Rattle.js_rules.proofs.StatementLemmas.{expect_found, names_kept, no_finalizer}
-use Rattle.js_rules.proofs.ClassLemmas.{first_function, first_lexical, first_semicolon, from_next, key_number, key_string, key_word, link_dot, prefix_delete, prefix_unary, prefix_update, start_boolean, start_brace, start_function, start_name, start_null, start_number, start_string, start_this, update_next}
-use Rattle.js_rules.proofs.PlacedLemmas.{closed, closed_twice, loosely, nothing, then, then_both}
-use Rattle.js_rules.proofs.PlacedLists.{element_last, element_more, elements_over, listed_more, other_more, turn_next}
-use Rattle.js_rules.proofs.PlacedNames.{listed, parameters_placed}
-use Rattle.js_rules.proofs.PlacedTokens.{boolean_places, ended_so, expected, expected_near, let_expected, let_here, named, named_freshly, named_so, symbol, tested, worded}
-use Rattle.js_rules.specs.Placed.{Placed}
-use Rattle.js_tree.specs.Flat.{a, flat_arrow_parameters, flat_optional_name}
-use Rattle.js_tree.specs.Places.{declarator_places, expression_places, optional_places, plain, property_places, statement_places}
+use Rattle.js_syntax.specs.Context.{context_view}
+use Rattle.js_syntax.proofs.ListLemmas.{map_push as map_pushed, statements_begin, statements_go_on, statements_end, statements_fail, declarators_begin, declarators_go_on, declarators_shorten, declarators_end, declarators_fail}
+use Rattle.js_syntax.proofs.ParameterLemmas.{less_in_view as less_of_view}
+use Rattle.js_syntax.proofs.ShorterLemmas.{item_shorter}
+use Rattle.js_syntax.proofs.StatementLemmas.{expect_found, names_kept, no_finalizer}
+use Rattle.js_syntax.proofs.ClassLemmas.{first_function, first_lexical, first_semicolon, from_next, key_number, key_string, key_word, link_dot, prefix_delete, prefix_unary, prefix_update, start_boolean, start_brace, start_function, start_name, start_null, start_number, start_string, start_this, update_next}
+use Rattle.js_syntax.proofs.PlacedLemmas.{closed, closed_twice, loosely, nothing, then, then_both}
+use Rattle.js_syntax.proofs.PlacedLists.{element_last, element_more, elements_over, listed_more, other_more, turn_next}
+use Rattle.js_syntax.proofs.PlacedNames.{listed, parameters_placed}
+use Rattle.js_syntax.proofs.PlacedTokens.{boolean_places, ended_so, expected, expected_near, let_expected, let_here, named, named_freshly, named_so, symbol, tested, worded}
+use Rattle.js_syntax.specs.Placed.{Placed}
+use Rattle.js_language.specs.Flat.{a, flat_arrow_parameters, flat_optional_name}
+use Rattle.js_language.specs.Places.{declarator_places, expression_places, optional_places, plain, property_places, statement_places}
 
 -- a block with room for it is read with one level less
 block_read : (n : ℕ) → 1 ≤ n → (context : Context) (names : List Identifier) (ts : List Token) → (below n).block context names ts ≡ braces (below (n - 1)) context names ts

@@ -1,7 +1,7 @@
 //! What an arrow function begins with (ECMA-262, 15.3).
 
 ghost use Rattle.std.specs.Prelude.{◌≡◌, true, IfOk};
-ghost use Rattle.js_tree.specs.Tokens.{head_of};
+ghost use Rattle.js_language.specs.Tokens.{head_of};
 ghost use Rattle.js_syntax.specs.Classes.{arrow_head, is_arrow, past_names};
 ghost use Rattle.js_syntax.specs.Heads.{head_view, past_view};
 ghost use Rattle.js_syntax.specs.Names.{texts};

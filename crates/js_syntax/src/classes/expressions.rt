@@ -1,7 +1,7 @@
 //! What the next token begins or goes on with in an expression.
 
 ghost use Rattle.std.specs.Prelude.{◌≡◌};
-ghost use Rattle.js_tree.specs.Tokens.{head_of};
+ghost use Rattle.js_language.specs.Tokens.{head_of};
 ghost use Rattle.js_syntax.specs.Classes.{joint, link, operator, prefix, start, update_by, update_near};
 ghost use Rattle.js_syntax.specs.Heads.{joint_view, link_view, prefix_view, start_view};
 ghost use Rattle.js_syntax.specs.Views.{tokens_view};

@@ -1,7 +1,7 @@
 //! How lists go on and end, and what a single token is.
 
 ghost use Rattle.std.specs.Prelude.{◌≡◌};
-ghost use Rattle.js_tree.specs.Tokens.{head_of, is_word};
+ghost use Rattle.js_language.specs.Tokens.{head_of, is_word};
 ghost use Rattle.js_syntax.specs.Heads.{after_view};
 ghost use Rattle.js_syntax.specs.Parsing.{is_name_next};
 ghost use Rattle.js_syntax.specs.Reading.{after, ends_list, is_word_next};

@@ -1,7 +1,7 @@
 //! What the next tokens begin or go on with in an object literal (ECMA-262, 13.2.5).
 
 ghost use Rattle.std.specs.Prelude.{◌≡◌};
-ghost use Rattle.js_tree.specs.Tokens.{head_of};
+ghost use Rattle.js_language.specs.Tokens.{head_of};
 ghost use Rattle.js_syntax.specs.Classes.{after_key, is_shorthand, key_start};
 ghost use Rattle.js_syntax.specs.Heads.{after_key_view, key_start_view};
 ghost use Rattle.js_syntax.specs.Views.{tokens_view};

@@ -1,8 +1,8 @@
 //! What the next tokens begin or end in a statement (ECMA-262, 14).
 
 ghost use Rattle.std.specs.Prelude.{◌≡◌};
-ghost use Rattle.js_tree.specs.Tokens as spec;
-ghost use Rattle.js_tree.specs.Tokens.{absent, head_of};
+ghost use Rattle.js_language.specs.Tokens as spec;
+ghost use Rattle.js_language.specs.Tokens.{absent, head_of};
 ghost use Rattle.js_syntax.specs.Classes.{ends_return, first, for_head, is_name};
 ghost use Rattle.js_syntax.specs.Heads.{edge_view, end_view, first_view, for_head_view};
 ghost use Rattle.js_syntax.specs.Views.{tokens_view};

@@ -1,5 +1,5 @@
 use Rattle.std.proofs.lemmas.List.Elements.{All-nil}
-use Rattle.js_rules.specs.Placed.{IsForward}
+use Rattle.js_syntax.specs.Placed.{IsForward}
 use Rattle.js_parser.proofs.parse.parse_expression.Goals as goal
 
 pub returns-clause-spans : goal.returns-clause-spans

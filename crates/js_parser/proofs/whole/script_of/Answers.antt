@@ -1,4 +1,4 @@
-use Rattle.js_rules.proofs.PlacedLemmas.{no_tokens, whole_source}
+use Rattle.js_syntax.proofs.PlacedLemmas.{no_tokens, whole_source}
 use Rattle.std.proofs.Common.{sym, ◌∙◌}
 use Rattle.js_parser.proofs.whole.script_of.Goals as goal
 

@@ -1,6 +1,6 @@
 use Rattle.std.proofs.Common.{◌≡◌, ◌++◌, drop}
 use Rattle.std.specs.Prelude.{map}
-use Rattle.js_values.specs.Values.{shown}
+use Rattle.js_heap.specs.Values.{shown}
 use Rattle.js_state.proofs.shown.all_shown.Given as goal
 
 abbrev pub invariant-loop-value : goal.invariant-loop-value

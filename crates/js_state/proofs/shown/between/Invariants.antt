@@ -1,5 +1,5 @@
 use Rattle.std.proofs.Common.{◌≡◌, ◌++◌, drop}
-use Rattle.js_values.specs.Values.{between}
+use Rattle.js_heap.specs.Values.{between}
 use Rattle.js_state.specs.Texts.{behind_each}
 use Rattle.js_state.proofs.shown.between.Given as goal
 

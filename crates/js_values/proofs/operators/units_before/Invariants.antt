@@ -1,5 +1,5 @@
 use Rattle.std.proofs.Common.{◌≡◌, drop}
-use Rattle.js_values.specs.Operators.{units_before}
+use Rattle.js_heap.specs.Operators.{units_before}
 use Rattle.js_values.proofs.operators.units_before.Given as goal
 
 abbrev pub invariant-loop-i : goal.invariant-loop-i

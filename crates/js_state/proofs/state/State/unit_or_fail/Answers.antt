@@ -1,4 +1,4 @@
-use Rattle.js_values.specs.Operators.{not_safe}
+use Rattle.js_heap.specs.Operators.{not_safe}
 use Rattle.js_state.proofs.FlowLemmas.{result-gives}
 use Rattle.js_state.proofs.state.State.unit_or_fail.Goals as goal
 

@@ -1,0 +1,2 @@
+mod Sources
+pub mod PlaceLemmas

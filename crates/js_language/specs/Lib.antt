@@ -1,0 +1,5 @@
+pub mod Tokens
+pub mod Flat
+pub mod Well
+pub mod Language
+pub mod Places
