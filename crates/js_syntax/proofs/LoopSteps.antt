@@ -19,7 +19,7 @@ with_front front read = read >>= λ x. Ok (front ++ x.0, x.1)
 abbrev pub Shortens : {S A : Type 0} → (S → Reader A) → Type 0
 Shortens one = (s : _) (ts : List Token) (x : _) (r : List Token) → one s ts ≡ Ok (x, r) → length r < length ts
 
-append_nil : {A : Type 0} (xs : List A) → xs ++ [] ≡ xs
+pub append_nil : {A : Type 0} (xs : List A) → xs ++ [] ≡ xs
 append_nil [] = refl
 append_nil (x ∷ xs) = ap (λ ys. x ∷ ys) (append_nil xs)
 
@@ -38,7 +38,7 @@ pub record Elements {S A : Type 0} (one : S → Reader A) (next : S → A → S)
   pub enough : length rest < fuel
   pub same : with_front front (elements one next closer fuel s rest) ≡ all
 
-with_nothing : {A : Type 0} (read : Read (List A)) → with_front [] read ≡ read
+pub with_nothing : {A : Type 0} (read : Read (List A)) → with_front [] read ≡ read
 with_nothing (Ok x) = refl
 with_nothing (Err f) = refl
 

@@ -12,15 +12,12 @@ use Rattle.js_tree.specs.Spans.{span_of}
 use Rattle.js_syntax.specs.Views.{tokens_view}
 use Rattle.js_syntax.specs.Places.{end_of, end_before, span_between}
 use Rattle.js_syntax.specs.Placed.{GoesOn, InPlace, Placed, AreInOrder, IsForward}
+use Rattle.js_syntax.proofs.LoopSteps.{append_nil}
 
 -- ---- lists of spans
 
-pub append_none : {A : Type 0} (xs : List A) → xs ++ [] ≡ xs
-append_none [] = refl
-append_none (x ∷ xs) = ap (λ ys. x ∷ ys) (append_none xs)
-
 pub same_spans : (spans : List Span) → GoesOn spans spans
-same_spans spans = record { more = []; is = sym (append_none spans) }
+same_spans spans = record { more = []; is = sym (append_nil spans) }
 
 pub goes_on : {a b c : List Span} → GoesOn a b → GoesOn b c → GoesOn a c
 goes_on {a} {b} {c} p q = record { more = p.more ++ q.more; is = rw (q.is, p.is) (append_assoc a p.more q.more) }

@@ -9,8 +9,9 @@ use Rattle.js_syntax.specs.Kinds.{is_kind, is_same_kind}
 use Rattle.js_syntax.specs.Reading.{goes_on, ends, after, after_by}
 use Rattle.js_syntax.proofs.KindLemmas.{kind_not}
 use Rattle.js_syntax.specs.Placed.{Placed}
-use Rattle.js_syntax.proofs.PlacedLemmas.{append_none, same_spans, then, loosely}
+use Rattle.js_syntax.proofs.PlacedLemmas.{same_spans, then, loosely}
 use Rattle.js_syntax.proofs.PlacedTokens.{tested, left_out}
+use Rattle.js_syntax.proofs.LoopSteps.{append_nil}
 
 -- ---- pieces
 
@@ -23,12 +24,12 @@ before_commas [] = []
 before_commas (p ∷ ps) = p ++ (comma ∷ before_commas ps)
 
 behind_last : (ps : List (List Place)) (p : List Place) → behind_commas (ps ++ p ∷ []) ≡ comma ∷ (before_commas ps ++ p)
-behind_last [] p = ap (λ qs. comma ∷ qs) (append_none p)
-behind_last (q ∷ ps) p = ap (λ qs. comma ∷ qs) (ap (λ qs. q ++ qs) (append_none (behind_commas (ps ++ p ∷ [])) ∙ behind_last ps p) ∙ sym (append_assoc q (comma ∷ before_commas ps) p))
+behind_last [] p = ap (λ qs. comma ∷ qs) (append_nil p)
+behind_last (q ∷ ps) p = ap (λ qs. comma ∷ qs) (ap (λ qs. q ++ qs) (append_nil (behind_commas (ps ++ p ∷ [])) ∙ behind_last ps p) ∙ sym (append_assoc q (comma ∷ before_commas ps) p))
 
 -- the last piece has none behind it
 with_last : (ps : List (List Place)) (p : List Place) → with_commas (ps ++ p ∷ []) ≡ before_commas ps ++ p
-with_last [] p = append_none p
+with_last [] p = append_nil p
 with_last (q ∷ ps) p = ap (λ qs. q ++ qs) (behind_last ps p) ∙ sym (append_assoc q (comma ∷ before_commas ps) p)
 
 before_more : (ps : List (List Place)) (p : List Place) → before_commas (ps ++ p ∷ []) ≡ (before_commas ps ++ p) ++ comma ∷ []
@@ -39,19 +40,19 @@ before_more (q ∷ ps) p =
 
 -- a comma behind the last piece
 before_is : (q : List Place) (ps : List (List Place)) → before_commas (q ∷ ps) ≡ with_commas (q ∷ ps) ++ comma ∷ []
-before_is q [] = ap (λ qs. qs ++ comma ∷ []) (sym (append_none q))
+before_is q [] = ap (λ qs. qs ++ comma ∷ []) (sym (append_nil q))
 before_is q (p ∷ ps) =
-    ap (λ qs. q ++ (comma ∷ qs)) (before_is p ps ∙ ap (λ qs. (p ++ qs) ++ comma ∷ []) (sym (append_none (behind_commas ps))))
+    ap (λ qs. q ++ (comma ∷ qs)) (before_is p ps ∙ ap (λ qs. (p ++ qs) ++ comma ∷ []) (sym (append_nil (behind_commas ps))))
     ∙ sym (append_assoc q (comma ∷ (p ++ (behind_commas ps ++ []))) (comma ∷ []))
 
 behind_more : (ps : List (List Place)) (p : List Place) → behind_commas (ps ++ p ∷ []) ≡ behind_commas ps ++ (comma ∷ p)
-behind_more [] p = ap (λ qs. comma ∷ qs) (append_none p)
+behind_more [] p = ap (λ qs. comma ∷ qs) (append_nil p)
 behind_more (q ∷ ps) p =
-    ap (λ qs. comma ∷ (q ++ qs)) (append_none (behind_commas (ps ++ p ∷ [])) ∙ (behind_more ps p ∙ ap (λ qs. qs ++ (comma ∷ p)) (sym (append_none (behind_commas ps)))))
+    ap (λ qs. comma ∷ (q ++ qs)) (append_nil (behind_commas (ps ++ p ∷ [])) ∙ (behind_more ps p ∙ ap (λ qs. qs ++ (comma ∷ p)) (sym (append_nil (behind_commas ps)))))
     ∙ ap (λ qs. comma ∷ qs) (sym (append_assoc q (behind_commas ps ++ []) (comma ∷ p)))
 
 turn_more : (ps : List (List Place)) (p : List Place) → in_turn (ps ++ p ∷ []) ≡ in_turn ps ++ p
-turn_more [] p = append_none p
+turn_more [] p = append_nil p
 turn_more (q ∷ ps) p = ap (λ qs. q ++ qs) (turn_more ps p) ∙ sym (append_assoc q (in_turn ps) p)
 
 -- ---- elements and arguments
