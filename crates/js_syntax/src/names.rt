@@ -24,7 +24,7 @@ use std::alloc::Global;
 /// # Errors
 ///
 /// `Syntax` at the next token where it is no name or one of these.
-#[tactic(auto, using(crate::proofs::NameLemmas::fresh_laws))]
+#[tactic(auto, using(crate::proofs::NewNameLemmas::fresh_laws))]
 pub fn fresh_name<'t, 's>(
     names: &NameSet<'_>,
     tokens: &'t [Token<'s>],
