@@ -1,5 +1,5 @@
 -- Lists where they stand, read one element after the other.
-use Rattle.std.proofs.Common.{◌≡◌, ℕ, ◌<◌, Bool, true, false, List, [], ◌∷◌, ◌++◌, length, refl, sym, ap, ◌∙◌, append_assoc, inl, inr, arith}
+use Rattle.std.proofs.Common.{◌≡◌, ℕ, suc, ◌<◌, Bool, true, false, List, [], ◌∷◌, ◌++◌, length, refl, sym, ap, ◌∙◌, append_assoc, inl, inr, arith}
 use Rattle.js_lexer.specs.declared.token.TokenKind.{TokenKind}
 use Rattle.js_lexer.specs.declared.token.TokenKind.TheVariants as kinds
 use Rattle.js_tree.specs.declared.node.Span.{Span}
@@ -8,7 +8,7 @@ use Rattle.js_language.specs.Places.{Place, stands, stands_maybe, opens, closes,
 use Rattle.js_syntax.specs.Kinds.{is_kind, is_same_kind}
 use Rattle.js_syntax.specs.Reading.{goes_on, ends, after, after_by}
 use Rattle.js_syntax.proofs.KindLemmas.{kind_not}
-use Rattle.js_syntax.specs.Placed.{Placed}
+use Rattle.js_syntax.specs.Placed.{AreNumbered, Placed}
 use Rattle.js_syntax.proofs.PlacedLemmas.{same_spans, then, loosely}
 use Rattle.js_syntax.proofs.PlacedTokens.{tested, left_out}
 use Rattle.js_syntax.proofs.LoopSteps.{append_nil}
@@ -66,9 +66,21 @@ maybe_there spans k (stands s ∷ ps) before ts left p = (p.0, maybe_there spans
 maybe_there spans k (stands_maybe j ∷ ps) before ts left (inl p) = inl (p.0, maybe_there spans k ps (end_of (head_of ts)) (tail_of ts) left p.1)
 maybe_there spans k (stands_maybe j ∷ ps) before ts left (inr p) = inr (p.0, maybe_there spans k ps before ts left p.1)
 
+numbered_maybe : (k : TokenKind) (ps : List Place) (first next : ℕ) → AreNumbered first (ps ++ stands (fixed k) ∷ []) next → AreNumbered first (ps ++ stands_maybe k ∷ []) next
+numbered_maybe k [] first next p = p
+numbered_maybe k (opens n ∷ ps) first next p = numbered_maybe k ps first next p
+numbered_maybe k (closes n ∷ ps) first next p = (p.0, numbered_maybe k ps (suc first) next p.1)
+numbered_maybe k (stands s ∷ ps) first next p = numbered_maybe k ps first next p
+numbered_maybe k (stands_maybe j ∷ ps) first next p = numbered_maybe k ps first next p
+
 there : {some : Bool} {old new : List Span} {ts left : List Token} (k : TokenKind) (ps : List Place) → Placed some old new (ps ++ stands (fixed k) ∷ []) ts left → Placed some old new (ps ++ stands_maybe k ∷ []) ts left
 there {some} {old} {new} {ts} {left} k ps p = record {
-  stands = record { grew = p.stands.grew; fewer = p.stands.fewer; exact = λ spans g before. maybe_there spans k ps before ts left (p.stands.exact spans g before) };
+  stands = record {
+    grew = p.stands.grew;
+    fewer = p.stands.fewer;
+    exact = λ spans g before. maybe_there spans k ps before ts left (p.stands.exact spans g before);
+    numbers = numbered_maybe k ps (length old) (length new) p.stands.numbers;
+  };
   forward = p.forward;
 }
 

@@ -29,6 +29,7 @@ symbol spans s ts left h is = rw is (record {
     grew = same_spans spans;
     fewer = λ some. next_shorter s ts h;
     exact = λ later g before. (h, refl);
+    numbers = refl;
   };
   forward = λ i all. all;
 })
@@ -131,6 +132,7 @@ left_out spans k ts e = record {
     grew = same_spans spans;
     fewer = λ h. absurd cc;
     exact = λ later g before. inr (kind_apart k (head_of ts) e, refl);
+    numbers = refl;
   };
   forward = λ i all. all;
 }
@@ -142,6 +144,7 @@ put_in spans k ts left e is = rw is (record {
     grew = same_spans spans;
     fewer = λ h. absurd cc;
     exact = λ later g before. inl (next_is k (head_of ts) e, refl);
+    numbers = refl;
   };
   forward = λ i all. all;
 })
