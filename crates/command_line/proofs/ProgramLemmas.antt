@@ -21,7 +21,7 @@ integers_of script = unwrap_or (option_and_then early_of script) []
 
 abbrev Shows : List ℕ → List ℕ → List ℕ → Type 0
 Shows output script journal =
-    (output ≡ output_bytes (lines_in script (entries (begin script) (lines_of journal)))) × Headline script (entries (begin script) (lines_of journal))
+    (output ≡ output_bytes (lines_in script (entries (begin script) (lines_of journal)))) × Headline script (entries (begin script) (lines_of journal)) output
 
 shows-early : (journal : List ℕ) (early : Option (List ℕ)) → IsWhole (end_over journal early) → Shows (output_over journal early) (unwrap_or early []) journal
 shows-early journal None (inl done) = cc
@@ -44,7 +44,7 @@ given-all (Some request) (Some files) P all = all request files
 
 -- the headline, where the words are of the form and the files are told
 pub headline-given : (o : Option Request) (told : Option (List Named)) → Given o told (λ request files. IsWhole (verdict request files)
-    → (output_in request files ≡ output_bytes (lines_in (script_in request files) (history_in request files))) × Headline (script_in request files) (history_in request files))
+    → (output_in request files ≡ output_bytes (lines_in (script_in request files) (history_in request files))) × Headline (script_in request files) (history_in request files) (output_in request files))
 headline-given o told = given-all o told _ (λ request files. shows-for (content_of request.journal files) (content_of request.script files))
 
 -- only the end at a write that failed has its status

@@ -76,7 +76,7 @@ pub fn debug_main<F: Shelf, O: Sink, E: Sink>(
     // the headline, at every status
     ensures headline { Given (asked words.now) (F.files shelf.old) (λ request files. IsWhole (verdict request files)
         → (output_in request files ≡ output_bytes (lines_in (script_in request files) (history_in request files)))
-        × Headline (script_in request files) (history_in request files)) }
+        × Headline (script_in request files) (history_in request files) (output_in request files)) }
 {
     let Some(request) = read_words(words) else {
         report(alloc, Outcome::Usage, Request::NONE, err);
