@@ -127,13 +127,6 @@ pub record ReadsElements {S A : Type 0} (one : S → Reader A) (next : S → A �
   pub enough : length rest < fuel
   pub same : with_front xs (elements one next closer fuel s rest) ≡ elements one next closer (suc (length ts)) s₀ ts
 
-pub elements_begin : {S A : Type 0} (one : S → Reader A) (next : S → A → S) (closer : TokenKind) (s : S) (ts : List Token) → ReadsElements one next closer s ts [] s ts
-elements_begin one next closer s ts = record {
-  fuel = suc (length ts);
-  enough = omega arith;
-  same = with_nothing (elements one next closer (suc (length ts)) s ts);
-}
-
 -- at the token that ends the list
 elements_end_by : {S A : Type 0} (one : S → Reader A) (next : S → A → S) (closer : TokenKind) (goal : Read (List A)) (xs : List A) (s : S) (rest : List Token) (k : ℕ) → is_kind closer (head_of rest) ≡ true → length rest < k → with_front xs (elements one next closer k s rest) ≡ goal → goal ≡ Ok (xs, tail_of rest)
 unfolding elements
