@@ -1,6 +1,7 @@
 -- Lemmas on the order of texts.
-use Rattle.std.proofs.Common.{◌≡◌, ℕ, zero, suc, Bool, true, false, List, [], ◌∷◌, length, drop, refl, sym, ap, ◌∙◌, arith}
-use Rattle.std.specs.Prelude.{nat_eq, nat_lt, ◌&&◌, ◌≢◌, min}
+use Rattle.std.proofs.Common.{◌≡◌, ℕ, zero, suc, false, List, [], ◌∷◌, length, drop, refl, sym, ap, ◌∙◌, arith}
+use Rattle.std.proofs.Math.Bool.{and-false}
+use Rattle.std.specs.Prelude.{nat_eq, nat_lt, ◌≢◌, min}
 use Rattle.js_heap.specs.Keys.{same_units}
 use Rattle.js_heap.specs.Operators.{units_before}
 
@@ -26,12 +27,8 @@ before-ends (u ∷ us) (v ∷ vs) (suc i) e = before-ends us vs i (omega arith) 
 
 -- ---- the same units
 
-both_false : (b : Bool) → (b && false) ≡ false
-both_false true = refl
-both_false false = refl
-
 pub same-long : (us vs : List ℕ) → length us ≢ length vs → same_units us vs ≡ false
 same-long [] [] n = absurd (n refl)
 same-long [] (v ∷ vs) n = refl
 same-long (u ∷ us) [] n = refl
-same-long (u ∷ us) (v ∷ vs) n = rw (same-long us vs (λ e. n (ap suc e))) (both_false (nat_eq u v))
+same-long (u ∷ us) (v ∷ vs) n = rw (same-long us vs (λ e. n (ap suc e))) (and-false (nat_eq u v))
