@@ -41,22 +41,22 @@ shape_of k t m (number e h f) = a_number h f
 shape_of k t m (string e h) = a_string h
 shape_of k t m (punctuator l) = a_punctuator k l
 
-begins_front : (p : ℕ → Bool) (t m : List ℕ) → begins p t ≡ true → begins p (t ++ m) ≡ true
+pub begins_front : (p : ℕ → Bool) (t m : List ℕ) → begins p t ≡ true → begins p (t ++ m) ≡ true
 begins_front p [] m e = absurd cc
 begins_front p (c ∷ t) m e = e
 
-word_begins : (t : List ℕ) → is_word t ≡ true → begins is_word_start t ≡ true
+pub word_begins : (t : List ℕ) → is_word t ≡ true → begins is_word_start t ≡ true
 word_begins [] e = absurd cc
 word_begins (c ∷ t) e = (and_parts (is_word_start c) (list_all is_word_part t) e).0
 
-word_parts : (t : List ℕ) → is_word t ≡ true → list_all is_word_part t ≡ true
+pub word_parts : (t : List ℕ) → is_word t ≡ true → list_all is_word_part t ≡ true
 word_parts [] e = refl
 word_parts (c ∷ t) e =
     let a = and_parts (is_word_start c) (list_all is_word_part t) e in
     rw (a.0, a.1) refl
 
 -- a unit that begins a token of one shape begins none of another
-start_no_digit : (us : List ℕ) → begins is_word_start us ≡ true → begins is_digit us ≡ true → ⊥
+pub start_no_digit : (us : List ℕ) → begins is_word_start us ≡ true → begins is_digit us ≡ true → ⊥
 start_no_digit [] e f = cc
 start_no_digit (u ∷ us) e f = grind (arith, nat_tests)
 
@@ -95,7 +95,7 @@ quote_no_mark (u ∷ us) e f = no_quote (is_word_part u) (is_quote u) e f
     no_quote false false e f = cc
 
 -- no word and no number begins with a quote
-quote_first : (us : List ℕ) → begins is_quote us ≡ true → (begins is_word_start us ≡ false) × (begins is_digit us ≡ false)
+pub quote_first : (us : List ℕ) → begins is_quote us ≡ true → (begins is_word_start us ≡ false) × (begins is_digit us ≡ false)
 quote_first [] e = absurd cc
 quote_first (u ∷ us) e = by_tests (eqb u 34) refl (eqb u 39) refl e
   where

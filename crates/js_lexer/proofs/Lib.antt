@@ -8,3 +8,4 @@ pub mod Characters
 pub mod Literals
 pub mod Fronts
 pub mod Tiling
+pub mod WrittenLaws

@@ -16,7 +16,7 @@ abbrev Entry : Type 0
 Entry = TokenKind × List ℕ
 
 -- what holds of each entry holds of one
-all_listed : (p : Entry → Bool) (table : List Entry) → list_all p table ≡ true → (e : Entry) → IsListed e table → p e ≡ true
+pub all_listed : (p : Entry → Bool) (table : List Entry) → list_all p table ≡ true → (e : Entry) → IsListed e table → p e ≡ true
 all_listed p [] h e l = absurd l
 all_listed p (x ∷ xs) h e (inl q) = ap p q ∙ (and_parts (p x) (list_all p xs) h).0
 all_listed p (x ∷ xs) h e (inr l) = all_listed p xs (and_parts (p x) (list_all p xs) h).1 e l

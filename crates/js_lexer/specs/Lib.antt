@@ -10,3 +10,4 @@ pub mod Characters
 pub mod Tokens
 pub mod Scanning
 pub mod State
+pub mod Written

@@ -3,6 +3,7 @@
 
 mod classes;
 mod gap;
+pub mod laws;
 pub mod number;
 mod punctuators;
 mod spelling;
