@@ -1,18 +1,20 @@
 -- The lines that are applied, and the one that is refused.
-use Rattle.std.proofs.Common.{◌≡◌, ℕ, ◌+◌, List, [], ◌∷◌, length, Option, Some, None, refl, ap, sym, ◌∙◌, arith}
+use Rattle.std.proofs.Common.{◌≡◌, ℕ, ◌+◌, ◌==◌, Bool, true, false, if◌then◌else◌, List, [], ◌∷◌, length, Option, Some, None, refl, ap, sym, ◌∙◌, arith}
 use Rattle.std.specs.Option.{option_and_then, option_map_or, unwrap_or}
 use Rattle.std.proofs.lemmas.Option.{none-some, same_Some}
+use Rattle.std.proofs.lemmas.Bool.{eqb-true, eqb-false}
 use Rattle.cdp_edge.specs.Outside.{Named, content_of}
 use Rattle.cdp_text.specs.Lines.{lines_of}
 use Rattle.js_machine.specs.Early.{early_of}
-use Rattle.cdp_host.specs.Meaning.{Meaning, begin}
-use Rattle.cdp_host.specs.Histories.{Entry, apply}
+use Rattle.cdp_host.specs.Meaning.{Meaning, begin, is_attached, longest}
+use Rattle.cdp_host.specs.Histories.{Entry, apply, Attach as Attached, Tell as Told, Take as Taken, Ran}
+use Rattle.cdp_host.proofs.RunLemmas.{longest-is}
 use Rattle.command_line.specs.declared.outcome.Outcome.TheVariants.{Done, LineRefused}
-use Rattle.command_line.specs.Applied.{IsEntry, AreEntries, RefusesAt}
+use Rattle.command_line.specs.Applied.{MayStand, IsEntry, AreEntries, RefusesAt}
 use Rattle.command_line.specs.Ends.{end_of}
 use Rattle.command_line.specs.Headline.{script_in, texts_in, history_in}
 use Rattle.command_line.specs.Journal.{entry_at, entry_of, entries, refused}
-use Rattle.command_line.specs.Lines.{Line, line_of}
+use Rattle.command_line.specs.Lines.{Line, Attach, Tell, Take, Run, line_of}
 use Rattle.command_line.specs.Status.{Given, end_for, end_over, verdict}
 use Rattle.command_line.specs.Words.{Request}
 use Rattle.command_line.proofs.LineLemmas.{line-read, line-some}
@@ -20,13 +22,35 @@ use Rattle.command_line.proofs.ProgramLemmas.{integers_of, given-all}
 
 -- ---- one line
 
+chosen : (b : Bool) (entry other : Entry) → (if b then Some entry else None) ≡ Some other → (b ≡ true) × (other ≡ entry)
+chosen true entry other is = (refl, sym (same_Some entry other is))
+chosen false entry other is = absurd (none-some other is)
+
+unchosen : (b : Bool) (entry : Entry) → (if b then Some entry else None) ≡ None → b ≡ false
+unchosen true entry is = absurd (none-some entry (sym is))
+unchosen false entry is = refl
+
+-- the entry of a line is one with which it may stand there
+may-stand : (m : Meaning) (line : Line) (entry : Entry) → entry_at m line ≡ Some entry → MayStand m line entry
+may-stand m Attach entry is = let choice = chosen (m.attached == 0) Attached entry is in (eqb-true m.attached 0 choice.0, choice.1)
+may-stand m (Tell s text) entry is = chosen (is_attached m s) (Told s text) entry is
+may-stand m (Take s) entry is = chosen (is_attached m s) (Taken s) entry is
+may-stand m (Run most moment) entry is = (longest most m, longest-is most m, sym (same_Some (Ran (longest most m)) entry is))
+
+-- and where it has none, it may stand with none
+may-not-stand : (m : Meaning) (line : Line) (entry : Entry) → entry_at m line ≡ None → ¬ (MayStand m line entry)
+may-not-stand m Attach entry none stands = eqb-false m.attached 0 (unchosen (m.attached == 0) Attached none) stands.0
+may-not-stand m (Tell s text) entry none stands = let e = unchosen (is_attached m s) (Told s text) none in let t = stands.0 in cc
+may-not-stand m (Take s) entry none stands = let e = unchosen (is_attached m s) (Taken s) none in let t = stands.0 in cc
+may-not-stand m (Run most moment) entry none stands = none-some (Ran (longest most m)) (sym none)
+
 entry-some : (m : Meaning) (text : List ℕ) (entry : Entry) (o : Option Line) → line_of text ≡ o → option_and_then (entry_at m) o ≡ Some entry → IsEntry m text entry
 entry-some m text entry None read is = absurd (none-some entry is)
-entry-some m text entry (Some line) read is = record { line = line; is = line-some text line read; stands = is }
+entry-some m text entry (Some line) read is = record { line = line; is = line-some text line read; stands = may-stand m line entry is }
 
 entry-none : (m : Meaning) (text : List ℕ) → entry_of m text ≡ None → (entry : Entry) → ¬ (IsEntry m text entry)
 entry-none m text none entry is =
-    none-some entry (sym none ∙ ap (λ o. option_and_then (entry_at m) o) (line-read text is.line is.is) ∙ is.stands)
+    may-not-stand m is.line entry (ap (λ o. option_and_then (entry_at m) o) (sym (line-read text is.line is.is)) ∙ none) is.stands
 
 -- ---- all lines, where none is refused
 

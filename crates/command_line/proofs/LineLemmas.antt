@@ -140,8 +140,7 @@ pub held-is : (bytes : List ℕ) (r : Option Held) → option_map line_held r �
 held-is bytes None read = tt
 held-is bytes (Some line) read = line-some bytes (line_held line) (sym read)
 
-pub held-isnt : (bytes : List ℕ) (r : Option Held) → option_map line_held r ≡ line_of bytes → IfNone r ((line : Line) → ¬ (IsLine bytes line))
-held-isnt bytes None read = λ line is. none-some line (read ∙ line-read bytes line is)
-held-isnt bytes (Some line) read = tt
+pub held-one : (bytes : List ℕ) (r : Option Held) → option_map line_held r ≡ line_of bytes → (line : Line) → IsLine bytes line → option_map line_held r ≡ Some line
+held-one bytes r read line is = read ∙ line-read bytes line is
 
-pub ruleset utf8 = (line_of-utf8, line_of-other, held-is, held-isnt)
+pub ruleset utf8 = (line_of-utf8, line_of-other, held-is, held-one)

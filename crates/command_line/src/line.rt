@@ -1,5 +1,5 @@
 // The lines of a journal.
-ghost use Rattle.std.specs.Prelude.{◌≡◌, ◌<◌, ℕ, Some, None, IfSome, IfNone};
+ghost use Rattle.std.specs.Prelude.{◌≡◌, ◌<◌, ℕ, Some, IfSome};
 ghost use Rattle.std.specs.Option.{option_map};
 ghost use Rattle.cdp_text.specs.Parts.{Halves};
 ghost use Rattle.command_line.specs.Lines.{Line as Meant, IsLine, IsInForm, line_text, line_of, line_of_text, tell_rest, take_rest, run_rest};
@@ -33,7 +33,7 @@ pub(crate) enum Line<'t> {
 pub(crate) fn read_line(bytes: &[u8]) -> Option<Line<'_>>
     ensures value { option_map line_held result ≡ line_of bytes.now }
     ensures is { IfSome result (λ line. IsLine bytes.now (line_held line)) }
-    ensures isnt { IfNone result ((line : Meant) → ¬ (IsLine bytes.now line)) }
+    ensures one { (line : Meant) → IsLine bytes.now line → option_map line_held result ≡ Some line }
 {
     match str::from_utf8(bytes) {
         Ok(text) => read_text(text),
