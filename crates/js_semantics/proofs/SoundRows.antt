@@ -30,13 +30,10 @@ use Rattle.js_semantics.specs.Functions.{Program, function_cell, with_functions}
 use Rattle.js_semantics.specs.Rows.{only, script_row, enter_row, block_row, chosen, kept_or, otherwise, turn_or_end, copy_of, copied, loop_row, for_in, enter_for_row, enter_for_of_row, list_row, element_of, elements_of, body_part, turn_row, type_of_found, comma_row, compound_row, update_value, updated_by, update_row, assign_row, callee_this, callee_row, with_computed, properties_from, object_or_fail, object_row, ending_row, row, catch_row, taken}
 use Rattle.js_semantics.specs.Sound.{SoundCompletion, SoundKept, SoundForm, SoundTerm, SoundTerms, SoundState, HasBuiltIns, Later, SoundAction}
 use Rattle.js_semantics.proofs.SoundTerms.{later-trans, sound-term, sound-terms, sound-values, joined-sound, dones-sound, at_test-sound, at_update-sound, at_body-sound, settled-sound, settle-sound}
-use Rattle.js_semantics.proofs.SoundValues.{SoundK, SoundThen, SoundResult, give-sound, leads-as, make_text-sound, make_object-sound, fail-sound, with_result-sound, binary-sound, unary-sound, update-sound, SoundFound, found-sound, value_of_found-sound, get-value, with_key-sound, read_result-sound, get-sound, put-sound, remove-sound}
+use Rattle.js_semantics.proofs.SoundValues.{SoundK, SoundResult, give-sound, leads-as, make_text-sound, make_object-sound, fail-sound, with_result-sound, binary-sound, unary-sound, update-sound, SoundFound, found-sound, value_of_found-sound, get-value, with_key-sound, read_result-sound, get-sound, put-sound, remove-sound}
 use Rattle.js_semantics.proofs.SoundCalls.{argument-sound, last_of-sound, is-scope, this_of-sound, function-sound, functions-sound, names-sound, new_scope-sound, call-sound, choose_action}
 
 -- ---- scripts, statements and blocks
-
-go-then : (w : World) (t : Term) → SoundTerm w t → SoundThen w (go t)
-go-then w t h v l = sound-term w v l t h
 
 script-sound : (p : Program) (s : State) (number : ℕ) (names : List Binding) (later : Terms) → SoundState p s → SoundTerms s.world later → SoundAction s.world (script_row number names later)
 script-sound p s number names end h k = tt

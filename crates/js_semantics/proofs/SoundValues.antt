@@ -21,7 +21,7 @@ use Rattle.js_heap.specs.Cells.{Kind, kind_of, binding_of}
 use Rattle.js_heap.specs.World.{World, read_cell}
 use Rattle.js_heap.specs.Worlds.{Leads, IsTextKind, IsObjectKind, SoundValue, SoundBinding, SoundValues, SoundProperties, SoundNames, SoundCell, SoundChange, IsSound}
 use Rattle.js_heap.specs.BuiltIns.{function_value, message_property}
-use Rattle.js_heap.proofs.SoundLemmas.{sound-value, read-sound}
+use Rattle.js_heap.proofs.SoundLemmas.{read-sound}
 use Rattle.js_semantics.specs.Terms.{Reference, to_name, to_member, to_index}
 use Rattle.js_heap.specs.Values.{a_number, text_of, key_of, units_at, same_integer, class_text}
 use Rattle.js_heap.specs.declared.computed.Computed.{Computed as Result}
@@ -45,9 +45,6 @@ SoundThen w k = (v : World) → Later w v → SoundAction v k
 
 pub give-sound : (w : World) → SoundK w give
 give-sound w v l x h = h
-
-pub give-then : (w : World) (x : Value) → SoundValue w x → SoundThen w (give x)
-give-then w x h v l = sound-value w v l x h
 
 pub leads-as : (P : Kind → Type 0) (c : Cell) (o : Option Cell) → P (kind_of c) → Leads (λ k. k ≡ kind_of c) o → Leads P o
 leads-as P c None p h = absurd h

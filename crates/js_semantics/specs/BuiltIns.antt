@@ -113,10 +113,6 @@ abbrev pub pop_last : Addr → List Value → Action
 pop_last a [] = give values.Undefined
 pop_last a (v ∷ vs) = write a (changes.Length (length vs)) (give (last_of (v ∷ vs)))
 
-abbrev pub index_or_none : Option ℕ → ℤ
-index_or_none (Some i) = pos i
-index_or_none None = negsuc 0
-
 abbrev pub first_same : World → ℕ → List Value → Value → ℤ
 first_same w i [] v = negsuc 0
 first_same w i (u ∷ us) v = if is_same w u v then pos i else first_same w (i + 1) us v

@@ -114,9 +114,3 @@ abbrev pub remove : World → Reference → List Value → Action → Action
 remove w (to_member key) (o ∷ vs) k = with_written (property_deleted w o key) k
 remove w to_index (o ∷ i ∷ vs) k = with_key (key_of w i) (λ key. with_written (property_deleted w o key) k)
 remove w _ vs k = give values.Undefined
-
--- how many parts a reference has
-abbrev pub parts_count : Reference → ℕ
-parts_count (to_name n) = 0
-parts_count (to_member key) = 1
-parts_count to_index = 2

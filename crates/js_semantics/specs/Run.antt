@@ -1,5 +1,5 @@
 -- Runs: steps one after another, from the start of the scripts to their end.
-use Rattle.std.specs.Prelude.{ℕ, zero, suc, ◌+◌, List, [], ◌∷◌, ◌++◌, length, Option, Some, None}
+use Rattle.std.specs.Prelude.{ℕ, zero, suc, ◌+◌, List, [], ◌∷◌, ◌++◌, length}
 use Rattle.js_heap.specs.declared.value.Addr.{Addr}
 use Rattle.js_heap.specs.declared.value.Addr.TheVariants.{Base}
 use Rattle.js_heap.specs.declared.value.Value.{Value}
@@ -123,10 +123,6 @@ state_of (over f s) = s
 -- what a run has printed
 abbrev pub printed_of : Run → List (List ℕ)
 printed_of r = (state_of r).printed
-
-abbrev pub finish_of : Run → Option Finish
-finish_of (running t s) = None
-finish_of (over f s) = Some f
 
 -- what k steps have printed
 abbrev pub out : ℕ → Terms → List (List ℕ) → List (List ℕ)

@@ -30,10 +30,6 @@ pub record State : Type 0 where
   pub input : List (List ℕ)
   pub printed : List (List ℕ)
 
-pub record Configuration : Type 0 where
-  pub term : Term
-  pub state : State
-
 -- what a step tells besides
 pub data Told : Type 0 where
   went : Told
