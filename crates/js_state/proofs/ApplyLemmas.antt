@@ -1,5 +1,5 @@
 -- Lemmas on changes by the kind of the cell.
-use Rattle.std.proofs.Common.{◌≡◌, ℕ, Bool, true, false, List, length, Option, Some, None, refl, ap, if◌then◌else◌}
+use Rattle.std.proofs.Common.{◌≡◌, ℕ, Bool, true, false, List, length, Option, Some, None, ap, if◌then◌else◌}
 use Rattle.std.specs.Prelude.{IfSome, is_some, nat_le, Result, Ok, Err, OnOk}
 use Rattle.std.specs.declared.alloc.AllocError.{AllocError}
 use Rattle.js_heap.specs.declared.value.Addr.{Addr}
@@ -62,9 +62,5 @@ array-changed (Err e) vs us c h = tt
 pub names-changed : (r : Result (Unit {0}) AllocError) (k : ScopeKind) (f : List ℕ) (o : Option Addr) (ns ms : List Binding) (c : Change) → OnOk r (IfSome (changed_names ns c) (λ new. ms ≡ new)) → OnOk r (IfSome (changed (cells.Bindings k f o ns) c) (λ new. cells.Bindings k f o ms ≡ new))
 names-changed (Ok u) k f o ns ms c h = names k f o ns ms c h
 names-changed (Err e) k f o ns ms c h = tt
-
--- a text and a function have no change
-pub unchanged : (c : Change) (us : List ℕ) → changed (cells.Text us) c ≡ None
-unchanged c us = refl
 
 pub ruleset apply_rules = (object-changed, error-changed, array-changed, names-changed)

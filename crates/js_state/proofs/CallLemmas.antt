@@ -51,11 +51,6 @@ texts-stop ts i t made s m n r e l f h g q =
 push_at : (a : Addr) (l : ℕ) (vs : List Value) (i : ℕ) → i < length vs → push_all a l (drop i vs) ≡ write a (changes.Element l (get_or vs i values.Undefined)) (push_all a (l + 1) (drop (i + 1) vs))
 push_at a l vs i h = ap (λ xs. push_all a l xs) (cons_at vs i values.Undefined h)
 
-pub push-step : (a : Addr) (first l next : ℕ) (vs : List Value) (i : ℕ) (s m n : State) → i < length vs → performed (push_all a first vs) s ≡ performed (push_all a l (drop i vs)) m → next ≡ l + 1 →
-    ((k : Action) → performed (write a (changes.Element l (get_or vs i values.Undefined)) k) m ≡ performed k n) → performed (push_all a first vs) s ≡ performed (push_all a next (drop (i + 1) vs)) n
-push-step a first l next vs i s m n h inv e g =
-    inv ∙ ap (λ x. performed x m) (push_at a l vs i h) ∙ g (push_all a (l + 1) (drop (i + 1) vs)) ∙ ap (λ x. performed (push_all a x (drop (i + 1) vs)) n) (sym e)
-
 pub push-stop : (a : Addr) (first l : ℕ) (vs : List Value) (i : ℕ) (s m n : State) (r : Result Value Stop) (e : Stop) → i < length vs → performed (push_all a first vs) s ≡ performed (push_all a l (drop i vs)) m →
     ((k : Action) → Stops (write a (changes.Element l (get_or vs i values.Undefined)) k) m e n) → IsErrAnd r (λ d. d ≡ e) → Gives (push_all a first vs) s r n
 push-stop a first l vs i s m n r e h inv g q =

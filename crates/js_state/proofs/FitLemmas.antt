@@ -1,5 +1,5 @@
 -- Lemmas on what cells fit.
-use Rattle.std.proofs.Common.{◌≡◌, ℕ, zero, suc, ◌+◌, ◌-◌, ◌^◌, ◌<◌, ◌≤◌, true, false, ap, ◌∙◌, if◌then◌else◌, List, [], ◌∷◌, ◌++◌, length, Some, None, refl, arith, length-append, length-set, sym, subst, get_or}
+use Rattle.std.proofs.Common.{◌≡◌, ℕ, zero, suc, ◌+◌, ◌-◌, ◌^◌, ◌<◌, ◌≤◌, true, ap, ◌∙◌, if◌then◌else◌, List, [], ◌∷◌, ◌++◌, length, Some, None, refl, arith, length-append, length-set, sym, subst, get_or}
 use Rattle.std.specs.Prelude.{slice_get, slice_set, is_some, nat_le, Option, IfSome, min}
 use Rattle.std.proofs.lemmas.Option.{slice_get_within, get_or_from_slice_get}
 use Rattle.js_heap.specs.declared.cell.Cell.{Cell}
@@ -10,7 +10,7 @@ use Rattle.js_heap.specs.declared.change.Change.{Change}
 use Rattle.js_heap.specs.declared.change.Counted.TheVariants as counted
 use Rattle.js_heap.specs.World.{World, Tried, fine, full, written, written_at, write_cell, replaced, room_after}
 use Rattle.js_heap.specs.Cells.{weight, changed}
-use Rattle.js_state.specs.Fits.{changeable, held, Fit, AllShort, plain_world, change_of, IsUnchanged, IsChangedAt}
+use Rattle.js_state.specs.Fits.{changeable, held, Fit, AllShort, plain_world, change_of, IsChangedAt}
 use Rattle.js_state.specs.Texts.{elements_of_cell, elements_at}
 use Rattle.js_values.specs.Safe.{IsShort, IsSmall, IsShortValue, IsSmallValue}
 use Rattle.js_heap.specs.declared.value.Value.{Value}
@@ -65,19 +65,6 @@ made-fit cs n u m c f e h k = record {
 }
 
 -- ---- writing
-
-unwritten_by : (w : World) (a : Addr) (old : Cell) (d : Option Cell) → is_some d ≡ false → written w a old d ≡ fine tt w
-unwritten_by w a old None h = refl
-unwritten_by w a old (Some new) h = cc
-
-unwritten : (w : World) (a : Addr) (o : Option Cell) (c : Change) → is_some (change_of o c) ≡ false → written_at w a o c ≡ fine tt w
-unwritten w a None c h = refl
-unwritten w a (Some old) c h = unwritten_by w a old (changed old c) h
-
--- what is no change leaves the world
-pub none-written : (cs : List Cell) (n u : ℕ) (a : Addr) (c : Change) → IsUnchanged cs a c → write_cell (plain_world cs n u) a c ≡ fine tt (plain_world cs n u)
-none-written cs n u (Base i) c h = unwritten (plain_world cs n u) (Base i) (slice_get cs i) c h
-none-written cs n u (Scratch i) c h = refl
 
 -- a cell with a change of its kind, and the cell that it becomes
 pub record Changes (o : Option Cell) (c : Change) : Type 0 where

@@ -39,9 +39,6 @@ pub ruleset last_rules = (last-at)
 
 -- ---- joins
 
-none_with : (t : List ℕ) → with_part (Some t) None ≡ None
-none_with t = refl
-
 -- a join that fails further on fails
 pub parts-none : (ts : List (List ℕ)) → with_parts ts None ≡ None
 parts-none [] = refl

@@ -1,6 +1,5 @@
 -- Lemmas on what cells count.
 use Rattle.std.proofs.Common.{◌≡◌, ℕ, suc, ◌+◌, ◌*◌, ◌≤◌, Bool, true, false, List, [], ◌∷◌, length, Some, None, refl, sym, ap, arith, if◌then◌else◌}
-use Rattle.std.specs.Prelude.{nat_eq, ◌&&◌}
 use Rattle.js_heap.specs.declared.value.Value.{Value}
 use Rattle.js_heap.specs.declared.cell.Property.{Property}
 use Rattle.js_heap.specs.Keys.{same_units, stands_before, index_of_key, has_key, with_value, placed, without_key, put_property, assigned}
@@ -12,17 +11,6 @@ use Rattle.js_heap.specs.declared.cell.ScopeKind.{ScopeKind}
 use Rattle.js_heap.specs.declared.cell.Cell.TheVariants as cells
 use Rattle.js_heap.specs.declared.change.Change.TheVariants as changes
 use Rattle.js_state.specs.Fits.{more_by, less_by}
-
--- the same units are as many
-and_true : (b c : Bool) → (b && c) ≡ true → c ≡ true
-and_true true c h = h
-and_true false c h = cc
-
-pub same_length : (us vs : List ℕ) → same_units us vs ≡ true → length us ≡ length vs
-same_length [] [] h = refl
-same_length [] (v ∷ vs) h = cc
-same_length (u ∷ us) [] h = cc
-same_length (u ∷ us) (v ∷ vs) h = ap (λ n. suc n) (same_length us vs (and_true (nat_eq u v) (same_units us vs) h))
 
 with_if : (b : Bool) (p : Property) (ps qs : List Property) (v : Value) → properties_weight qs ≡ properties_weight ps → properties_weight (if b then record p { value = v } ∷ ps else p ∷ qs) ≡ properties_weight (p ∷ ps)
 with_if true p ps qs v e = refl

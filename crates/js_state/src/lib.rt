@@ -13,8 +13,5 @@ pub mod shown;
 mod start;
 pub mod state;
 pub mod stop;
-#[cfg(test)]
-mod tests;
-mod text;
 mod weight;
 pub mod world;

@@ -5,16 +5,15 @@ ghost use Rattle.js_heap.specs.declared.value.Addr.{Addr as AnyAddr};
 ghost use Rattle.js_semantics.specs.References.{Found, found_in, found_outward, found_within};
 ghost use Rattle.js_state.specs.Names.{found_name, looked_on, value_of_name, written_name};
 
-use crate::text::quoted;
 use cdp_text::units::Units;
 use js_heap::built_in::ErrorClass;
 use js_heap::cell::Cell;
 use js_heap::change::Change;
+use js_heap::computed::{Computed, Written};
 use js_heap::properties::binding_of;
 use js_heap::reading::Cells;
 use js_heap::value::{Addr, Value};
-use js_heap::computed::{Computed, Written};
-use js_values::text::ascii;
+use js_values::text::{ascii, quoted};
 use std::alloc::{AllocError, Global};
 
 /// A name that was found: the scope that has it, and its binding's flag and value.

@@ -9,8 +9,8 @@ use js_heap::cell::{Cell, Property};
 use js_heap::properties::property_at;
 use js_heap::reading::Cells;
 use js_heap::value::Value;
-use js_values::operators::{bool_text, joined, number_text};
-use js_values::text::ascii;
+use js_values::operators::{bool_text, number_text};
+use js_values::text::{ascii, joined};
 use js_values::values::{class_text, units_at};
 use std::alloc::{AllocError, Global};
 
