@@ -153,14 +153,27 @@ fn finished_loop(
     }
 }
 
-/// A form with its parts after a step in one of them.
+/// A form with its parts, the first of which a step has come to.
 pub fn settled(alloc: Global, form: Form, now: Terms, later: Terms) -> Result<Term, AllocError>
     ensures { IfOk result (λ t. term_view t ≡ semantics.settled form (terms_view now) (terms_view later)) }
 {
+    resettled(alloc, Box::new(alloc, form)?, now, later)
+}
+
+/// A form with its parts after a step in one of them, in the memory that the form has.
+#[tactic(auto, using(crate::proofs::TermLaws::term_laws))]
+pub fn resettled(
+    alloc: Global,
+    form: Box<Form>,
+    now: Terms,
+    later: Terms,
+) -> Result<Term, AllocError>
+    ensures { IfOk result (λ t. term_view t ≡ semantics.settled form.value (terms_view now) (terms_view later)) }
+{
     if all_done(&now) {
-        return finished(alloc, form, now, later);
+        return finished(alloc, Box::into_inner(form), now, later);
     }
-    part(alloc, form, now, later)
+    Ok(Term::Part { form, now, later })
 }
 
 /// A part of a tree as it is where it is about to be reduced.
@@ -169,7 +182,7 @@ pub fn settle(alloc: Global, term: Term) -> Result<Term, AllocError>
     ensures { IfOk result (λ t. term_view t ≡ semantics.settle (term_view term)) }
 {
     match term {
-        Term::Part { form, now, later } => settled(alloc, Box::into_inner(form), now, later),
+        Term::Part { form, now, later } => resettled(alloc, form, now, later),
         Term::Done(value) => Ok(Term::Done(value)),
         Term::Standing(value, spot) => Ok(Term::Standing(value, spot)),
     }
