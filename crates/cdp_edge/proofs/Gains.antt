@@ -1,9 +1,8 @@
 -- Gains in turn, and the first parts of what was offered.
-use Rattle.std.proofs.Common.{Result, Ok, Err, OnErr, ◌≡◌, ℕ, zero, suc, ◌+◌, ◌-◌, ◌≤◌, length-drop, List, [], ◌∷◌, ◌++◌, length, take, drop, Option, Some, None, refl, ap, sym, ◌∙◌, suc-add, append_assoc, get_or, ◌<◌, arith}
+use Rattle.std.proofs.Common.{Result, Ok, Err, OnErr, ◌≡◌, ◌≢◌, ℕ, zero, suc, ◌+◌, ◌-◌, ◌≤◌, length-drop, List, [], ◌∷◌, ◌++◌, length, take, drop, Option, Some, None, refl, ap, sym, ◌∙◌, suc-add, append_assoc, ◌<◌, arith}
 use Rattle.std.proofs.lemmas.Grind.{common_steps}
-use Rattle.std.proofs.lemmas.List.{take_all, take-append-drop, take_more}
-use Rattle.std.specs.List.{flat_map}
-use Rattle.cdp_edge.specs.Outside.{gains, GainsPrefix, Told}
+use Rattle.std.proofs.lemmas.List.{take_all, take-append-drop}
+use Rattle.cdp_edge.specs.Outside.{gains, GainsPrefix, GainsLess, Told}
 
 -- to gain one and then the other is to gain both
 pub gains-append : (old : Option (List ℕ)) (xs ys : List ℕ) → gains (gains old xs) ys ≡ gains old (xs ++ ys)
@@ -35,25 +34,11 @@ pub Told-GainsPrefix : {A : Type 0} (told : Option A) (content : Option (List �
 Told-GainsPrefix None content bytes = tt
 Told-GainsPrefix (Some a) content bytes = GainsPrefix-refl content (bytes a)
 
--- all of it is a first part of it
-pub GainsPrefix-whole : (old new : Option (List ℕ)) (bytes : List ℕ) → new ≡ gains old bytes → GainsPrefix old new bytes
-GainsPrefix-whole old new bytes whole = (bytes, [], grind (arith, common_steps), whole)
-
 -- a first part of what comes next is one of all
 pub GainsPrefix-behind : (old now new : Option (List ℕ)) (done bytes more all : List ℕ)
     → now ≡ gains old done → all ≡ done ++ bytes ++ more → GainsPrefix now new bytes → GainsPrefix old new all
 GainsPrefix-behind old now new done bytes more all is parts (part, rest, e, g) =
     (done ++ part, rest ++ more, parts ∙ grind (arith, common_steps, e), g ∙ ap (λ o. gains o part) is ∙ gains-append old done part)
-
--- the pieces before i, the one at i and those behind it
-flat_map-split : {X : Type 0} (f : X → List ℕ) (xs : List X) (i : ℕ) (x : X) (bytes : List ℕ)
-    → bytes ≡ f x → x ≡ get_or xs i x → i < length xs
-    → flat_map f xs ≡ flat_map f (take i xs) ++ bytes ++ flat_map f (drop (i + 1) xs)
-flat_map-split f xs i x bytes piece at within =
-    let front : take (i + 1) xs ≡ take i xs ++ x ∷ [] = take_more xs i x within ∙ ap (λ y. take i xs ++ y ∷ []) (sym at) in
-    let whole : xs ≡ (take i xs ++ x ∷ []) ++ drop (i + 1) xs =
-    sym (take-append-drop (i + 1) xs) ∙ ap (λ first. first ++ drop (i + 1) xs) front in
-    ap (λ all. flat_map f all) whole ∙ grind (arith, common_steps, piece)
 
 -- the same where a call answered a fault
 pub OnErr-GainsPrefix-behind : {T E : Type 0} (r : Result T E) (old now new : Option (List ℕ)) (done bytes more all : List ℕ)
@@ -61,21 +46,6 @@ pub OnErr-GainsPrefix-behind : {T E : Type 0} (r : Result T E) (old now new : Op
 OnErr-GainsPrefix-behind (Ok value) old now new done bytes more all is parts part = tt
 OnErr-GainsPrefix-behind (Err fault) old now new done bytes more all is parts part =
     GainsPrefix-behind old now new done bytes more all is parts part
-
--- the same of the last of several calls, where it may have answered a fault
-pub OnErr-GainsPrefix-last : {T E : Type 0} (r : Result T E) (old now new : Option (List ℕ)) (done bytes : List ℕ)
-    → now ≡ gains old done → OnErr r (GainsPrefix now new bytes) → OnErr r (GainsPrefix old new (done ++ bytes))
-OnErr-GainsPrefix-last (Ok value) old now new done bytes is part = tt
-OnErr-GainsPrefix-last (Err fault) old now new done bytes is part =
-    GainsPrefix-behind old now new done bytes [] (done ++ bytes) is (grind (arith, common_steps)) part
-
--- the same of the pieces that a list gives, of which the one at i answered a fault
-pub OnErr-GainsPrefix-flat_map : {T E X : Type 0} (r : Result T E) (old now new : Option (List ℕ)) (f : X → List ℕ) (xs : List X) (i : ℕ) (x : X) (bytes : List ℕ)
-    → now ≡ gains old (flat_map f (take i xs)) → GainsPrefix now new bytes → bytes ≡ f x → x ≡ get_or xs i x → i < length xs
-    → OnErr r (GainsPrefix old new (flat_map f xs))
-OnErr-GainsPrefix-flat_map r old now new f xs i x bytes is part piece at within =
-    OnErr-GainsPrefix-behind r old now new (flat_map f (take i xs)) bytes (flat_map f (drop (i + 1) xs)) (flat_map f xs) is
-    (flat_map-split f xs i x bytes piece at within) part
 
 -- a first part is one of anything longer
 pub GainsPrefix-append : (old new : Option (List ℕ)) (bytes more : List ℕ) → GainsPrefix old new bytes → GainsPrefix old new (bytes ++ more)
@@ -102,17 +72,38 @@ gains-step old now new xs i n within before after =
     let e : take (length xs - i) (drop i xs) ≡ drop i xs = take_all (length xs - i) (drop i xs) (omega (arith, length-drop i xs)) in
     gains-next old now new (take i xs) (take n (drop i xs)) (take (i + n) xs) before (rw e at after) (take-plus xs i n)
 
--- the first i are a first part of all
-pub OnErr-GainsPrefix-take : {T E : Type 0} (r : Result T E) (old now new : Option (List ℕ)) (xs : List ℕ) (i : ℕ)
-    → now ≡ gains old (take i xs) → new ≡ now → OnErr r (GainsPrefix old new xs)
-OnErr-GainsPrefix-take (Ok done) old now new xs i is same = tt
-OnErr-GainsPrefix-take (Err e) old now new xs i is same = (take i xs, drop i xs, sym (take-append-drop i xs), same ∙ is)
+-- the first i are not all of more than i
+pub OnErr-GainsLess-take : {T E : Type 0} (r : Result T E) (old now new : Option (List ℕ)) (xs : List ℕ) (i : ℕ)
+    → i < length xs → now ≡ gains old (take i xs) → new ≡ now → OnErr r (GainsLess old new xs)
+OnErr-GainsLess-take (Ok done) old now new xs i below is same = tt
+OnErr-GainsLess-take (Err e) old now new xs i below is same =
+    let left : length (drop i xs) ≡ length xs - i = length-drop i xs in
+    (take i xs, drop i xs, (λ none. omega (arith, ap length none, left)), sym (take-append-drop i xs), same ∙ is)
+
+-- bytes with more behind them aren't none
+some-append : (xs ys : List ℕ) → xs ≢ [] → xs ++ ys ≢ []
+some-append [] ys some = λ none. some refl
+some-append (x ∷ xs) ys some = λ none. cc
+
+-- what lacks some bytes is a first part
+pub GainsLess-part : (old new : Option (List ℕ)) (bytes : List ℕ) → GainsLess old new bytes → GainsPrefix old new bytes
+GainsLess-part old new bytes less = (less.0, less.1, less.3, less.4)
+
+-- not all of what comes next is not all of it and more
+pub GainsLess-behind : (old now new : Option (List ℕ)) (done bytes more all : List ℕ)
+    → now ≡ gains old done → all ≡ done ++ bytes ++ more → GainsLess now new bytes → GainsLess old new all
+GainsLess-behind old now new done bytes more all is parts (part, rest, some, e, g) =
+    (done ++ part, rest ++ more, some-append rest more some, parts ∙ grind (arith, common_steps, e), g ∙ ap (λ o. gains o part) is ∙ gains-append old done part)
+
+-- the same where a call answered a fault
+pub OnErr-GainsLess-behind : {T E : Type 0} (r : Result T E) (old now new : Option (List ℕ)) (done bytes more all : List ℕ)
+    → now ≡ gains old done → all ≡ done ++ bytes ++ more → GainsLess now new bytes → OnErr r (GainsLess old new all)
+OnErr-GainsLess-behind (Ok value) old now new done bytes more all is parts less = tt
+OnErr-GainsLess-behind (Err fault) old now new done bytes more all is parts less =
+    GainsLess-behind old now new done bytes more all is parts less
 
 -- for a loop that offers a slice from a place on
-pub ruleset slices = (gains-append, gains-nil, gains-step, OnErr-GainsPrefix-take)
+pub ruleset slices = (gains-append, gains-nil, gains-step, OnErr-GainsLess-take)
 
 -- for calls in turn, each of which offers a part
 pub ruleset parts = (gains-append, gains-nil, OnErr-GainsPrefix-append)
-
--- for exits before anything was offered
-pub ruleset untouched = (gains-nil, GainsPrefix-refl, Told-GainsPrefix)

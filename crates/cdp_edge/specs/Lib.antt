@@ -3,3 +3,4 @@ pub mod FaultLog
 pub mod MemShelf
 pub mod MemSink
 pub mod Outside
+pub mod WriterSink

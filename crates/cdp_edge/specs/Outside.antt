@@ -1,5 +1,5 @@
 -- What the calls of the outside say of its counts, its content and the calls that failed.
-use Rattle.std.specs.Prelude.{Result, Ok, Err, ◌<◌, ◌+◌, ◌==◌, ◌≡◌, ◌⊎◌, ℕ, List, [], ◌∷◌, ◌++◌, Option, Some, None, bytes_eq, if◌then◌else◌}
+use Rattle.std.specs.Prelude.{Result, Ok, Err, ◌<◌, ◌+◌, ◌==◌, ◌≡◌, ◌≢◌, ◌⊎◌, ℕ, List, [], ◌∷◌, ◌++◌, Option, Some, None, bytes_eq, if◌then◌else◌}
 use Rattle.std.specs.declared.vec.Vec.{Vec}
 use Rattle.std.specs.declared.alloc.Global.{Global}
 use Rattle.cdp_edge.specs.Blame.{Call, Faults, Blames, blamed}
@@ -30,6 +30,10 @@ gains (Some old) bytes = Some (old ++ bytes)
 -- it gained some first bytes of these, and nothing else
 abbrev pub GainsPrefix : Option (List ℕ) → Option (List ℕ) → List ℕ → Type 0
 GainsPrefix old new bytes = (part rest : List ℕ) × (bytes ≡ part ++ rest) × (new ≡ gains old part)
+
+-- it gained some first bytes of these, but not all of them, and nothing else
+abbrev pub GainsLess : Option (List ℕ) → Option (List ℕ) → List ℕ → Type 0
+GainsLess old new bytes = (part rest : List ℕ) × (rest ≢ []) × (bytes ≡ part ++ rest) × (new ≡ gains old part)
 
 -- what holds of the content, where it is told
 abbrev pub Told : {A : Type 0} → Option A → (A → Type 0) → Type 0

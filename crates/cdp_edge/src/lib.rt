@@ -7,8 +7,6 @@ mod mem_shelf;
 mod mem_sink;
 mod shelf;
 mod sink;
-#[cfg(test)]
-mod tests;
 mod writer_sink;
 
 pub use file_shelf::FileShelf;

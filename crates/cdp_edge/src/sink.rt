@@ -1,6 +1,6 @@
 //! A sink takes bytes, counts its faults and may tell what it took.
 ghost use Rattle.std.specs.Prelude.{◌≡◌, ◌≤◌, ◌<◌, List, ℕ, Option, length, take, IfOk, OnOk, OnErr, IsErrOf};
-ghost use Rattle.cdp_edge.specs.Outside.{Rose, gains, GainsPrefix};
+ghost use Rattle.cdp_edge.specs.Outside.{Rose, gains, GainsLess};
 
 use thiserror::Error;
 
@@ -27,14 +27,16 @@ pub trait Sink: Send + Drop {
     ///
     /// # Errors
     ///
-    /// `Failed` only where the count rose, or stands at the greatest `u64`; `Memory` at want of
-    /// memory. After either nothing of the piece was taken.
+    /// `Failed`, and the count rose, or stands at the greatest `u64`; `Memory` at want of memory, and
+    /// the count is as it was. After either nothing of the piece was taken.
     fn write(&mut self, piece: &[u8]) -> Result<usize, SinkFault>
         ensures within { IfOk result (λ n. n ≤ length piece.now) }
         ensures some { IfOk result (λ n. 0 < length piece.now → 0 < n) }
         ensures taken { IfOk result (λ n. content self.new ≡ gains (content self.old) (take n piece.now)) }
         ensures nothing { OnErr result (content self.new ≡ content self.old) }
         ensures count { faults self.old ≤ faults self.new }
+        ensures quiet { OnOk result (faults self.new ≡ faults self.old) }
+        ensures memory { IsErrOf result SinkFault.Memory → faults self.new ≡ faults self.old }
         ensures failed { IsErrOf result SinkFault.Failed → Rose (faults self.old) (faults self.new) };
 }
 
@@ -42,12 +44,13 @@ pub trait Sink: Send + Drop {
 ///
 /// # Errors
 ///
-/// Those of [`Sink::write`]. A first part of the piece was then taken.
+/// Those of [`Sink::write`]. Some first bytes of the piece were then taken, but not all. A write that failed isn't tried again.
 #[tactic(auto, using(crate::proofs::Gains::slices))]
 pub fn put<O: Sink>(out: &mut O, piece: &[u8]) -> Result<(), SinkFault>
     ensures ok { OnOk result (O.content out.new ≡ gains (O.content out.old) piece.now) }
-    ensures err { OnErr result (GainsPrefix (O.content out.old) (O.content out.new) piece.now) }
-    ensures count { O.faults out.old ≤ O.faults out.new }
+    ensures err { OnErr result (GainsLess (O.content out.old) (O.content out.new) piece.now) }
+    ensures quiet { OnOk result (O.faults out.new ≡ O.faults out.old) }
+    ensures memory { IsErrOf result SinkFault.Memory → O.faults out.new ≡ O.faults out.old }
     ensures failed { IsErrOf result SinkFault.Failed → Rose (O.faults out.old) (O.faults out.new) }
 {
     let mut at = 0;

@@ -1,5 +1,6 @@
-//! A sink over an output stream. It tells nothing of its content.
+//! A sink over an output stream. It tells no content of its own: what a writer holds is known of some writers alone.
 ghost use Rattle.std.specs.Prelude.{◌≡◌, ◌≤◌, ◌<◌, None, length, IfOk};
+ghost use Rattle.std.specs.Io.KnownBytes.{WriteAppends};
 ghost use Rattle.cdp_edge.specs.Outside.{count_after};
 
 use crate::{Sink, SinkFault};
@@ -9,7 +10,7 @@ use std::marker::Model;
 /// How often a write that was interrupted is tried.
 const TRIES: u32 = 1000;
 
-/// A sink over a writer. A contract sees its count of faults.
+/// A sink over a writer. A contract sees what its writer holds, where that is known, and its count of faults.
 #[derive(Drop)]
 pub struct WriterSink<W: Write + Send + Drop> {
     to: W,
@@ -17,26 +18,28 @@ pub struct WriterSink<W: Write + Send + Drop> {
 }
 
 impl<W: Write + Send + Drop> Model for WriterSink<W> {
-    ghost use Rattle.std.specs.Prelude.{ℕ};
+    ghost use Rattle.cdp_edge.specs.WriterSink.{WritingSink};
 
-    ghost Value = { ℕ };
+    ghost Value = { WritingSink };
 
-    ghost view = { λ a. a.faults };
+    ghost view = { λ a. record { holds = W.contents a.to; faults = a.faults } };
 }
 
 impl<W: Write + Send + Drop> WriterSink<W> {
     /// A sink that never failed.
     pub fn new(to: W) -> WriterSink<W>
-        ensures { result ≡ 0 }
+        ensures { result ≡ record { holds = W.contents to; faults = 0 } }
     {
         WriterSink { to, faults: 0 }
     }
 }
 
 /// Writes some first bytes of the piece, again where the write was interrupted.
+#[tactic(auto, using(crate::proofs::Writers::writes))]
 fn write_some<W: Write>(to: &mut W, piece: &[u8]) -> Result<usize, SinkFault>
     ensures within { IfOk result (λ n. n ≤ length piece.now) }
     ensures some { IfOk result (λ n. 0 < length piece.now → 0 < n) }
+    ensures bytes { WriteAppends (W.contents to.old) (W.contents to.new) result piece.now }
 {
     for _ in 0..TRIES {
         match to.write(piece) {
@@ -53,14 +56,15 @@ fn write_some<W: Write>(to: &mut W, piece: &[u8]) -> Result<usize, SinkFault>
 }
 
 impl<W: Write + Send + Drop> Sink for WriterSink<W> {
-    ghost faults = { λ sink. sink };
+    ghost faults = { λ sink. sink.faults };
 
     ghost content = { λ _. None };
 
     fn write(&mut self, piece: &[u8]) -> Result<usize, SinkFault>
         ensures within { IfOk result (λ n. n ≤ length piece.now) }
         ensures some { IfOk result (λ n. 0 < length piece.now → 0 < n) }
-        ensures counted { self.new ≡ count_after result self.old }
+        ensures bytes { WriteAppends self.old.holds self.new.holds result piece.now }
+        ensures counted { self.new.faults ≡ count_after result self.old.faults }
     {
         let answer = write_some(&mut self.to, piece);
         if let Err(SinkFault::Failed) = answer {

@@ -2,3 +2,4 @@ pub mod CommandLemmas
 pub mod RunLemmas
 pub mod HistoryLemmas
 pub mod RuleLemmas
+pub mod FeedLemmas

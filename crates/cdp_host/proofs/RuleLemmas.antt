@@ -113,9 +113,9 @@ ran-outbox script made (suc n) m is ready =
     ∙ rw (same, place, above) (stepped-outbox (plain script (made + suc n)) m.session (is_named m (plain script (made + suc n))) refl)
 
 -- what an entry hands out, and what waits behind it, is what waited and what it made
-keeps : (script : List ℕ) (made : ℕ) (m : Meaning) (entry : Entry) → m.program ≡ plain script made → FitsEntry m entry
+pub keeps : (script : List ℕ) (made : ℕ) (m : Meaning) (entry : Entry) → m.program ≡ plain script made → FitsEntry m entry
     → handed_at m entry ++ outbox_of (apply m entry) ≡ outbox_of m ++ texts_at script made m entry
-keeps script made m Attach is fits = rw fits refl
+keeps script made m Attach is fits = rw (fits.1) refl
 keeps script made m (Tell s text) is fits = choice-outbox (is_attached m s) _ m _ (tell-outbox m (command_of text))
 keeps script made m (Take s) is fits = take-outbox (is_attached m s) m m.session refl
 keeps script made m (Detach s) is fits = absurd fits

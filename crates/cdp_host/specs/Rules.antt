@@ -56,9 +56,9 @@ abbrev pub handed_of : Meaning → List Entry → List (List ℕ)
 handed_of m [] = []
 handed_of m (entry ∷ history) = handed_at m entry ++ handed_of (apply m entry) history
 
--- an entry of a journal: one session at most is attached, and a run is the longest one of at most some number of steps
+-- an entry of a journal: one session is attached at most once, and a run is the longest one of at most some number of steps
 abbrev pub FitsEntry : Meaning → Entry → Type 0
-FitsEntry m Attach = m.session ≡ None
+FitsEntry m Attach = (m.attached ≡ 0) × (m.session ≡ None)
 FitsEntry m (Tell s text) = Unit {0}
 FitsEntry m (Take s) = Unit {0}
 FitsEntry m (Detach s) = ⊥

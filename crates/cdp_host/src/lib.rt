@@ -8,8 +8,6 @@ mod method;
 mod refusal;
 mod session;
 mod state;
-#[cfg(test)]
-mod tests;
 
 pub use command::is_early;
 pub use host::{EarlyRan, Host, Told};

@@ -1,10 +1,10 @@
 -- Where the lines begin, and where they end.
-use Rattle.std.proofs.Common.{◌≡◌, ◌≢◌, ℕ, zero, suc, ◌+◌, ◌-◌, ◌<◌, ◌≤◌, ◌⊎◌, ◌↔◌, Bool, true, false, not, cond, ◌&&◌, eqb, List, [], ◌∷◌, ◌++◌, length, get_or, drop, Option, Some, None, refl, ap, sym, subst, ◌∙◌, arith, inl, inr, ⊎_elim, add-one, add-zero, length-append, length-drop, get_or-drop}
+use Rattle.std.proofs.Common.{◌≡◌, ◌≢◌, ℕ, zero, suc, ◌+◌, ◌-◌, ◌<◌, ◌≤◌, ◌⊎◌, ◌↔◌, Bool, true, false, not, cond, eqb, List, [], ◌∷◌, ◌++◌, length, get_or, drop, Option, Some, None, refl, ap, sym, subst, ◌∙◌, arith, inl, inr, ⊎_elim, add-one, add-zero, length-append, length-drop, get_or-drop}
 use Rattle.std.specs.Prelude.{slice_get, option_map, unwrap_or, MatchOption, MatchResult, Result, Ok, Err, IfSome, IsNone, ⊤}
 use Rattle.std.specs.Ordering.{nat_cmp}
 use Rattle.std.specs.List.Sorted.{IsBinarySearchResult}
 use Rattle.std.specs.List.{prefix_len}
-use Rattle.std.proofs.lemmas.Bool.{cases_lt, cases_Bool, ne_eqb, eqb-true, eq-eqb, false≢true}
+use Rattle.std.proofs.lemmas.Bool.{cases_lt, cases_Bool, ne_eqb, eqb-true, eq-eqb, false≢true, and_parts, not-true}
 use Rattle.std.proofs.lemmas.List.{get_or_push, get_or_append_left, map-id, append-nil}
 use Rattle.std.proofs.lemmas.List.Folds.{length-prefix_len}
 use Rattle.std.proofs.lemmas.List.Sums.{prefix_len-le-length, prefix_len_is, prefix_len_passes, prefix_len_stops}
@@ -14,10 +14,6 @@ use Rattle.std.proofs.lemmas.List.FromFn.{filter_of_map_range_with_len_more}
 use Rattle.cdp_text.specs.declared.position.Pos.{Pos}
 use Rattle.cdp_text.specs.Position.{position, is_line_terminator, ends_line, is_inside_cr_lf, IsOffset, line_starts_below, line_starts, line_from, lines, IsPastLine}
 use Rattle.cdp_text.proofs.PositionLemmas.{position-zero, position_once, position-end, position-on, same_pos, ahead, IsOffset-once, outside_at_start}
-
-not_true : (b : Bool) → not b ≡ true → b ≡ false
-not_true true e = sym e
-not_true false e = refl
 
 not_false : (b : Bool) → not b ≡ false → b ≡ true
 not_false true e = refl
@@ -280,7 +276,7 @@ line_len_le u start h = omega (arith, prefix_len-le-length (λ c. not (is_line_t
 
 in_line : (u : List ℕ) (start k : ℕ) → k < line_len u start → is_line_terminator (get_or u (start + k) 0) ≡ false
 in_line u start k h =
-    not_true (is_line_terminator (get_or u (start + k) 0)) (rw (← get_or-drop start u k 0) (prefix_len_passes (λ c. not (is_line_terminator c)) (drop start u) k 0 h))
+    not-true (is_line_terminator (get_or u (start + k) 0)) (rw (← get_or-drop start u k 0) (prefix_len_passes (λ c. not (is_line_terminator c)) (drop start u) k 0 h))
 
 at_line_end : (u : List ℕ) (start : ℕ) → start + line_len u start < length u → is_line_terminator (get_or u (start + line_len u start) 0) ≡ true
 at_line_end u start h =
@@ -323,14 +319,10 @@ later_line u start end i ends from below =
     let to_end : (position u start).line ≤ (position u end).line = ⊎_elim (λ same. omega arith) (λ after. omega arith) (ahead u start end from) in
     ⊎_elim (λ same. omega arith) (λ after. omega arith) (ahead u (end + 1) i (omega arith))
 
-both_true : (a b : Bool) → (a && b) ≡ true → (a ≡ true) × (b ≡ true)
-both_true true b e = (refl, e)
-both_true false b e = absurd (false≢true e)
-
 -- the LF of a CR LF ends the line
 cr_lf-ends_line : (u : List ℕ) (i : ℕ) → is_inside_cr_lf u (suc i) ≡ true → ends_line u (suc i) ≡ true
 cr_lf-ends_line u i e =
-    let both = both_true (eqb (get_or u i 0) 0x0D) (eqb (get_or u (suc i) 0) 0x0A) e in
+    let both = and_parts (eqb (get_or u i 0) 0x0D) (eqb (get_or u (suc i) 0) 0x0A) e in
     let lf : get_or u (suc i) 0 ≡ 0x0A = eqb-true (get_or u (suc i) 0) 0x0A both.1 in
     rw lf refl
 

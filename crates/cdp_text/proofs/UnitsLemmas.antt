@@ -1,11 +1,11 @@
 -- Each text is what its UTF-16 form spells.
-use Rattle.std.proofs.Common.{◌≡◌, ℕ, ◌+◌, ◌-◌, ◌/◌, ◌%◌, ◌<◌, ◌≤◌, ◌⊎◌, Bool, true, false, ◌&&◌, List, [], ◌∷◌, ◌++◌, refl, ap, arith, inl, inr}
+use Rattle.std.proofs.Common.{◌≡◌, ℕ, ◌+◌, ◌-◌, ◌/◌, ◌%◌, ◌<◌, ◌≤◌, ◌⊎◌, true, List, [], ◌∷◌, ◌++◌, refl, ap, arith, inl, inr}
 use Rattle.std.specs.Prelude.{flat_map, chars, IsUtf8, Some}
 use Rattle.std.specs.Char.{IsScalar}
 use Rattle.std.specs.Char.Escape.{encode_utf16}
 use Rattle.std.specs.Char.Utf16.{utf16_chars, utf16_lossy_chars, surrogate_pair_char}
 use Rattle.std.proofs.Math.Utf8.{scalar, scalars, scalar_cases}
-use Rattle.std.proofs.lemmas.Bool.{cases_lt, false≢true, lt-ltb, le-ltb}
+use Rattle.std.proofs.lemmas.Bool.{cases_lt, lt-ltb, le-ltb, and_parts}
 use Rattle.std.proofs.lemmas.Bool.Decides.{nat_tests}
 use Rattle.std.proofs.lemmas.Str.{scalars-chars, encodes-chars, utf16_chars-nil}
 use Rattle.cdp_text.specs.Units.{utf16_of, utf8_of}
@@ -30,15 +30,11 @@ utf16_chars-encode_utf16 c us s =
       | inr ge ↦ rw (le-ltb c 0x1_0000 ge, two_units (0xD800 + (c - 0x1_0000) / 0x400) (0xDC00 + (c - 0x1_0000) % 0x400) us (omega arith) (omega arith) (omega arith) (omega arith)) (ap (λ d. Some d ∷ utf16_chars us) (omega arith))
     ]
 
-both_true : (a b : Bool) → (a && b) ≡ true → (a ≡ true) × (b ≡ true)
-both_true true b e = (refl, e)
-both_true false b e = absurd (false≢true e)
-
 -- the units of characters spell them
 utf16_lossy_chars-flat_map : (cs : List ℕ) → scalars cs ≡ true → utf16_lossy_chars (flat_map encode_utf16 cs) ≡ cs
 utf16_lossy_chars-flat_map [] s = rw utf16_chars-nil refl
 utf16_lossy_chars-flat_map (c ∷ cs) s =
-    let both = both_true (scalar c) (scalars cs) s in
+    let both = and_parts (scalar c) (scalars cs) s in
     rw (utf16_chars-encode_utf16 c (flat_map encode_utf16 cs) both.0) (ap (λ ds. c ∷ ds) (utf16_lossy_chars-flat_map cs both.1))
 
 -- the UTF-16 form of a text spells that text

@@ -42,34 +42,3 @@ fn read_digits(digits: &[u8]) -> Option<u64>
     }
     Some(number)
 }
-
-#[cfg(test)]
-mod tests {
-    use super::*;
-
-    #[test]
-    fn reads_shortest_decimals(rt: HostRuntime) {
-        for (text, want) in [
-            ("0", Some(0)),
-            ("7", Some(7)),
-            ("10", Some(10)),
-            ("9007199254740992", Some(0x20_0000_0000_0000)),
-            ("18446744073709551615", Some(u64::MAX)),
-            ("18446744073709551616", None),
-            ("18446744073709551620", None),
-            ("99999999999999999999999999999999999999999", None),
-            ("", None),
-            ("00", None),
-            ("01", None),
-            ("+1", None),
-            ("-1", None),
-            ("1 ", None),
-            ("1a", None),
-            ("1.0", None),
-            ("\u{0661}", None),
-        ] {
-            assert_eq!(rt; read_decimal(text), want, "{text}");
-            assert_eq!(rt; read_decimal_bytes(text.as_bytes()), want, "{text}");
-        }
-    }
-}

@@ -35,24 +35,3 @@ fn line_feed_at(text: &[u8]) -> Option<usize>
 {
     text.iter().position(|byte| *byte == b'\n')
 }
-
-#[cfg(test)]
-mod tests {
-    use super::*;
-
-    #[test]
-    fn cuts_lines(rt: HostRuntime) {
-        for (text, want) in [
-            ("", None),
-            ("a", Some(("a", ""))),
-            ("a\n", Some(("a", ""))),
-            ("\n", Some(("", ""))),
-            ("\n\n", Some(("", "\n"))),
-            ("a\r\nb", Some(("a\r", "b"))),
-            ("one\ntwo\nthree", Some(("one", "two\nthree"))),
-        ] {
-            let want = want.map(|(line, after): (&str, &str)| (line.as_bytes(), after.as_bytes()));
-            assert_eq!(rt; cut_line(text.as_bytes()), want, "{text:?}");
-        }
-    }
-}

@@ -22,29 +22,3 @@ pub fn halves(text: &str, separator: char) -> Option<(&str, &str)>
 {
     text.split_once(separator)
 }
-
-#[cfg(test)]
-mod tests {
-    use super::*;
-
-    #[test]
-    fn parts_of_texts(rt: HostRuntime) {
-        for (text, front, want) in [
-            ("tell 1", "tell ", Some("1")),
-            ("tell ", "tell ", Some("")),
-            ("tell", "tell ", None),
-            ("a tell 1", "tell ", None),
-            ("tell 1", "", Some("tell 1")),
-        ] {
-            assert_eq!(rt; behind(text, front), want, "{text:?} behind {front:?}");
-        }
-        for (text, want) in [
-            ("1 a b", Some(("1", "a b"))),
-            (" ", Some(("", ""))),
-            ("1", None),
-            ("", None),
-        ] {
-            assert_eq!(rt; halves(text, ' '), want, "{text:?}");
-        }
-    }
-}

@@ -1,20 +1,8 @@
 //! `debug_host` runs scripts and lets clients debug the run.
 #![tactic(auto)]
 
-mod act;
-mod line;
-mod outcome;
-mod output;
-mod play;
-mod program;
-mod replay;
-mod report;
-#[cfg(test)]
-mod tests;
-mod words;
-
 use cdp_edge::{FileShelf, WriterSink, put};
-use program::debug_main;
+use command_line::debug_main;
 use std::alloc::AllocError;
 use std::io::ErrorKind;
 use std::process::ExitCode;

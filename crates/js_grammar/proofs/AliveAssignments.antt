@@ -23,14 +23,16 @@ use Rattle.js_grammar.specs.Laws.{TakesExpression, SoundBelow}
 use Rattle.js_grammar.proofs.MarkLaws.{joins}
 use Rattle.js_grammar.proofs.TokenLaws.{faulty, ok_is, expect_sound, expect_again, expect_near_sound, name_again, name_sound}
 use Rattle.js_grammar.proofs.PartSound.{fresh_behind, names_before_sound, parameters_sound, seq_sound}
-use Rattle.js_grammar.proofs.HeadLaws.{start_name, start_function}
 use Rattle.js_grammar.proofs.OperatorSound.{operation_sound}
 use Rattle.js_grammar.proofs.PrimarySound.{call_sound}
-use Rattle.js_grammar.proofs.ExpressionSound.{no_brace, fresh_is, assignment_sound}
+use Rattle.js_grammar.proofs.ExpressionSound.{fresh_is, assignment_sound}
 use Rattle.js_grammar.proofs.AliveTools.{bind_err, cond_err, Counts, stuck_counts, a_token, a_near_token, Anything, Nothing, IsZero, Starts, is_firm, firm_append, Lives, fills, anything, from_nothing, ends_in, around, stopped, renamed, behind}
 use Rattle.js_grammar.proofs.AliveParts.{Fits, AliveBelow, zero_marks, flat_block, expect_near_err, parameters_lives, more_lives, seq_lives, made_err}
-use Rattle.js_grammar.proofs.AliveExpressions.{low_err, looser, whole_lives, token_lives, zero_token, start_parenthesis, IsFunctionOf, function_lives, operation_lives}
+use Rattle.js_grammar.proofs.AliveExpressions.{low_err, looser, whole_lives, token_lives, zero_token, IsFunctionOf, function_lives, operation_lives}
 use Rattle.js_grammar.proofs.FirmTrees.{expression_firm, firm_parameters}
+use Rattle.js_syntax.proofs.ClassLemmas.{start_function, start_name}
+use Rattle.js_grammar.proofs.FollowsAssignments.{no_one, start_paren}
+use Rattle.js_grammar.proofs.StatementSound.{no_brace}
 
 -- ---- tokens that are no other
 
@@ -299,15 +301,6 @@ listed_is (Some (false, ts)) only e = by_test (is_arrow (head_of ts)) e
     by_test true e = let same : false ≡ only = cc in (ts, ap (λ (only : Bool). some_past only ts) same)
     by_test false e = absurd cc
 
-not_one : (o : Option (Bool × List Token)) → listed_by o ≡ one_parameter → ⊥
-not_one None e = absurd cc
-not_one (Some (true, ts)) e = absurd cc
-not_one (Some (false, ts)) e = by_test (is_arrow (head_of ts)) e
-  where
-    by_test : (c : Bool) → (if c then listed false else no_arrow) ≡ one_parameter → ⊥
-    by_test true e = absurd cc
-    by_test false e = absurd cc
-
 not_listed : (c : Bool) (only : Bool) → (if c then one_parameter else no_arrow) ≡ listed only → ⊥
 not_listed true only e = absurd cc
 not_listed false only e = absurd cc
@@ -319,7 +312,7 @@ head_listed _ ts only e = absurd cc
 
 head_one : (c : Start) (ts : List Token) → head_by c ts ≡ one_parameter → (w : Identifier) × (c ≡ classes.a_name w)
 head_one (classes.a_name n) ts e = (n, refl)
-head_one classes.parenthesis ts e = absurd (not_one (past_names true ts) e)
+head_one classes.parenthesis ts e = absurd (no_one (past_names true ts) e)
 head_one _ ts e = absurd cc
 
 -- ---- assignments
@@ -392,7 +385,7 @@ assignment_by_lives n b s a one_parameter ts e f p =
     from_nothing (renamed l l.tree l.good.0 refl)
 assignment_by_lives n b s a (listed only) ts e f p =
     let w = head_listed (start (head_of ts)) (tail_of ts) only f in
-    from_nothing (arrow_of_list_lives n b s a only ts w.1.0 e (start_parenthesis (head_of ts) w.0) w.1.1 p)
+    from_nothing (arrow_of_list_lives n b s a only ts w.1.0 e (start_paren (head_of ts) w.0) w.1.1 p)
 assignment_by_lives n b s a no_arrow ts e f p = elim (bind_err (operation b n 3 ts) (λ x. joined b n x.0 x.1) e p) [
   | inl q ↦ looser 3 1 (omega arith) (operation_lives n b s a 3 (omega arith) ts e q)
   | inr q ↦ from_nothing (joined_lives n b s a ts q.0.0 q.0.1 e (operation_sound n b s (call_sound seq_sound n b s) 3 (omega arith) ts q.0 q.1).0 q.2)

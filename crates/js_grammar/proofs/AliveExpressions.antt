@@ -23,16 +23,20 @@ use Rattle.js_syntax.specs.Productions.{Code, Below, one_of, Item, Values, made,
 use Rattle.js_syntax.specs.Parsing.{if_low, key_by, key_at, member_by, property_by, property_at, properties_at, is_name_next, function_by, function_at, primary_by, primary, linked_by, is_link, links_by, links, call, updated_by, postfix, unary_by, unary, operator_from, chain_by, chain, operation}
 use Rattle.js_grammar.specs.Laws.{TakesExpression, SoundBelow, marks}
 use Rattle.js_grammar.proofs.MarkLaws.{joins}
-use Rattle.js_grammar.proofs.TokenLaws.{bind_ok, ok_is}
+use Rattle.js_grammar.proofs.TokenLaws.{ok_is}
 use Rattle.js_grammar.proofs.ListSound.{AllGood, Reads}
 use Rattle.js_grammar.proofs.PartSound.{seq_sound}
-use Rattle.js_grammar.proofs.HeadLaws.{start_brace, start_function, link_dot, update_next, prefix_delete, prefix_unary, prefix_update, operator_next, strength_low, from_is, from_none, from_past}
+use Rattle.js_grammar.proofs.HeadLaws.{update_next, prefix_unary, from_is, from_past}
 use Rattle.js_grammar.proofs.OperatorSound.{weaker, Ended, binary_takes, unary_sound}
 use Rattle.js_grammar.proofs.PrimarySound.{TakesKey, key_sound, property_sound, properties_marks, primary_sound, linked_by_sound, call_sound}
 use Rattle.js_grammar.proofs.AliveTools.{bind_err, cond_err, Counts, stuck_counts, deep_counts, a_token, a_name_token, Anything, Nothing, IsZero, firm_behind, firm_append, Lives, fills, anything, from_nothing, ends_in, around, stopped, renamed, behind}
 use Rattle.js_grammar.proofs.AliveLists.{elements_lives}
 use Rattle.js_grammar.proofs.AliveParts.{Fits, AliveBelow, zero_expression, zero_marks, flat_code, name_lives, seq_lives, known_lives, made_err}
 use Rattle.js_grammar.proofs.FirmTrees.{expression_firm, key_firm, property_firm}
+use Rattle.js_syntax.proofs.ClassLemmas.{start_brace, start_function, link_dot, prefix_delete, prefix_update, operator_next}
+use Rattle.js_grammar.proofs.LevelAgain.{strength_low, from_none, height_positive}
+use Rattle.js_syntax.proofs.ShorterLemmas.{bind_ok}
+use Rattle.js_grammar.proofs.FollowsAssignments.{start_paren}
 
 -- ---- tools
 
@@ -86,14 +90,6 @@ bracket_by _ s v e = absurd cc
 pub start_bracket : (o : Option Token) → start o ≡ classes.bracket → IsNext (fixed kinds.LeftBracket) o
 start_bracket None e = absurd cc
 start_bracket (Some t) e = bracket_by t.kind t.string_value t.numeric_value e
-
-parenthesis_by : (k : TokenKind) (s : List ℕ) (v : ℕ) → start_by k s v ≡ classes.parenthesis → k ≡ kinds.LeftParenthesis
-parenthesis_by kinds.LeftParenthesis s v e = refl
-parenthesis_by _ s v e = absurd cc
-
-pub start_parenthesis : (o : Option Token) → start o ≡ classes.parenthesis → IsNext (fixed kinds.LeftParenthesis) o
-start_parenthesis None e = absurd cc
-start_parenthesis (Some t) e = parenthesis_by t.kind t.string_value t.numeric_value e
 
 key_by_link : (k : TokenKind) → link_by k ≡ key → k ≡ kinds.LeftBracket
 key_by_link kinds.LeftBracket e = refl
@@ -255,7 +251,7 @@ primary_by_lives n b s a classes.brace ts e f p = elim (bind_err (properties_at 
 ]
 primary_by_lives n b s a classes.parenthesis ts e f p =
     let is = an_expression ∷ tok kinds.RightParenthesis ∷ [] in
-    let l = known_lives n b s a kinds.LeftParenthesis is refl ts e (start_parenthesis (head_of ts) f) (made_err {A = Expression} b (tok kinds.LeftParenthesis ∷ is) (λ v. trees.parenthesized v.1.0) ts e p) in
+    let l = known_lives n b s a kinds.LeftParenthesis is refl ts e (start_paren (head_of ts) f) (made_err {A = Expression} b (tok kinds.LeftParenthesis ∷ is) (λ v. trees.parenthesized v.1.0) ts e p) in
     from_nothing (renamed l (trees.parenthesized l.tree.1.0) (l.good.1.0, omega arith) refl)
 primary_by_lives n b s a classes.function_word ts e f p =
     let l = function_lives n b s a ts e (start_function (head_of ts) f) p in
@@ -289,11 +285,6 @@ deep_link n s f dot ts e g t i c = token_lives 15 (suc n) s f ts e t kinds.Dot (
 deep_link n s f key ts e g t i c = token_lives 15 (suc n) s f ts e t kinds.LeftBracket (link_key (head_of ts) g) c (trees.index f (trees.number 0)) ((t.well, t.level, tt), omega arith) (token (numeric_literal 0) ∷ token (fixed kinds.RightBracket) ∷ []) (a_token kinds.Number ∷ a_token kinds.RightBracket ∷ []) (λ r. ((refl, refl), (refl, refl))) refl
 deep_link n s f classes.arguments ts e g t i c = token_lives 15 (suc n) s f ts e t kinds.LeftParenthesis (link_arguments (head_of ts) g) c (trees.call f trees.no_expressions) ((t.well, t.level, tt), omega arith) (token (fixed kinds.RightParenthesis) ∷ []) (a_token kinds.RightParenthesis ∷ []) (λ r. (refl, refl)) refl
 deep_link n s f no_link ts e g t i c = absurd cc
-
--- each expression counts one at least
-height_some : (e : Expression) → 1 ≤ height e
-height_some trees.this = omega arith
-height_some _ = omega arith
 
 -- what a link makes is higher than what it goes on with
 higher : (is : List Item) (b : Below) (f : Expression) (make : Values is → Expression) → ((v : Values is) → suc (height f) ≤ height (make v)) → (ts : List Token) (x : Expression × List Token) → made b is make ts ≡ Ok x → suc (height f) ≤ height x.0
@@ -338,7 +329,7 @@ pub call_lives : (n : ℕ) (b : Below) → SoundBelow n b → AliveBelow b → (
 unfolding call
 call_lives n b s a ts e p = elim (bind_err (primary b n ts) (λ x. links b n (suc n) x.0 x.1) e p) [
   | inl q ↦ primary_lives n b s a ts e q
-  | inr q ↦ from_nothing (links_lives n b s a ts (suc n) q.0.0 q.0.1 e (primary_sound seq_sound n b s ts q.0 q.1) (omega (arith, height_some q.0.0)) q.2)
+  | inr q ↦ from_nothing (links_lives n b s a ts (suc n) q.0.0 q.0.1 e (primary_sound seq_sound n b s ts q.0 q.1) (omega (arith, height_positive q.0.0)) q.2)
 ]
 
 -- ---- updates
@@ -461,5 +452,5 @@ operation_lives n b s a m le ts e p = elim (bind_err (unary b n ts) (λ x. chain
   | inl q ↦ looser 13 m le (unary_lives n b s a ts e q)
   | inr q ↦
       let u = unary_sound n b s (call_sound seq_sound n b s) ts q.0 q.1 in
-      from_nothing (chain_lives n b s a ts m (suc n) q.0.0 q.0.1 e (weaker 13 m (suc n) ts q.0.0 q.0.1 le u) (from_past (suc (level q.0.0)) (operator (head_of q.0.1)) (omega (arith, u.level))) (omega (arith, height_some q.0.0)) q.2)
+      from_nothing (chain_lives n b s a ts m (suc n) q.0.0 q.0.1 e (weaker 13 m (suc n) ts q.0.0 q.0.1 le u) (from_past (suc (level q.0.0)) (operator (head_of q.0.1)) (omega (arith, u.level))) (omega (arith, height_positive q.0.0)) q.2)
 ]

@@ -13,14 +13,15 @@ use Rattle.js_syntax.specs.Reading.{deep}
 use Rattle.js_syntax.specs.Classes as classes
 use Rattle.js_syntax.specs.Classes.{Start, start, Prefix, deletes, a_unary, an_update, no_prefix, prefix, First}
 use Rattle.js_syntax.specs.Parsing.{let_kind}
-use Rattle.js_grammar.proofs.HeadLaws.{start_this, start_null, start_brace, start_function, start_boolean, start_name, start_number, start_string, prefix_delete, prefix_unary, prefix_update}
+use Rattle.js_grammar.proofs.HeadLaws.{start_boolean, prefix_unary}
 use Rattle.js_grammar.proofs.PartSound.{initialized_present}
-use Rattle.js_grammar.proofs.ExpressionSound.{no_brace}
-use Rattle.js_grammar.proofs.StatementSound.{no_function}
+use Rattle.js_grammar.proofs.StatementSound.{no_function, no_brace}
 use Rattle.js_grammar.proofs.AliveTools.{a_token, a_near_token, a_name_token, Nothing, Starts, is_firm, Lives, stopped, ends_in}
 use Rattle.js_grammar.proofs.AliveParts.{Fits, IsStatement, IsItem, zero_marks, zero_initialized, zero_declarator, some_name, some_name_fresh, declared_more}
-use Rattle.js_grammar.proofs.AliveExpressions.{zero_token, x_name, start_bracket, start_parenthesis}
+use Rattle.js_grammar.proofs.AliveExpressions.{zero_token, x_name, start_bracket}
 use Rattle.js_grammar.proofs.AliveStatements.{FirstNext, empty_braces, empty_brace_tokens, let_marks}
+use Rattle.js_syntax.proofs.ClassLemmas.{start_this, start_null, start_brace, start_function, start_name, start_number, start_string, prefix_delete, prefix_update}
+use Rattle.js_grammar.proofs.FollowsAssignments.{start_paren}
 
 -- ---- expressions
 
@@ -50,7 +51,7 @@ start_lives (classes.a_boolean w) ts f h = stopped (flat (trees.boolean w)) (boo
 start_lives classes.null_word ts f h = first_token kinds.Null ts (start_null (head_of ts) f) trees.null (tt, omega arith) [] [] (λ r. refl) refl
 start_lives classes.bracket ts f h = first_token kinds.LeftBracket ts (start_bracket (head_of ts) f) (trees.array trees.no_expressions) (tt, omega arith) (token (fixed kinds.RightBracket) ∷ []) (a_token kinds.RightBracket ∷ []) (λ r. (refl, refl)) refl
 start_lives classes.brace ts f h = first_token kinds.LeftBrace ts (start_brace (head_of ts) f) (trees.object trees.no_properties) (tt, omega arith) (token (fixed kinds.RightBrace) ∷ []) (a_token kinds.RightBrace ∷ []) (λ r. (refl, refl)) refl
-start_lives classes.parenthesis ts f h = first_token kinds.LeftParenthesis ts (start_parenthesis (head_of ts) f) (trees.parenthesized (trees.number 0)) (tt, omega arith) (token (numeric_literal 0) ∷ token (fixed kinds.RightParenthesis) ∷ []) (a_token kinds.Number ∷ a_token kinds.RightParenthesis ∷ []) (λ r. ((refl, refl), (refl, refl))) refl
+start_lives classes.parenthesis ts f h = first_token kinds.LeftParenthesis ts (start_paren (head_of ts) f) (trees.parenthesized (trees.number 0)) (tt, omega arith) (token (numeric_literal 0) ∷ token (fixed kinds.RightParenthesis) ∷ []) (a_token kinds.Number ∷ a_token kinds.RightParenthesis ∷ []) (λ r. ((refl, refl), (refl, refl))) refl
 start_lives classes.function_word ts f h = first_token kinds.Function ts (start_function (head_of ts) f) (trees.function None [] trees.no_statements) (((tt, tt), tt), omega arith)
     (token (fixed kinds.LeftParenthesis) ∷ token (fixed kinds.RightParenthesis) ∷ empty_braces) (a_token kinds.LeftParenthesis ∷ a_token kinds.RightParenthesis ∷ empty_brace_tokens) (λ r. (refl, (refl, (refl, (refl, refl))))) refl
 start_lives classes.no_start ts f h = absurd cc

@@ -19,12 +19,13 @@ use Rattle.js_syntax.specs.Productions.{Code, Below, one_of, arguments_before, m
 use Rattle.js_syntax.proofs.KindLemmas.{same_kind, next_is}
 use Rattle.js_grammar.specs.Laws.{SoundBelow, marks_of, marks, Sane, AllSane}
 use Rattle.js_grammar.proofs.MarkLaws.{joins}
-use Rattle.js_grammar.proofs.TokenLaws.{and_true, expect_sound, expect_again, fresh_sound}
+use Rattle.js_grammar.proofs.TokenLaws.{expect_sound, expect_again, fresh_sound}
 use Rattle.js_grammar.proofs.ListSound.{behind_commas, up_to, in_a_row, AllGood, Reads}
 use Rattle.js_grammar.proofs.PartSound.{fresh_behind, fresh_append, more_is, arguments_marks, names_marks, Differs, all_fresh, row_is, items_at_sound, parameters_sound, InitializedOne, initialized_present, declarator_sound, initialized_more, no_more_initialized, fresh_more, more_declarators_is, item_sound}
 use Rattle.js_grammar.proofs.AliveTools.{bind_err, cond_err, Counts, stuck_counts, a_token, a_near_token, a_name_token, Anything, Nothing, IsAdded, IsZero, Starts, zero_softer, while_softer, brace_softer, softens, is_firm, firm_append, Lives, fills, anything, from_nothing, ends_in, around, around_softly, stopped}
 use Rattle.js_grammar.proofs.AliveLists.{elements_lives, others_lives, items_lives}
 use Rattle.js_grammar.proofs.FirmTrees.{expression_firm, firm_last, firm_braces, firm_parameters, declarator_firm, declarators_firm}
+use Rattle.std.proofs.lemmas.Bool.{and_parts}
 
 -- ---- what lives below
 
@@ -590,7 +591,7 @@ seq_lives n b s a (i ∷ is) y ts e p = elim (bind_err (item b i ts) (λ x. seq 
   | inr q ↦ elim (bind_err (seq b is q.0.1) (λ y. Ok ((q.0.0, y.0), y.1)) e q.2) [
     | inl k ↦
         let t = item_sound n b s i ts q.0 q.1 in
-        let h = and_true (stands i is) (lively is) y in
+        let h = and_parts (stands i is) (lively is) y in
         behind_item i is h.0 q.0.0 t.sane ts q.0.1 t.marks e (some_items b is q.0.1 e k) (seq_lives n b s a is h.1 q.0.1 e k)
     | inr k ↦ absurd cc
   ]

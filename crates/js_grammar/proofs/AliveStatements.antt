@@ -20,12 +20,12 @@ use Rattle.js_grammar.specs.Laws.{SoundBelow, marks, AllSane, TakesAll}
 use Rattle.js_grammar.proofs.MarkLaws.{joins, parts}
 use Rattle.js_grammar.proofs.TokenLaws.{expect_sound, expect_again, fresh_sound}
 use Rattle.js_grammar.proofs.PartSound.{seq_sound, declarators_sound}
-use Rattle.js_grammar.proofs.ExpressionSound.{no_brace}
-use Rattle.js_grammar.proofs.StatementSound.{no_function, on_line_is, behind_if, no_open_if, let_is, tails_are, next_optional, given_on_line, catch_items, handler_sound, finally_handled, try_items, alone, declares_none}
+use Rattle.js_grammar.proofs.StatementSound.{no_function, on_line_is, behind_if, no_open_if, let_is, tails_are, next_optional, given_on_line, catch_items, handler_sound, finally_handled, try_items, declares_none, no_brace}
 use Rattle.js_grammar.proofs.AliveTools.{bind_err, cond_err, Counts, stuck_counts, a_token, a_near_token, Anything, Nothing, IsZero, Starts, nothing_softer, is_firm, firm_behind, firm_append, Lives, fills, grows, anything, from_nothing, ends_in, around, around_softly, stopped, renamed, behind, begun}
 use Rattle.js_grammar.proofs.AliveParts.{AliveBelow, IsStatement, IsItem, flat_block, zero_statement, fresh_lives, semicolon_err, opened_lives, code_lives, declarators_lives, flat_ended, ended_lives, seq_lives, lively, known_lives, made_err}
 use Rattle.js_grammar.proofs.AliveAssignments.{other_kind}
 use Rattle.js_grammar.proofs.FirmTrees.{declarators_firm, firm_braces, firm_nil}
+use Rattle.js_grammar.proofs.PrimaryAgain.{and_nothing}
 
 -- ---- what begins a statement
 
@@ -68,9 +68,6 @@ first_next (Some t) = by_kind t.kind
     by_kind kinds.Debugger = refl
     by_kind kinds.Function = refl
     by_kind _ = (refl, refl)
-
-first_is : (c : First) (o : Option Token) → first o ≡ c → FirstNext c o
-first_is c o f = subst (λ (c : First). FirstNext c o) f (first_next o)
 
 -- ---- statements of one production
 
@@ -285,7 +282,7 @@ try_lives n b s a context ts e f p = elim (bind_err (seq b (try_items context) t
   | inr q ↦
       let t = seq_sound n b s (try_items context) ts q.0 q.1 in
       let ss = q.0.0.1.0 in
-      let m = alone (try_front ss) ts q.0.1 t.marks in
+      let m = and_nothing (try_front ss) ts q.0.1 t.marks in
       elim (bind_err (handler_at b context q.0.1) (λ h. finalizer_at b context h.0 h.1 >>= λ f. Ok (trees.try ss h.0 f.0, f.1)) e q.2) [
         | inl w ↦
             let l = handler_lives n b s a context q.0.1 e w in

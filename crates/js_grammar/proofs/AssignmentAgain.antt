@@ -169,7 +169,7 @@ expression_is_read q n b h os e w l ts r m s c = one_expression q n b h os e w (
 -- ---- the code of a function
 
 -- nothing goes on with an expression at the end of the source
-stops_at_end : (d : Edge) → Stops d []
+pub stops_at_end : (d : Edge) → Stops d []
 stops_at_end plain = (refl, refl, refl, refl, refl)
 stops_at_end update = (refl, refl)
 stops_at_end braces = tt

@@ -2,16 +2,15 @@
 use Rattle.std.proofs.Common.{◌≡◌, ℕ, zero, suc, ◌≤◌, List, [], Ok, refl, arith}
 use Rattle.std.specs.Prelude.{max}
 use Rattle.js_tree.specs.Trees.{Identifier, Expression, Statement, Statements}
-use Rattle.js_language.specs.Tokens as edges
-use Rattle.js_language.specs.Tokens.{Token, Edge}
+use Rattle.js_language.specs.Tokens.{Token}
 use Rattle.js_language.specs.Flat.{edge}
 use Rattle.js_language.specs.Well.{top}
 use Rattle.js_tree.specs.Height.{height, height_of_statement, height_of_statements}
 use Rattle.js_language.specs.Language.{IsScript, IsExpression, IsFunction}
 use Rattle.js_syntax.specs.Parsing.{below, parse_script, parse_expression, parse_function}
-use Rattle.js_grammar.specs.Laws.{AgainBelow, Stops}
+use Rattle.js_grammar.specs.Laws.{AgainBelow}
 use Rattle.js_grammar.proofs.ExpressionAgain.{assignment_again, expression_again, operation_again, unary_again, call_again}
-use Rattle.js_grammar.proofs.AssignmentAgain.{function_code_again}
+use Rattle.js_grammar.proofs.AssignmentAgain.{function_code_again, stops_at_end}
 use Rattle.js_grammar.proofs.PartAgain.{statements_again}
 use Rattle.js_grammar.proofs.ProductionAgain.{seq_again}
 use Rattle.js_tree.specs.Trees as trees
@@ -67,11 +66,6 @@ again_below (suc n) =
     }
 
 -- ---- whole sources
-
-stops_at_end : (g : Edge) → Stops g []
-stops_at_end edges.plain = (refl, refl, refl, refl, refl)
-stops_at_end edges.update = (refl, refl)
-stops_at_end edges.braces = tt
 
 -- What is an expression is read, as itself.
 pub expression_again_whole : (n : ℕ) (ts : List Token) (e : Expression) → IsExpression ts e → height e ≤ n → parse_expression n ts ≡ Ok e

@@ -13,8 +13,7 @@ use Rattle.js_syntax.specs.Productions.{Below}
 use Rattle.js_syntax.specs.Parsing.{assignment, comma_by, expression, below}
 use Rattle.js_syntax.proofs.KindLemmas.{next_is}
 use Rattle.js_grammar.specs.Laws.{SoundBelow}
-use Rattle.js_grammar.proofs.TokenLaws.{and_true, faulty}
-use Rattle.js_grammar.proofs.HeadLaws.{start_name}
+use Rattle.js_grammar.proofs.TokenLaws.{faulty}
 use Rattle.js_grammar.proofs.Soundness.{sound_below}
 use Rattle.js_grammar.proofs.FollowsTools.{Follows, binds, reads_again}
 use Rattle.js_grammar.proofs.FollowsParts.{FollowsBelow, Pair}
@@ -34,6 +33,8 @@ use Rattle.js_grammar.proofs.DeepParens.{Low, at_comma, comma_deep}
 use Rattle.js_grammar.proofs.DeepStart.{begins_operand, expression_elsewhere}
 use Rattle.js_grammar.proofs.DeepShallow.{class_deepens, class_follows, shallow, below_elsewhere, shallow_follows, shallow_own, shallow_deepens, operand_lives, shallow_alive}
 use Rattle.js_grammar.proofs.DeepLone.{operand, bare, operand_follows, bare_sound, bare_alive, lone_name, lone_by, lone, lone_own, lone_follows, lone_deepens, lone_names, lone_sure}
+use Rattle.js_syntax.proofs.ClassLemmas.{start_name}
+use Rattle.std.proofs.lemmas.Bool.{and_parts}
 
 -- ---- what is answered, is answered so on the right
 
@@ -60,7 +61,7 @@ sound_from n b c f s = record {
 
 arrow_lives : (s : Identifier) (ts : List Token) (e : Fault) → start (head_of ts) ≡ classes.a_name s → is_arrow (head_of (tail_of ts)) ≡ true → faulty {A = Expression} (deep (length (tail_of (tail_of ts)))) ≡ faulty e → Lives IsZero flat (Fits 1) ts e
 arrow_lives s ts e f a p =
-    let both = and_true (is_on_line (head_of (tail_of ts))) (is_kind kinds.Arrow (head_of (tail_of ts))) a in
+    let both = and_parts (is_on_line (head_of (tail_of ts))) (is_kind kinds.Arrow (head_of (tail_of ts))) a in
     from_nothing (stopped (token (identifier s) ∷ beside (fixed kinds.Arrow) ∷ []) refl ts (tail_of (tail_of ts)) (start_name s (head_of ts) f, (next_is kinds.Arrow (head_of (tail_of ts)) both.1, both.0, refl)) e (deep_counts {A = Expression} (tail_of (tail_of ts)) e p)
     (trees.arrow (trees.one_name s) (trees.number 0)) (((refl, tt), tt, omega arith, refl), omega arith) zero_marks zero_token (λ r. ((refl, refl), refl)) refl)
 

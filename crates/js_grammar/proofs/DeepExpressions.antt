@@ -10,16 +10,16 @@ use Rattle.js_language.specs.Well.{function_body, is_target}
 use Rattle.js_tree.specs.Height.{height, height_of_key}
 use Rattle.js_tree.specs.Views.{properties}
 use Rattle.js_syntax.specs.Kinds.{is_kind}
-use Rattle.js_syntax.specs.Reading.{stuck, deep, ◌>>=◌, expect_near, word_at, elements, no_state, with_names}
+use Rattle.js_syntax.specs.Reading.{stuck, deep, ◌>>=◌, expect_near, elements, no_state, with_names}
 use Rattle.js_syntax.specs.Classes as classes
-use Rattle.js_syntax.specs.Classes.{start, Link, dot, key, no_link, update_near, question, assigns_by, no_joint, joint, key_start, AfterKey, after_key}
+use Rattle.js_syntax.specs.Classes.{start, update_near, question, assigns_by, no_joint, joint, key_start, AfterKey, after_key}
 use Rattle.js_syntax.specs.Productions.{Below, one_of, tok, an_assignment, an_expression, arguments, a_name, code, in_braces, made}
-use Rattle.js_syntax.specs.Parsing.{key_by, key_at, member_by, property_at, properties_at, is_name_next, function_by, function_at, primary_by, primary, linked_by, updated_by, arrow_body_by, arrow_rest, joined_by, joined}
+use Rattle.js_syntax.specs.Parsing.{key_by, key_at, member_by, property_at, properties_at, is_name_next, function_by, function_at, primary_by, primary, updated_by, arrow_body_by, arrow_rest, joined_by, joined}
 use Rattle.js_grammar.proofs.FollowsTools.{past, shortens}
-use Rattle.js_grammar.proofs.FollowsParts.{Pair, expect_near_follows, word_follows, elements_follows}
+use Rattle.js_grammar.proofs.FollowsParts.{Pair, expect_near_follows, elements_follows}
 use Rattle.js_grammar.proofs.FollowsExpressions.{key_follows, named_member, name_next, property_form, property_is, property_follows, properties_follows}
 use Rattle.js_grammar.proofs.DeepTools.{Deepens, DeepensOn, on, deep_gives, deep_sticks, deep_past, deep_peeks, deep_peeks_all, deep_token, deep_then, deep_makes, deep_tests, deep_limit, deep_as}
-use Rattle.js_grammar.proofs.DeepParts.{DeepBelow, word_deepens, expect_near_deepens, elements_deepens, made_deepens}
+use Rattle.js_grammar.proofs.DeepParts.{DeepBelow, expect_near_deepens, elements_deepens, made_deepens}
 
 -- ---- object literals
 
@@ -90,12 +90,6 @@ primary_deepens b m p d n = deep_peeks_all n start (λ v ts. primary_by b m v ts
 ])
 
 -- ---- what goes on with an expression
-
-pub linked_deepens : (b : Below) → Pair b b → DeepBelow b → (n : ℕ) (e : Expression) (l : Link) → Deepens n (λ ts. linked_by b e l ts)
-linked_deepens b p d n e dot = deep_makes n (λ ts. word_at (tail_of ts)) (λ x. trees.member e x) (past (λ ts. word_at ts) (λ ts. word_at ts) word_follows) (deep_past n (λ ts. word_at ts) (word_deepens n))
-linked_deepens b p d n e key = made_deepens b p d n (tok kinds.LeftBracket ∷ an_expression ∷ tok kinds.RightBracket ∷ []) (λ v. trees.index e v.1.0)
-linked_deepens b p d n e classes.arguments = made_deepens b p d n (tok kinds.LeftParenthesis ∷ arguments kinds.RightParenthesis ∷ []) (λ v. trees.call e v.1.0)
-linked_deepens b p d n e no_link = deep_sticks n
 
 pub updated_deepens : (m n : ℕ) (e : Expression) → Deepens n (λ ts. updated_by m e (update_near (head_of ts)) ts)
 updated_deepens m n e = deep_peeks n update_near (λ v ts. updated_by m e v ts) (λ j e. absurd cc) (elim [

@@ -7,13 +7,12 @@ use Rattle.js_syntax.specs.Kinds.{is_kind}
 use Rattle.js_syntax.specs.Reading.{stuck, deep, Read, Reader, ◌>>=◌, others_by, others, no_state}
 use Rattle.js_syntax.specs.Classes.{past_names, no_arrow, listed_by}
 use Rattle.js_syntax.specs.Productions.{one_of}
-use Rattle.js_syntax.proofs.KindLemmas.{kind_not}
-use Rattle.js_grammar.proofs.TokenLaws.{bind_ok}
 use Rattle.js_grammar.proofs.FollowsTools.{Follows, makes, head_past, reads_again, one_turn, shortens}
 use Rattle.js_grammar.proofs.FollowsParts.{others_body, others_local, others_turns, others_follows}
-use Rattle.js_grammar.proofs.FollowsArrows.{Within, scan_end, ends_name, Names, not_ended}
+use Rattle.js_grammar.proofs.FollowsArrows.{Within, scan_end, ends_name, Names, not_ended, paren_of_comma}
 use Rattle.js_grammar.proofs.DeepTools.{deep_is, DeepAt, Deepens, deep_then, deep_makes}
 use Rattle.js_grammar.proofs.DeepParts.{others_deepens}
+use Rattle.js_syntax.proofs.ShorterLemmas.{bind_ok}
 
 -- too deep, with so many tokens left at most from the one that shows it on
 pub record DeepTo {A : Type 0} (f : Reader A) (ts : List Token) (i k : ℕ) : Type 0 where
@@ -146,9 +145,6 @@ from_comma {A} one f t us i k c d = record {
   };
   near = d.near;
 }
-
-paren_of_comma : (t : Token) → is_kind kinds.Comma (Some t) ≡ true → is_kind kinds.RightParenthesis (Some t) ≡ false
-paren_of_comma t e = kind_not kinds.Comma kinds.RightParenthesis (Some t) e refl
 
 comma_step : {A : Type 0} (P : A → Type 0) (one : Reader A) → Sure P one → (t : Token) (us : List Token) → is_kind kinds.Comma (Some t) ≡ true → listed_by (past_names true us) ≡ no_arrow
     → ((r : List Token) → suc (length r) ≤ length us → listed_by (past_names false r) ≡ no_arrow → (i : ℕ) → others_of one r ≡ Err (deep i) → DeepTo (others_of one) r i (length (scan_end false r)))

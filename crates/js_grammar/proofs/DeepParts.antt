@@ -11,9 +11,9 @@ use Rattle.js_tree.specs.Views.{expressions, statements, declarators}
 use Rattle.js_syntax.specs.Kinds.{is_kind}
 use Rattle.js_syntax.specs.Classes.{is_name}
 use Rattle.js_syntax.specs.Reading.{stuck, deep, Reader, ◌>>=◌, expect, expect_near, text_of, name_at, fresh_name, is_word_next, word_at, semicolon_at, goes_on, ends, neither, after, go_after, elements_by, elements, others_by, others, ends_list, items_by, items, no_state, with_name, with_names}
-use Rattle.js_syntax.specs.Productions.{Code, Below, one_of, arguments_before, more_assignments, names_before, parameters_at, with_declared, items_at, braces, code_at, initializer_by, declarator_at, with_declarator, declarators_at, optional_by, optional_before, ended_expression, Item, tok, near, a_name, the_name, an_assignment, an_expression, optional, arguments, ended, an_end, declared, a_statement, a_block, in_braces, code, Values, expect_name, item, seq, made}
+use Rattle.js_syntax.specs.Productions.{Code, Below, one_of, arguments_before, more_assignments, parameters_at, with_declared, items_at, braces, code_at, initializer_by, declarator_at, with_declarator, declarators_at, optional_by, optional_before, ended_expression, Item, tok, near, a_name, the_name, an_assignment, an_expression, optional, arguments, ended, an_end, declared, a_statement, a_block, in_braces, code, Values, expect_name, item, seq, made}
 use Rattle.js_grammar.proofs.FollowsTools.{Follows, Takes, past, shortens}
-use Rattle.js_grammar.proofs.FollowsParts.{Pair, expect_follows, name_follows, fresh_follows, semicolon_follows, elements_body, elements_local, elements_turns, elements_follows, go_after_follows, others_body, others_local, others_turns, others_follows, items_body, items_local, items_turns, items_follows, parameters_follows, items_at_follows, braces_follows, declarator_follows, item_follows, seq_follows}
+use Rattle.js_grammar.proofs.FollowsParts.{Pair, expect_follows, fresh_follows, semicolon_follows, elements_body, elements_local, elements_turns, elements_follows, go_after_follows, others_body, others_local, others_turns, others_follows, items_body, items_local, items_turns, items_follows, parameters_follows, items_at_follows, braces_follows, declarator_follows, item_follows, seq_follows}
 use Rattle.js_grammar.proofs.DeepTools.{Deepens, DeepensOn, on, quiet, deep_gives, deep_sticks, deep_past, deep_past_on, deep_peeks, deep_peeks_all, deep_token, deep_binds, deep_then, deep_makes, deep_loops}
 
 -- what reads below keeps it
@@ -159,10 +159,6 @@ more_assignments_deepens b p d n =
     deep_makes n (λ ts. others (one_of b.assignment) no_state (suc (length ts)) tt ts) expressions
     (others_follows (one_of b.assignment) (one_of b.assignment) no_state (λ s. p.both.assignment) (λ s. shortens b.assignment b.assignment p.both.assignment) tt)
     (others_deepens (one_of b.assignment) no_state (λ s. p.both.assignment) (λ n s. d.assignment n) n tt)
-
-pub names_deepens : (n : ℕ) → Deepens n (λ ts. names_before ts)
-unfolding names_before
-names_deepens n = elements_deepens (one_of (λ ts. name_at ts)) no_state kinds.RightParenthesis (λ s. name_follows) (λ n s. name_deepens n) n tt
 
 pub parameters_deepens : (n : ℕ) → Deepens n (λ ts. parameters_at ts)
 unfolding parameters_at

@@ -12,6 +12,7 @@ use Rattle.js_syntax.specs.Classes.{Start, start, Prefix, no_prefix, prefix, Fir
 use Rattle.js_syntax.specs.Productions.{Below, parameters_at, braces, code_at, ended_expression}
 use Rattle.js_syntax.specs.Parsing.{primary, call, postfix, unary, operation, assignment, expression, statement_by, statement, item_by, item}
 use Rattle.js_grammar.proofs.AliveFirst.{is_start, is_prefix}
+use Rattle.js_grammar.proofs.PartAgain.{or_parts}
 
 -- ---- what begins what
 
@@ -77,25 +78,18 @@ expression_stuck b m ts e p = rw (assignment_stuck b m ts e p) refl
 
 -- ---- operands and expressions
 
-or_false : (a b : Bool) → (a || b) ≡ false → (a ≡ false) × (b ≡ false)
-or_false true b e = absurd cc
-or_false false b e = (refl, e)
-
 no_prefix_is : (v : Prefix) → is_prefix v ≡ false → v ≡ no_prefix
 no_prefix_is no_prefix e = refl
 no_prefix_is _ e = absurd cc
 
 pub unary_elsewhere : (b : Below) (m : ℕ) (ts : List Token) → begins_operand (head_of ts) ≡ false → unary b m ts ≡ Err (stuck (length ts))
-unary_elsewhere b m ts e = let p = or_false (begins_call (head_of ts)) (is_prefix (prefix (head_of ts))) e in unary_stuck b m ts p.0 (no_prefix_is (prefix (head_of ts)) p.1)
+unary_elsewhere b m ts e = let p = or_parts (begins_call (head_of ts)) (is_prefix (prefix (head_of ts))) e in unary_stuck b m ts p.0 (no_prefix_is (prefix (head_of ts)) p.1)
 
 pub operation_elsewhere : (b : Below) (m low : ℕ) (ts : List Token) → begins_operand (head_of ts) ≡ false → operation b m low ts ≡ Err (stuck (length ts))
-operation_elsewhere b m low ts e = let p = or_false (begins_call (head_of ts)) (is_prefix (prefix (head_of ts))) e in operation_stuck b m low ts p.0 (no_prefix_is (prefix (head_of ts)) p.1)
-
-pub assignment_elsewhere : (b : Below) (m : ℕ) (ts : List Token) → begins_operand (head_of ts) ≡ false → assignment b m ts ≡ Err (stuck (length ts))
-assignment_elsewhere b m ts e = let p = or_false (begins_call (head_of ts)) (is_prefix (prefix (head_of ts))) e in assignment_stuck b m ts p.0 (no_prefix_is (prefix (head_of ts)) p.1)
+operation_elsewhere b m low ts e = let p = or_parts (begins_call (head_of ts)) (is_prefix (prefix (head_of ts))) e in operation_stuck b m low ts p.0 (no_prefix_is (prefix (head_of ts)) p.1)
 
 pub expression_elsewhere : (b : Below) (m : ℕ) (ts : List Token) → begins_operand (head_of ts) ≡ false → expression b m ts ≡ Err (stuck (length ts))
-expression_elsewhere b m ts e = let p = or_false (begins_call (head_of ts)) (is_prefix (prefix (head_of ts))) e in expression_stuck b m ts p.0 (no_prefix_is (prefix (head_of ts)) p.1)
+expression_elsewhere b m ts e = let p = or_parts (begins_call (head_of ts)) (is_prefix (prefix (head_of ts))) e in expression_stuck b m ts p.0 (no_prefix_is (prefix (head_of ts)) p.1)
 
 -- ---- statements
 

@@ -28,6 +28,7 @@ use Rattle.js_grammar.proofs.DeepParts.{DeepBelow, name_deepens, parameters_deep
 use Rattle.js_grammar.proofs.DeepExpressions.{function_deepens, arrow_rest_deepens}
 use Rattle.js_grammar.proofs.DeepBottom.{answers_so}
 use Rattle.js_grammar.proofs.DeepRooms.{raised, room, Kept, kept, pair_own, pair_up, pair_down, room_sound}
+use Rattle.js_grammar.proofs.Soundness.{whole_ok}
 
 -- ---- readers of whole sources
 
@@ -47,11 +48,6 @@ less_deep {A} f g h ts k e = by_answer (f ts) refl
         let z : whole {A = A} (Err (stuck (length s.1))) ≡ Err (deep k) = ap (λ (x : Read A). whole x) (sym is) ∙ e in
         absurd cc
     by_answer (Err (deep j)) q = (j, q)
-
-whole_ok : {A : Type 0} (x : Read A) (t : A) → whole x ≡ Ok t → x ≡ Ok (t, [])
-whole_ok {A} (Ok (a, [])) t e = let same : a ≡ t = cc in ap (λ (a : A). Ok (a, [])) same
-whole_ok (Ok (a, y ∷ ys)) t e = absurd cc
-whole_ok (Err d) t e = absurd cc
 
 above : (h n : ℕ) → (h ≤ n → ⊥) → n < h
 above h n f = by_test (nat_le h n) refl

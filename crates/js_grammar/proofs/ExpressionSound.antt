@@ -1,15 +1,14 @@
 -- What is read of arrow functions, assignments and whole expressions is a well-formed expression's.
-use Rattle.std.proofs.Common.{◌≡◌, ℕ, suc, Bool, true, false, List, [], ◌∷◌, ◌++◌, length, Option, Ok, Err, refl, ap, subst, inl, inr, arith}
+use Rattle.std.proofs.Common.{◌≡◌, ℕ, suc, Bool, true, false, List, [], ◌∷◌, ◌++◌, length, Ok, Err, refl, ap, subst, inl, inr, arith}
 use Rattle.std.specs.Prelude.{not, if◌then◌else◌}
 use Rattle.std.proofs.lemmas.List.{append-nil}
-use Rattle.js_lexer.specs.declared.token.TokenKind.{TokenKind}
 use Rattle.js_lexer.specs.declared.token.TokenKind.TheVariants as kinds
 use Rattle.js_tree.specs.Trees as trees
 use Rattle.js_tree.specs.Trees.{Identifier, Parameters, Expression, Expressions}
-use Rattle.js_language.specs.Tokens.{Token, fixed, identifier, identifier_name, numeric_literal, string_literal, Mark, token, beside, semicolon, trailing_comma, head_of, IsNext, Matches}
+use Rattle.js_language.specs.Tokens.{Token, fixed, Mark, token, beside, head_of, Matches}
 use Rattle.js_language.specs.Flat as flats
 use Rattle.js_language.specs.Flat.{assign_kind, flat, more_expressions, flat_names, flat_parameters, flat_arrow_parameters, flat_statements}
-use Rattle.js_language.specs.Well.{function_body, is_target, begins_with_brace, is_among, AreFresh, names_of_parameters, is_two_expressions, is_function}
+use Rattle.js_language.specs.Well.{function_body, is_target, is_among, AreFresh, names_of_parameters, is_two_expressions, is_function}
 use Rattle.js_tree.specs.Height.{height}
 use Rattle.js_syntax.specs.Kinds.{is_kind}
 use Rattle.js_syntax.specs.Reading.{stuck, ◌>>=◌, expect, expect_near, name_at, with_names}
@@ -17,32 +16,18 @@ use Rattle.js_syntax.specs.Classes as classes
 use Rattle.js_syntax.specs.Classes.{Start, start, Joint, question, assigns_by, no_joint, joint, Head, one_parameter, listed, no_arrow, arrow_head}
 use Rattle.js_syntax.specs.Productions.{Below, more_assignments, names_before, parameters_at, tok, an_assignment, in_braces, made}
 use Rattle.js_syntax.specs.Parsing.{if_low, operation, arrow_body_by, arrow_rest, are_fresh, arrow_of_names, arrow_of_one, arrow_of_list, joined_by, joined, assignment_by, assignment, comma_by, expression, function_code_by}
-use Rattle.js_syntax.proofs.KindLemmas.{next_again}
 use Rattle.js_grammar.specs.Laws.{TakesExpression, SoundBelow, SeqSound}
 use Rattle.js_grammar.proofs.MarkLaws.{joins}
-use Rattle.js_grammar.proofs.TokenLaws.{bind_ok, cond_ok, test_ok, and_true, not_true, expect_sound, expect_near_sound, name_sound}
+use Rattle.js_grammar.proofs.TokenLaws.{cond_ok, test_ok, expect_sound, expect_near_sound, name_sound}
 use Rattle.js_grammar.proofs.PartSound.{fresh_behind, more_sound, names_before_sound, parameters_sound}
-use Rattle.js_grammar.proofs.HeadLaws.{start_function}
 use Rattle.js_grammar.proofs.OperatorSound.{made_takes, low_ok, weaker, takes_ok, operation_sound}
 use Rattle.js_grammar.proofs.PrimarySound.{function_sound, call_sound}
+use Rattle.js_syntax.proofs.ClassLemmas.{start_function}
+use Rattle.js_syntax.proofs.ShorterLemmas.{bind_ok}
+use Rattle.js_grammar.proofs.StatementSound.{no_brace}
+use Rattle.std.proofs.lemmas.Bool.{and_parts, not-true}
 
 -- ---- arrow functions
-
-brace_by : (k : TokenKind) (ms : List Mark) (next : Option Token) → is_kind kinds.LeftBrace next ≡ false → IsNext (fixed k) next → begins_with_brace (token (fixed k) ∷ ms) ≡ false
-brace_by kinds.LeftBrace ms next f m = let is : is_kind kinds.LeftBrace next ≡ true = next_again kinds.LeftBrace next m in absurd cc
-brace_by _ ms next f m = refl
-
--- marks of tokens that don't begin with a brace
-pub no_brace : (ms : List Mark) (ts r : List Token) → is_kind kinds.LeftBrace (head_of ts) ≡ false → Matches ms ts r → begins_with_brace ms ≡ false
-no_brace [] ts r f m = refl
-no_brace (token (fixed k) ∷ ms) ts r f m = brace_by k ms (head_of ts) f m.0
-no_brace (token (identifier n) ∷ ms) ts r f m = refl
-no_brace (token (identifier_name n) ∷ ms) ts r f m = refl
-no_brace (token (numeric_literal v) ∷ ms) ts r f m = refl
-no_brace (token (string_literal v) ∷ ms) ts r f m = refl
-no_brace (beside s ∷ ms) ts r f m = refl
-no_brace (semicolon e ∷ ms) ts r f m = refl
-no_brace (trailing_comma ∷ ms) ts r f m = refl
 
 -- a function that is an assignment
 abbrev pub TakesFunction : ℕ → List Token → Expression → List Token → Type 0
@@ -86,8 +71,8 @@ arrow_of_one_sound q n b s ts x e =
 pub fresh_is : (taken ns : List Identifier) → are_fresh taken ns ≡ true → AreFresh taken ns
 fresh_is taken [] e = tt
 fresh_is taken (n ∷ ns) e =
-    let p = and_true (not (is_among taken n)) (are_fresh (n ∷ taken) ns) e in
-    (not_true (is_among taken n) p.0, fresh_is (n ∷ taken) ns p.1)
+    let p = and_parts (not (is_among taken n)) (are_fresh (n ∷ taken) ns) e in
+    (not-true (is_among taken n) p.0, fresh_is (n ∷ taken) ns p.1)
 
 -- an arrow function whose names in parentheses were read
 arrow_of_names_sound : (q : SeqSound) (n : ℕ) (b : Below) → SoundBelow n b → (s : List Token) (only : Bool) (names : List Identifier) (ts : List Token) (x : Expression × List Token) → Matches (flat_parameters names) s ts → arrow_of_names b only names ts ≡ Ok x → TakesFunction n s x.0 x.1

@@ -135,7 +135,7 @@ some_is v w ts rest e =
 paren_of_name : (t : Token) → is_kind kinds.Name (Some t) ≡ true → is_kind kinds.RightParenthesis (Some t) ≡ false
 paren_of_name t e = kind_not kinds.Name kinds.RightParenthesis (Some t) e refl
 
-paren_of_comma : (t : Token) → is_kind kinds.Comma (Some t) ≡ true → is_kind kinds.RightParenthesis (Some t) ≡ false
+pub paren_of_comma : (t : Token) → is_kind kinds.Comma (Some t) ≡ true → is_kind kinds.RightParenthesis (Some t) ≡ false
 paren_of_comma t e = kind_not kinds.Comma kinds.RightParenthesis (Some t) e refl
 
 -- the parenthesis comes next

@@ -17,11 +17,11 @@ use Rattle.js_syntax.specs.Productions.{Below, one_of, names_before, more_assign
 use Rattle.js_syntax.specs.Parsing.{primary, links, call, updated_by, postfix, unary, chain, operation, arrow_rest, are_fresh, arrow_of_names, arrow_of_one, arrow_of_list, joined, assignment_by, assignment, comma_by, expression}
 use Rattle.js_syntax.proofs.KindLemmas.{kind_is}
 use Rattle.js_grammar.proofs.TokenLaws.{expect_again, name_again}
-use Rattle.js_grammar.proofs.HeadLaws.{start_name}
 use Rattle.js_grammar.proofs.FollowsTools.{Seen, FollowsAt, Follows, gives, past, peeks, binds, makes, low_enough, alike, head_past}
 use Rattle.js_grammar.proofs.FollowsParts.{Pair, more_assignments_follows, made_follows}
 use Rattle.js_grammar.proofs.FollowsExpressions.{links_follows, updated_follows, chain_follows, operation_follows, joined_follows, arrow_rest_follows}
 use Rattle.js_grammar.proofs.FollowsArrows.{Within, not_longer, left_within, within_then, scan_end, stable, Closed, closed, ends_name, Names, closing, closing_makes, end_within, names_within, others_within}
+use Rattle.js_syntax.proofs.ClassLemmas.{start_name}
 
 -- how what reads below goes over names in parentheses
 pub record Spans (b : Below) : Type 0 where
@@ -264,11 +264,11 @@ pub named_is : (b : Below) (n : ℕ) (s : List ℕ) (ts : List Token) → start 
 named_is b n s ts e true = one_of_name b n s ts e
 named_is b n s ts e false = plain_of_name b n s ts e
 
-paren_kind : (k : TokenKind) (s : List ℕ) (v : ℕ) → start_by k s v ≡ classes.parenthesis → k ≡ kinds.LeftParenthesis
+pub paren_kind : (k : TokenKind) (s : List ℕ) (v : ℕ) → start_by k s v ≡ classes.parenthesis → k ≡ kinds.LeftParenthesis
 paren_kind kinds.LeftParenthesis s v e = refl
 paren_kind _ s v e = absurd cc
 
-start_paren : (o : Option Token) → start o ≡ classes.parenthesis → IsNext (fixed kinds.LeftParenthesis) o
+pub start_paren : (o : Option Token) → start o ≡ classes.parenthesis → IsNext (fixed kinds.LeftParenthesis) o
 start_paren None e = absurd cc
 start_paren (Some t) e = paren_kind t.kind t.string_value t.numeric_value e
 
@@ -299,7 +299,7 @@ unfolding arrow_of_list
 list_of_paren b n only ts e = rw (expect_again kinds.LeftParenthesis ts (tail_of ts) (start_paren (head_of ts) e, refl)) refl
 
 -- where names stand in parentheses, no single name does
-no_one : (o : Option (Bool × List Token)) → listed_by o ≡ one_parameter → ⊥
+pub no_one : (o : Option (Bool × List Token)) → listed_by o ≡ one_parameter → ⊥
 no_one None e = absurd cc
 no_one (Some (true, r)) e = absurd cc
 no_one (Some (false, r)) e = by_arrow (is_arrow (head_of r)) e

@@ -11,7 +11,7 @@ use Rattle.js_tree.specs.Views.{expressions, statements, declarators}
 use Rattle.js_syntax.specs.Kinds.{is_kind}
 use Rattle.js_syntax.specs.Classes.{is_name}
 use Rattle.js_syntax.specs.Reading.{stuck, Read, Reader, ◌>>=◌, expect, expect_near, text_of, name_at, fresh_name, is_word_next, word_at, semicolon_at, After, goes_on, ends, neither, after, go_after, elements_by, elements, others_by, others, ends_list, items_by, items, no_state, with_name, with_names}
-use Rattle.js_syntax.specs.Productions.{Code, Below, one_of, arguments_before, more_assignments, names_before, parameters_at, with_declared, items_at, braces, code_at, initializer_by, declarator_at, with_declarator, declarators_at, optional_by, optional_before, ended_expression, Item, tok, near, a_name, the_name, an_assignment, an_expression, optional, arguments, ended, an_end, declared, a_statement, a_block, in_braces, code, Values, expect_name, item, seq, made}
+use Rattle.js_syntax.specs.Productions.{Code, Below, one_of, arguments_before, more_assignments, parameters_at, with_declared, items_at, braces, code_at, initializer_by, declarator_at, with_declarator, declarators_at, optional_by, optional_before, ended_expression, Item, tok, near, a_name, the_name, an_assignment, an_expression, optional, arguments, ended, an_end, declared, a_statement, a_block, in_braces, code, Values, expect_name, item, seq, made}
 use Rattle.js_grammar.proofs.FollowsTools.{Follows, gives, sticks, past, peeks, binds, makes, Shortens, Takes, shortens, Local, Turns, loop_from, loops}
 
 -- what reads below on two sides, where there may be more room on the right
@@ -245,10 +245,6 @@ unfolding more_assignments
 more_assignments_follows b c p =
     makes (λ ts. others (one_of b.assignment) no_state (suc (length ts)) tt ts) (λ ts. others (one_of c.assignment) no_state (suc (length ts)) tt ts) expressions
     (others_follows (one_of b.assignment) (one_of c.assignment) no_state (λ s. p.both.assignment) (λ s. shortens c.assignment c.assignment p.right.assignment) tt)
-
-pub names_follows : Follows (λ ts. names_before ts) (λ ts. names_before ts)
-unfolding names_before
-names_follows = elements_follows (one_of (λ ts. name_at ts)) (one_of (λ ts. name_at ts)) no_state kinds.RightParenthesis (λ s. name_follows) (λ s. shortens (λ ts. name_at ts) (λ ts. name_at ts) name_follows) tt
 
 pub parameters_follows : Follows (λ ts. parameters_at ts) (λ ts. parameters_at ts)
 unfolding parameters_at

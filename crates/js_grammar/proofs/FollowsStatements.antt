@@ -66,10 +66,6 @@ if_follows b c p context =
 
 -- ---- return and throw
 
-abbrev return_items : Bool → List Item
-return_items true = an_end after_word ∷ []
-return_items false = ended ∷ []
-
 abbrev pub return_rest : Below → Bool → Reader Statement
 return_rest b true ts = made b (an_end after_word ∷ []) (λ v. trees.return trees.omitted) ts
 return_rest b false ts = made b (ended ∷ []) (λ v. trees.return (trees.present v.0)) ts

@@ -17,7 +17,8 @@ use Rattle.js_syntax.specs.Reading.{ends_list}
 use Rattle.js_syntax.specs.Classes.{link_by, no_link, update_by, operator_by, joint_by, no_joint, an_expression, first, first_by, ends_return}
 use Rattle.js_syntax.proofs.KindLemmas.{kind_is, kind_not, next_again}
 use Rattle.js_grammar.specs.Laws.{Stops, NoComma, follows_by, follows_statement, closes}
-use Rattle.js_grammar.proofs.ListAgain.{next_shorter, matches_shorter}
+use Rattle.js_grammar.proofs.ListAgain.{matches_shorter}
+use Rattle.js_syntax.proofs.PlacedTokens.{next_shorter}
 
 -- ---- the first token of an expression
 

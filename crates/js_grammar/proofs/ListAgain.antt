@@ -2,11 +2,13 @@
 use Rattle.std.proofs.Common.{◌≡◌, ℕ, zero, suc, ◌<◌, ◌≤◌, Bool, true, false, List, [], ◌∷◌, ◌++◌, length, Option, Ok, refl, sym, ap, subst, ◌⊎◌, inl, inr, append_assoc, arith}
 use Rattle.js_lexer.specs.declared.token.TokenKind.{TokenKind}
 use Rattle.js_lexer.specs.declared.token.TokenKind.TheVariants as kinds
-use Rattle.js_language.specs.Tokens.{Token, Symbol, fixed, Mark, token, beside, semicolon, trailing_comma, head_of, tail_of, IsNext, Matches}
+use Rattle.js_language.specs.Tokens.{Token, fixed, Mark, token, beside, semicolon, trailing_comma, head_of, tail_of, Matches}
 use Rattle.js_syntax.specs.Kinds.{is_kind, is_same_kind}
 use Rattle.js_syntax.specs.Reading.{Reader, elements, others, items, ends_list}
 use Rattle.js_syntax.proofs.KindLemmas.{next_again, kind_not}
 use Rattle.js_grammar.proofs.MarkLaws.{parts}
+use Rattle.js_syntax.proofs.LoopSteps.{tail_shorter}
+use Rattle.js_syntax.proofs.PlacedTokens.{next_shorter}
 
 -- ---- marks of lists
 
@@ -46,14 +48,6 @@ abbrev pub BeginsWithout : {S A : Type 0} → (A → List Mark) → (S → A →
 BeginsWithout {S} {A} f Good test = (s : S) (x : A) → Good s x → (ts r : List Token) → Matches (f x) ts r → test (head_of ts) ≡ false
 
 -- ---- how many tokens
-
-pub tail_shorter : (ts : List Token) → length (tail_of ts) ≤ length ts
-tail_shorter [] = omega arith
-tail_shorter (t ∷ ts) = omega arith
-
-pub next_shorter : (s : Symbol) (ts : List Token) → IsNext s (head_of ts) → length (tail_of ts) < length ts
-next_shorter s [] n = absurd n
-next_shorter s (t ∷ ts) n = omega arith
 
 -- marks take tokens from the front
 pub matches_shorter : (ms : List Mark) (ts r : List Token) → Matches ms ts r → length r ≤ length ts

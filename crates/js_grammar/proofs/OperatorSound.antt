@@ -17,8 +17,11 @@ use Rattle.js_syntax.specs.Productions.{Below, Item, Values, seq, made}
 use Rattle.js_syntax.specs.Parsing.{if_low, call, updated_by, postfix, unary_by, unary, operator_from, chain_by, chain, operation}
 use Rattle.js_grammar.specs.Laws.{TakesExpression, SoundBelow, TakesAll, SeqSound}
 use Rattle.js_grammar.proofs.MarkLaws.{joins}
-use Rattle.js_grammar.proofs.TokenLaws.{bind_ok, got, ok_is, test_ok}
-use Rattle.js_grammar.proofs.HeadLaws.{update_next, prefix_delete, prefix_unary, prefix_update, operator_next, strength_low, from_is, from_none, from_past}
+use Rattle.js_grammar.proofs.TokenLaws.{got, ok_is, test_ok}
+use Rattle.js_grammar.proofs.HeadLaws.{update_next, prefix_unary, from_is, from_past}
+use Rattle.js_syntax.proofs.ClassLemmas.{prefix_delete, prefix_update, operator_next}
+use Rattle.js_grammar.proofs.LevelAgain.{strength_low, from_none}
+use Rattle.js_syntax.proofs.ShorterLemmas.{bind_ok}
 
 -- ---- tools
 
@@ -40,15 +43,6 @@ weaker m k n ts e r le t = record { marks = t.marks; well = t.well; level = omeg
 -- the answer is what was read
 pub takes_ok : (low n : ℕ) (ts : List Token) (e : Expression) (r : List Token) (x : Expression × List Token) → got (e, r) ≡ Ok x → TakesExpression low n ts e r → TakesExpression low n ts x.0 x.1
 takes_ok low n ts e r x is t = subst (λ (x : Expression × List Token). TakesExpression low n ts x.0 x.1) (ok_is (e, r) x is) t
-
--- ---- targets
-
-pub target_level : (e : Expression) → is_target e ≡ true → 15 ≤ level e
-target_level (trees.name n) e = omega arith
-target_level (trees.member f n) e = omega arith
-target_level (trees.index f k) e = omega arith
-target_level (trees.parenthesized f) e = omega arith
-target_level _ e = absurd cc
 
 -- ---- updates
 

@@ -22,6 +22,7 @@ use Rattle.js_grammar.proofs.MarkLaws.{parts}
 use Rattle.js_grammar.proofs.TokenLaws.{expect_again, name_again, fresh_again, semicolon_again}
 use Rattle.js_grammar.proofs.ListAgain.{behind_commas, with_commas, comma_behind, all_marks, AllGood, elements_again, LastEnds, others_again, items_again}
 use Rattle.js_grammar.proofs.FrontAgain.{expression_opens, opens_not, closes_opens, closes_stops, comma_closes, comma_stops, semicolon_stops, word_stops, statement_starts, starts_follows, ends_follows}
+use Rattle.js_grammar.proofs.PartSound.{more_names_is}
 
 -- ---- lists of expressions
 
@@ -86,14 +87,10 @@ more_again n b a e es w h ts r m s no_comma =
 
 -- ---- names
 
-name_marks : (ns : List Identifier) → more_names ns ≡ behind_commas an_identifier ns
-name_marks [] = refl
-name_marks (n ∷ ns) = ap (λ (l : List Mark). token (fixed kinds.Comma) ∷ token (identifier n) ∷ l) (name_marks ns)
-
 -- names up to the parenthesis behind them
 names_marks : (ns : List Identifier) → flat_names ns ++ (token (fixed kinds.RightParenthesis) ∷ []) ≡ with_commas an_identifier ns ++ (comma_behind ns ++ (token (fixed kinds.RightParenthesis) ∷ []))
 names_marks [] = refl
-names_marks (n ∷ ns) = ap (λ (l : List Mark). token (identifier n) ∷ l) (append_assoc (more_names ns) (trailing_comma ∷ []) (token (fixed kinds.RightParenthesis) ∷ []) ∙ ap (λ (l : List Mark). l ++ (trailing_comma ∷ token (fixed kinds.RightParenthesis) ∷ [])) (name_marks ns))
+names_marks (n ∷ ns) = ap (λ (l : List Mark). token (identifier n) ∷ l) (append_assoc (more_names ns) (trailing_comma ∷ []) (token (fixed kinds.RightParenthesis) ∷ []) ∙ ap (λ (l : List Mark). l ++ (trailing_comma ∷ token (fixed kinds.RightParenthesis) ∷ [])) (more_names_is ns))
 
 name_no_closer : (n : Identifier) (o : Option Token) → IsNext (identifier n) o → is_kind kinds.RightParenthesis o ≡ false
 name_no_closer n None m = refl
@@ -150,7 +147,7 @@ fresh_parts : (taken ms ns : List Identifier) → AreFresh taken (ms ++ ns) → 
 fresh_parts taken [] ns f = (tt, f)
 fresh_parts taken (m ∷ ms) ns f = let p = fresh_parts (m ∷ taken) ms ns f.1 in ((f.0, p.0), p.1)
 
-or_parts : (x y : Bool) → (x || y) ≡ false → (x ≡ false) × (y ≡ false)
+pub or_parts : (x y : Bool) → (x || y) ≡ false → (x ≡ false) × (y ≡ false)
 or_parts true y e = absurd cc
 or_parts false y e = (refl, e)
 

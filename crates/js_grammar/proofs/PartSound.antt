@@ -20,8 +20,10 @@ use Rattle.js_syntax.specs.Productions.{Code, Below, one_of, arguments_before, m
 use Rattle.js_syntax.proofs.KindLemmas.{next_is}
 use Rattle.js_grammar.specs.Laws.{NoElse, TakesBlock, TakesCode, SoundBelow, marks_of, marks, Sane, height_at, LastNoElse, TakesAll, SeqSound}
 use Rattle.js_grammar.proofs.MarkLaws.{joins}
-use Rattle.js_grammar.proofs.TokenLaws.{bind_ok, ok_is, test_ok, and_true, expect_sound, expect_near_sound, name_sound, fresh_sound, semicolon_sound}
+use Rattle.js_grammar.proofs.TokenLaws.{ok_is, test_ok, expect_sound, expect_near_sound, name_sound, fresh_sound, semicolon_sound}
 use Rattle.js_grammar.proofs.ListSound.{behind_commas, up_to, in_a_row, AllGood, Reads, elements_sound, others_sound, items_sound}
+use Rattle.js_syntax.proofs.ShorterLemmas.{bind_ok}
+use Rattle.std.proofs.lemmas.Bool.{and_parts}
 
 -- ---- names
 
@@ -97,7 +99,7 @@ more_sound n b s ts x e =
 
 -- ---- parameters
 
-more_names_is : (ns : List Identifier) → more_names ns ≡ behind_commas an_identifier ns
+pub more_names_is : (ns : List Identifier) → more_names ns ≡ behind_commas an_identifier ns
 more_names_is [] = refl
 more_names_is (n ∷ ns) = ap (λ (ms : List Mark). token (fixed kinds.Comma) ∷ token (identifier n) ∷ ms) (more_names_is ns)
 
@@ -331,7 +333,7 @@ ended_sound n b s ts x e =
 pub name_is : (n : List ℕ) (o : Option Token) → is_name n o ≡ true → IsNext (identifier n) o
 name_is n None e = absurd cc
 name_is n (Some t) e =
-    let p = and_true (is_kind kinds.Name (Some t)) (pointwise nat_eq t.string_value n) e in
+    let p = and_parts (is_kind kinds.Name (Some t)) (pointwise nat_eq t.string_value n) e in
     (next_is kinds.Name (Some t) p.0, same_text t.string_value n (sym p.1))
 
 pub expect_name_sound : (n : List ℕ) (ts : List Token) (y : Unit {0} × List Token) → expect_name n ts ≡ Ok y → Matches (token (identifier n) ∷ []) ts y.1

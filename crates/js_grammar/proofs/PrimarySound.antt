@@ -1,11 +1,11 @@
 -- What is read of object literals, primary expressions, members and calls is a well-formed expression's.
-use Rattle.std.proofs.Common.{◌≡◌, ℕ, zero, suc, ◌≤◌, Bool, true, false, cond, List, [], ◌∷◌, ◌++◌, length, Option, Some, None, Ok, refl, sym, ap, subst, ◌∙◌, append_assoc, arith}
+use Rattle.std.proofs.Common.{◌≡◌, ℕ, zero, suc, ◌≤◌, Bool, true, false, List, [], ◌∷◌, ◌++◌, length, Option, Some, None, Ok, refl, sym, ap, subst, ◌∙◌, append_assoc, arith}
 use Rattle.std.proofs.lemmas.List.{append-nil}
 use Rattle.js_lexer.specs.declared.token.TokenKind.{TokenKind}
 use Rattle.js_lexer.specs.declared.token.TokenKind.TheVariants as kinds
 use Rattle.js_tree.specs.Trees as trees
 use Rattle.js_tree.specs.Trees.{Expression, Expressions, Key, Property, Statements}
-use Rattle.js_language.specs.Tokens.{Token, fixed, identifier_name, numeric_literal, string_literal, Mark, token, trailing_comma, head_of, tail_of, is_word, IsNext, Matches}
+use Rattle.js_language.specs.Tokens.{Token, fixed, identifier_name, Mark, token, trailing_comma, head_of, tail_of, IsNext, Matches}
 use Rattle.js_language.specs.Flat as flats
 use Rattle.js_language.specs.Flat.{flat, flat_expressions, trailing, flat_parameters, flat_statements, flat_key, flat_property, flat_properties, more_properties, trailing_property}
 use Rattle.js_language.specs.Well.{WellKey, WellProperty, WellProperties, WellStatements, DifferIn, function_body, is_function}
@@ -13,47 +13,19 @@ use Rattle.js_tree.specs.Height.{height, height_of_key, height_of_property, heig
 use Rattle.js_tree.specs.Views.{properties}
 use Rattle.js_syntax.specs.Reading.{Reader, ◌>>=◌, name_at, word_at, elements, no_state}
 use Rattle.js_syntax.specs.Classes as classes
-use Rattle.js_syntax.specs.Classes.{Start, start, Link, dot, key, no_link, link, KeyStart, key_start_by, key_start, AfterKey, after_key, is_shorthand}
+use Rattle.js_syntax.specs.Classes.{Start, start, Link, dot, key, no_link, link, KeyStart, key_start, AfterKey, after_key, is_shorthand}
 use Rattle.js_syntax.specs.Productions.{Code, Below, one_of, tok, a_name, an_assignment, an_expression, arguments, code}
 use Rattle.js_syntax.specs.Parsing.{if_low, key_by, key_at, member_by, property_by, property_at, properties_at, function_by, function_at, is_name_next, primary_by, primary, linked_by, links_by, links, call}
 use Rattle.js_grammar.specs.Laws.{TakesExpression, SoundBelow, TakesCode, SeqSound}
 use Rattle.js_grammar.proofs.MarkLaws.{joins}
-use Rattle.js_grammar.proofs.TokenLaws.{bind_ok, got, ok_is, name_sound, word_sound}
+use Rattle.js_grammar.proofs.TokenLaws.{got, ok_is, name_sound, word_sound}
 use Rattle.js_grammar.proofs.ListSound.{behind_commas, up_to, AllGood, elements_sound}
-use Rattle.js_grammar.proofs.HeadLaws.{start_this, start_null, start_brace, start_function, start_boolean, start_name, start_number, start_string, link_dot}
+use Rattle.js_grammar.proofs.HeadLaws.{start_boolean}
 use Rattle.js_grammar.proofs.OperatorSound.{made_takes, low_ok, takes_ok, CallSound}
+use Rattle.js_syntax.proofs.ClassLemmas.{start_this, start_null, start_brace, start_function, start_name, start_number, start_string, link_dot, key_word, key_string, key_number}
+use Rattle.js_syntax.proofs.ShorterLemmas.{bind_ok}
 
 -- ---- keys
-
-word_test : (b : Bool) (w s : List ℕ) → cond b (classes.a_word_key s) classes.no_key ≡ classes.a_word_key w → (b ≡ true) × (s ≡ w)
-word_test true w s e = (refl, cc)
-word_test false w s e = absurd cc
-
-word_by : (w : List ℕ) (k : TokenKind) (s : List ℕ) (v : ℕ) → key_start_by k s v ≡ classes.a_word_key w → (is_word k ≡ true) × (s ≡ w)
-word_by w kinds.String s v e = absurd cc
-word_by w kinds.Number s v e = absurd cc
-word_by w kinds.LeftBracket s v e = absurd cc
-word_by w k s v e = word_test (is_word k) w s e
-
-key_word : (w : List ℕ) (o : Option Token) → key_start o ≡ classes.a_word_key w → IsNext (identifier_name w) o
-key_word w None e = absurd cc
-key_word w (Some t) e = word_by w t.kind t.string_value t.numeric_value e
-
-string_by : (w : List ℕ) (k : TokenKind) (s : List ℕ) (v : ℕ) → key_start_by k s v ≡ classes.a_string_key w → (k ≡ kinds.String) × (s ≡ w)
-string_by w kinds.String s v e = (refl, cc)
-string_by w _ s v e = absurd cc
-
-key_string : (w : List ℕ) (o : Option Token) → key_start o ≡ classes.a_string_key w → IsNext (string_literal w) o
-key_string w None e = absurd cc
-key_string w (Some t) e = string_by w t.kind t.string_value t.numeric_value e
-
-number_by : (w : ℕ) (k : TokenKind) (s : List ℕ) (v : ℕ) → key_start_by k s v ≡ classes.a_number_key w → (k ≡ kinds.Number) × (v ≡ w)
-number_by w kinds.Number s v e = (refl, cc)
-number_by w _ s v e = absurd cc
-
-key_number : (w : ℕ) (o : Option Token) → key_start o ≡ classes.a_number_key w → IsNext (numeric_literal w) o
-key_number w None e = absurd cc
-key_number w (Some t) e = number_by w t.kind t.string_value t.numeric_value e
 
 pub record TakesKey (n : ℕ) (ts : List Token) (k : Key) (r : List Token) : Type 0 where
   pub marks : Matches (flat_key k) ts r

@@ -12,9 +12,10 @@ use Rattle.js_syntax.specs.Productions.{Below, Item, tok, near, a_name, the_name
 use Rattle.js_syntax.proofs.KindLemmas.{next_again, kind_not}
 use Rattle.js_grammar.specs.Laws.{Stops, NoComma, follows_statement, Follows, AgainBelow, marks_of, marks, Sane, AllSane, height_at, height_all, EndsLast, fits, all_fit, SeqAgain}
 use Rattle.js_grammar.proofs.MarkLaws.{parts}
-use Rattle.js_grammar.proofs.TokenLaws.{and_true, expect_again, expect_near_again, name_again, text_is, semicolon_again}
+use Rattle.js_grammar.proofs.TokenLaws.{expect_again, expect_near_again, name_again, text_is, semicolon_again}
 use Rattle.js_grammar.proofs.FrontAgain.{closes_stops}
 use Rattle.js_grammar.proofs.PartAgain.{arguments_again, braces_again, code_again, declarators_again, declarators_close, optional_again, ended_again}
+use Rattle.std.proofs.lemmas.Bool.{and_parts}
 
 -- ---- a given name
 
@@ -95,7 +96,7 @@ pub seq_again : SeqAgain
 seq_again n b a [] vs ts r s h f e m = ap (λ (l : List Token). Ok (tt, l)) m
 seq_again n b a (i ∷ is) vs ts r s h f e m =
     let p = parts (marks_of i vs.0) (marks is vs.1) ts r m in
-    let g = and_true (fits i is) (all_fit is) f in
+    let g = and_parts (fits i is) (all_fit is) f in
     let first : item b i ts ≡ Ok (vs.0, p.0) = item_again n b a i vs.0 is vs.1 ts p.0 r s.0 (omega (arith, h)) g.0 e p.1 p.2 in
     let rest : seq b is p.0 ≡ Ok (vs.1, r) = seq_again n b a is vs.1 p.0 r s.1 (omega (arith, h)) g.1 (last_ends i is vs.0 vs.1 r e) p.2 in
     rw (first, rest) refl

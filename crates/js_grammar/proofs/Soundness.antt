@@ -50,7 +50,7 @@ ended_ok : {A : Type 0} (s : A) (ts : List Token) (t : A) → ended_by s ts ≡ 
 ended_ok {A = A} s [] t h = let k : s ≡ t = cc in ap (λ (t : A). got (t, [])) k
 ended_ok s (u ∷ ts) t h = absurd cc
 
-whole_ok : {A : Type 0} (r : Read A) (t : A) → whole r ≡ Ok t → r ≡ Ok (t, [])
+pub whole_ok : {A : Type 0} (r : Read A) (t : A) → whole r ≡ Ok t → r ≡ Ok (t, [])
 whole_ok (Err e) t h = absurd cc
 whole_ok (Ok x) t h = ended_ok x.0 x.1 t h
 

@@ -9,22 +9,23 @@ use Rattle.js_tree.specs.Trees.{Identifier, Expression, OptionalExpression, Decl
 use Rattle.js_language.specs.Tokens.{Token, fixed, IsNext, after_expression, after_word, absent, Mark, token, semicolon, head_of, tail_of, is_on_line, Matches}
 use Rattle.js_language.specs.Flat as flats
 use Rattle.js_language.specs.Flat.{edge, end_of_declarators, on_line, flat, flat_declarators, flat_parameters, flat_statement, flat_statements, flat_handler, flat_finalizer}
-use Rattle.js_language.specs.Well.{Context, Well, WellStatement, WellStatements, WellHandler, WellFinalizer, function_body, is_statement, is_handled, AreFresh, DifferIn, declared_by, declared_names}
-use Rattle.js_tree.specs.Height.{height_of_statement, height_of_statements, height_of_handler, height_of_finalizer}
+use Rattle.js_language.specs.Well.{Context, Well, WellStatement, WellHandler, WellFinalizer, is_statement, is_handled, AreFresh, declared_by}
+use Rattle.js_tree.specs.Height.{height_of_statement, height_of_handler, height_of_finalizer}
 use Rattle.js_syntax.specs.Kinds.{is_kind}
 use Rattle.js_syntax.specs.Reading.{◌>>=◌, fresh_name}
 use Rattle.js_syntax.specs.Classes as classes
 use Rattle.js_syntax.specs.Classes.{First, first, ends_return}
-use Rattle.js_syntax.specs.Productions.{Code, Below, declarators_at, code_at, braces, tok, a_name, ended, an_end, a_statement, a_block, in_braces, Values, seq}
+use Rattle.js_syntax.specs.Productions.{Code, Below, declarators_at, code_at, tok, a_name, ended, an_end, a_statement, a_block, in_braces, Values, seq}
 use Rattle.js_syntax.specs.Parsing.{if_items, if_at, do_items, while_items, return_by, throw_by, let_kind, handler_at, finalizer_by, finalizer_at, try_at, statement_by, statement, lexical_at, declaration_at, item_by, item}
 use Rattle.js_syntax.proofs.KindLemmas.{next_again, kind_not}
 use Rattle.js_grammar.specs.Laws.{follows_statement, NoElse, Follows, AgainBelow}
 use Rattle.js_grammar.proofs.MarkLaws.{parts}
 use Rattle.js_grammar.proofs.TokenLaws.{fresh_again, semicolon_again}
 use Rattle.js_grammar.proofs.FrontAgain.{Front, expression_front, front_no_brace, front_no_function, opens_first, opens_no_return, expression_opens, first_is, follows_no_finally}
-use Rattle.js_grammar.proofs.PartAgain.{braces_again, code_again, declarators_again, declarators_end}
+use Rattle.js_grammar.proofs.PartAgain.{code_again, declarators_again, declarators_end}
 use Rattle.js_grammar.proofs.ProductionAgain.{seq_again, made_again}
 use Rattle.js_grammar.proofs.ForAgain.{let_marks, let_first, for_statement, for_lexical_statement, for_of_statement}
+use Rattle.js_grammar.proofs.PrimaryAgain.{and_nothing}
 
 -- a statement read by its form is read, where its first token is of that class
 abbrev Read : Below → Context → Statement → First → List Token → List Token → Type 0
@@ -166,19 +167,16 @@ debugger_statement n b a context ts r m = word_statement n b a kinds.Debugger tr
 
 -- ---- try
 
-without_nil : (ms : List Mark) (ts r : List Token) → Matches (ms ++ []) ts r → Matches ms ts r
-without_nil ms ts r m = subst (λ (l : List Mark). Matches l ts r) (append-nil ms) m
-
 catch_again : (n : ℕ) (b : Below) → AgainBelow n b → (context : Context) (x : Option Identifier) (ss : Statements) → WellHandler context (trees.catch x ss) → height_of_handler (trees.catch x ss) ≤ n
     → (ts r : List Token) → Matches (flat_handler (trees.catch x ss)) ts r → handler_at b context ts ≡ Ok (trees.catch x ss, r)
 unfolding handler_at
 catch_again n b a context None ss w h ts r m =
-    let body : Matches (flats.in_braces (flat_statements ss)) (tail_of ts) r = without_nil (flats.in_braces (flat_statements ss)) (tail_of ts) r m.1 in
+    let body : Matches (flats.in_braces (flat_statements ss)) (tail_of ts) r = and_nothing (flats.in_braces (flat_statements ss)) (tail_of ts) r m.1 in
     let no_name : is_kind kinds.LeftParenthesis (head_of (tail_of ts)) ≡ false = kind_not kinds.LeftBrace kinds.LeftParenthesis (head_of (tail_of ts)) (next_again kinds.LeftBrace (head_of (tail_of ts)) body.0) refl in
     rw (next_again kinds.Catch (head_of ts) m.0, no_name, a.block context [] ss w.1 w.0 h (tail_of ts) r body) refl
 catch_again n b a context (Some x) ss w h ts r m =
     let us : List Token = tail_of (tail_of (tail_of (tail_of ts))) in
-    let body : Matches (flats.in_braces (flat_statements ss)) us r = without_nil (flats.in_braces (flat_statements ss)) us r m.1.1.1.1 in
+    let body : Matches (flats.in_braces (flat_statements ss)) us r = and_nothing (flats.in_braces (flat_statements ss)) us r m.1.1.1.1 in
     let read : seq b (tok kinds.LeftParenthesis ∷ a_name ∷ tok kinds.RightParenthesis ∷ []) (tail_of ts) ≡ Ok ((tt, (x, (tt, tt))), us) =
     seq_again n b a (tok kinds.LeftParenthesis ∷ a_name ∷ tok kinds.RightParenthesis ∷ []) (tt, (x, (tt, tt))) (tail_of ts) us (tt, (tt, (tt, tt))) (omega arith) refl tt (m.1.0, (m.1.1.0, (m.1.1.1.0, refl))) in
     rw (next_again kinds.Catch (head_of ts) m.0, next_again kinds.LeftParenthesis (head_of (tail_of ts)) m.1.0, read, a.block context (x ∷ []) ss w.1 w.0 h us r body) refl
@@ -215,7 +213,7 @@ try_statement n b a context ss h f w low ts r m follows =
     let body : List Mark = flats.in_braces (flat_statements ss) in
     let p = parts body (flat_handler h ++ (flat_finalizer f ++ [])) (tail_of ts) r m.1 in
     let q = parts (flat_handler h) (flat_finalizer f ++ []) p.0 r p.2 in
-    let last : Matches (flat_finalizer f) q.0 r = without_nil (flat_finalizer f) q.0 r q.2 in
+    let last : Matches (flat_finalizer f) q.0 r = and_nothing (flat_finalizer f) q.0 r q.2 in
     let pieces : Matches (body ++ []) (tail_of ts) p.0 = subst (λ (l : List Mark). Matches l (tail_of ts) p.0) (sym (append-nil body)) p.1 in
     let read : seq b (tok kinds.Try ∷ a_block context [] ∷ []) ts ≡ Ok ((tt, (ss, tt)), p.0) =
     seq_again n b a (tok kinds.Try ∷ a_block context [] ∷ []) (tt, (ss, tt)) ts p.0 (tt, ((w.0, w.1), tt)) (omega (arith, low)) refl tt (m.0, pieces) in
@@ -348,13 +346,3 @@ item_again n b a context taken (trees.lexical constant ds) w d h ts r m f = lexi
 item_again n b a context taken (trees.declared_function x ps body) w d h ts r m f = function_item n b a context taken x ps body w d h ts r m
 item_again n b a context taken (trees.block ss) w d h ts r m f = plain_item n b a context taken (trees.block ss) w refl h ts r m f
 item_again n b a context taken s w d h ts r m f = plain_item n b a context taken s w refl h ts r m f
-
--- ---- blocks and functions
-
-pub block_again : (n : ℕ) (b : Below) → AgainBelow n b → (context : Context) (taken : List Identifier) (ss : Statements) → WellStatements context ss → AreFresh taken (declared_names ss) → suc (height_of_statements ss) ≤ suc n
-    → (ts r : List Token) → Matches (flats.in_braces (flat_statements ss)) ts r → braces b context taken ts ≡ Ok (ss, r)
-block_again n b a context taken ss w f h ts r m = braces_again n b a context taken ss w f (omega (arith, h)) ts r m
-
-pub function_again : (n : ℕ) (b : Below) → AgainBelow n b → (f : Code) → DifferIn f.parameters f.body → WellStatements function_body f.body → suc (height_of_statements f.body) ≤ suc n
-    → (ts r : List Token) → Matches (flat_parameters f.parameters ++ flats.in_braces (flat_statements f.body)) ts r → code_at b ts ≡ Ok (f, r)
-function_again n b a f d w h ts r m = code_again n b a f d w (omega (arith, h)) ts r m

@@ -1,12 +1,12 @@
 -- What the readers of statements, blocks and functions read, where what reads below them reads well-formed trees.
-use Rattle.std.proofs.Common.{◌≡◌, ℕ, suc, ◌≤◌, Bool, true, false, List, [], ◌∷◌, ◌++◌, length, Option, Some, None, Ok, refl, sym, ap, subst, ◌∙◌, append_assoc, arith}
+use Rattle.std.proofs.Common.{◌≡◌, ℕ, suc, ◌≤◌, Bool, true, false, List, [], ◌∷◌, ◌++◌, length, Option, Some, None, Ok, refl, ap, subst, ◌∙◌, append_assoc, arith}
 use Rattle.std.specs.Prelude.{◌||◌, not, max, codes}
 use Rattle.std.proofs.lemmas.List.{append-nil}
 use Rattle.js_lexer.specs.declared.token.TokenKind.{TokenKind}
 use Rattle.js_lexer.specs.declared.token.TokenKind.TheVariants as kinds
 use Rattle.js_tree.specs.Trees as trees
 use Rattle.js_tree.specs.Trees.{Identifier, Statement, Statements, Handler, Finalizer}
-use Rattle.js_language.specs.Tokens.{Token, fixed, identifier, Mark, token, beside, semicolon, trailing_comma, after_expression, after_word, absent_before, head_of, tail_of, IsNext, is_on_line, Matches}
+use Rattle.js_language.specs.Tokens.{Token, fixed, identifier, Mark, token, beside, semicolon, trailing_comma, after_expression, after_word, absent_before, head_of, tail_of, is_on_line, Matches}
 use Rattle.js_language.specs.Flat as flats
 use Rattle.js_language.specs.Flat.{edge, end_of_declarators, on_line, let_or_const, flat, flat_optional, flat_parameters, flat_declarators, flat_statement, flat_statements, flat_handler, flat_finalizer}
 use Rattle.js_language.specs.Well.{Context, begins_with_brace, begins_with_function, WellHandler, WellFinalizer, is_statement, ends_in_if, is_handled, AreFresh, declared_by}
@@ -20,8 +20,11 @@ use Rattle.js_syntax.specs.Parsing.{else_by, if_items, if_at, let_kind, do_items
 use Rattle.js_syntax.proofs.KindLemmas.{next_is, next_again}
 use Rattle.js_grammar.specs.Laws.{NoElse, TakesItem, TakesStatement, TakesBlock, TakesCode, SoundBelow, height_at, height_all, TakesAll}
 use Rattle.js_grammar.proofs.MarkLaws.{joins, parts}
-use Rattle.js_grammar.proofs.TokenLaws.{bind_ok, ok_is, test_ok, fresh_sound, semicolon_sound}
+use Rattle.js_grammar.proofs.TokenLaws.{ok_is, test_ok, fresh_sound, semicolon_sound}
 use Rattle.js_grammar.proofs.PartSound.{braces_sound, code_sound, declarators_sound, seq_sound}
+use Rattle.js_syntax.proofs.ClassLemmas.{first_semicolon, first_lexical, first_function}
+use Rattle.js_syntax.proofs.ShorterLemmas.{bind_ok}
+use Rattle.js_grammar.proofs.PrimaryAgain.{before_nothing, and_nothing}
 
 -- ---- productions
 
@@ -47,13 +50,6 @@ made_as {A} n b s is make ts P f x e =
 
 -- ---- marks
 
--- marks with none behind them
-pub alone : (ms : List Mark) (ts r : List Token) → Matches (ms ++ []) ts r → Matches ms ts r
-alone ms ts r m = subst (λ (l : List Mark). Matches l ts r) (append-nil ms) m
-
-pub alone_again : (ms : List Mark) (ts r : List Token) → Matches ms ts r → Matches (ms ++ []) ts r
-alone_again ms ts r m = subst (λ (l : List Mark). Matches l ts r) (sym (append-nil ms)) m
-
 -- the first token stands on the line of the one before it
 pub on_line_is : (ms ns : List Mark) (ts r : List Token) → is_on_line (head_of ts) ≡ true → Matches (ms ++ ns) ts r → Matches (on_line ms ++ ns) ts r
 on_line_is [] ns ts r h m = m
@@ -71,32 +67,6 @@ no_function (token (fixed kinds.Function) ∷ ms) ts r h m = let q : is_kind kin
 no_function _ ts r h m = refl
 
 -- ---- classes
-
-a_semicolon_next : (o : Option Token) → first o ≡ classes.a_semicolon → IsNext (fixed kinds.Semicolon) o
-a_semicolon_next None e = absurd cc
-a_semicolon_next (Some t) e = by_kind t.kind e
-  where
-    by_kind : (k : TokenKind) → first (Some (record t { kind = k })) ≡ classes.a_semicolon → k ≡ kinds.Semicolon
-    by_kind kinds.Semicolon e = refl
-    by_kind _ e = absurd cc
-
-lexical_next : (constant : Bool) (o : Option Token) → first o ≡ classes.a_lexical constant → IsNext (fixed (let_kind constant)) o
-lexical_next constant None e = absurd cc
-lexical_next constant (Some t) e = by_kind constant t.kind e
-  where
-    by_kind : (constant : Bool) (k : TokenKind) → first (Some (record t { kind = k })) ≡ classes.a_lexical constant → k ≡ let_kind constant
-    by_kind true kinds.Const e = refl
-    by_kind false kinds.Let e = refl
-    by_kind true _ e = absurd cc
-    by_kind false _ e = absurd cc
-
-function_next : (o : Option Token) → first o ≡ classes.a_function → IsNext (fixed kinds.Function) o
-function_next None e = absurd cc
-function_next (Some t) e = by_kind t.kind e
-  where
-    by_kind : (k : TokenKind) → first (Some (record t { kind = k })) ≡ classes.a_function → k ≡ kinds.Function
-    by_kind kinds.Function e = refl
-    by_kind _ e = absurd cc
 
 -- an expression statement begins neither with { nor with function
 expression_next : (o : Option Token) → first o ≡ classes.an_expression → (is_kind kinds.LeftBrace o ≡ false) × (is_kind kinds.Function o ≡ false)
@@ -283,7 +253,7 @@ return_sound n b s context inside ts true h = made_as n b s (tok kinds.Return �
   height = omega arith;
 })
 return_sound n b s context inside ts false h = made_as n b s (tok kinds.Return ∷ ended ∷ []) (λ v. trees.return (trees.present v.1.0)) ts (TakesStatement context (suc n) ts) (λ v r t low. record {
-  marks = (t.marks.0, on_line_is (flat v.1.0) (semicolon (after_expression (edge v.1.0)) ∷ []) (tail_of ts) r (given_on_line (head_of (tail_of ts)) h) (alone (flat v.1.0 ++ (semicolon (after_expression (edge v.1.0)) ∷ [])) (tail_of ts) r t.marks.1));
+  marks = (t.marks.0, on_line_is (flat v.1.0) (semicolon (after_expression (edge v.1.0)) ∷ []) (tail_of ts) r (given_on_line (head_of (tail_of ts)) h) (and_nothing (flat v.1.0 ++ (semicolon (after_expression (edge v.1.0)) ∷ [])) (tail_of ts) r t.marks.1));
   well = (inside, t.sane.1.0);
   form = refl;
   no_else = λ i. absurd cc;
@@ -292,7 +262,7 @@ return_sound n b s context inside ts false h = made_as n b s (tok kinds.Return �
 
 throw_sound : (n : ℕ) (b : Below) → SoundBelow n b → (context : Context) (ts : List Token) (c : Bool) → is_on_line (head_of (tail_of ts)) ≡ c → (x : Statement × List Token) → throw_by b c ts ≡ Ok x → TakesStatement context (suc n) ts x.0 x.1
 throw_sound n b s context ts true h x e = made_as n b s (tok kinds.Throw ∷ ended ∷ []) (λ v. trees.throw v.1.0) ts (TakesStatement context (suc n) ts) (λ v r t low. record {
-  marks = (t.marks.0, on_line_is (flat v.1.0) (semicolon (after_expression (edge v.1.0)) ∷ []) (tail_of ts) r h (alone (flat v.1.0 ++ (semicolon (after_expression (edge v.1.0)) ∷ [])) (tail_of ts) r t.marks.1));
+  marks = (t.marks.0, on_line_is (flat v.1.0) (semicolon (after_expression (edge v.1.0)) ∷ []) (tail_of ts) r h (and_nothing (flat v.1.0 ++ (semicolon (after_expression (edge v.1.0)) ∷ [])) (tail_of ts) r t.marks.1));
   well = t.sane.1.0;
   form = refl;
   no_else = λ i. absurd cc;
@@ -325,7 +295,7 @@ catch_sound n b s context ts h true x e =
     let t = seq_sound n b s catch_items (tail_of ts) p.0 p.1 in
     let u = s.block context (p.0.0.1.0 ∷ []) p.0.1 q.0 q.1 in
     subst (λ (x : Handler × List Token). TakesHandler context n ts x.0 x.1) (ok_is (trees.catch (Some p.0.0.1.0) q.0.0, q.0.1) x q.2) (record {
-      marks = (next_is kinds.Catch (head_of ts) h, joins (token (fixed kinds.LeftParenthesis) ∷ token (identifier p.0.0.1.0) ∷ token (fixed kinds.RightParenthesis) ∷ []) (flats.in_braces (flat_statements q.0.0) ++ []) (tail_of ts) p.0.1 q.0.1 t.marks (alone_again (flats.in_braces (flat_statements q.0.0)) p.0.1 q.0.1 u.0.marks));
+      marks = (next_is kinds.Catch (head_of ts) h, joins (token (fixed kinds.LeftParenthesis) ∷ token (identifier p.0.0.1.0) ∷ token (fixed kinds.RightParenthesis) ∷ []) (flats.in_braces (flat_statements q.0.0) ++ []) (tail_of ts) p.0.1 q.0.1 t.marks (before_nothing (flats.in_braces (flat_statements q.0.0)) p.0.1 q.0.1 u.0.marks));
       well = (u.0.fresh, u.0.well);
       height = u.1;
     })
@@ -333,7 +303,7 @@ catch_sound n b s context ts h false x e =
     let q = bind_ok (b.block context [] (tail_of ts)) (λ x. Ok (trees.catch None x.0, x.1)) x e in
     let u = s.block context [] (tail_of ts) q.0 q.1 in
     subst (λ (x : Handler × List Token). TakesHandler context n ts x.0 x.1) (ok_is (trees.catch None q.0.0, q.0.1) x q.2) (record {
-      marks = (next_is kinds.Catch (head_of ts) h, alone_again (flats.in_braces (flat_statements q.0.0)) (tail_of ts) q.0.1 u.0.marks);
+      marks = (next_is kinds.Catch (head_of ts) h, before_nothing (flats.in_braces (flat_statements q.0.0)) (tail_of ts) q.0.1 u.0.marks);
       well = (u.0.fresh, u.0.well);
       height = u.1;
     })
@@ -371,8 +341,8 @@ try_items context = tok kinds.Try ∷ a_block context [] ∷ []
 
 try_takes : (n : ℕ) (context : Context) (ts : List Token) (vs : Values (try_items context)) (us : List Token) → TakesAll n (try_items context) ts vs us → (h : Handler) (ws : List Token) → TakesHandler context n us h ws → (f : Finalizer) (r : List Token) → TakesFinalizer context n h ws f r → TakesStatement context (suc n) ts (trees.try vs.1.0 h f) r
 try_takes n context ts vs us t h ws u f r v = record {
-  marks = joins (token (fixed kinds.Try) ∷ flats.in_braces (flat_statements vs.1.0)) (flat_handler h ++ (flat_finalizer f ++ [])) ts us r (alone (token (fixed kinds.Try) ∷ flats.in_braces (flat_statements vs.1.0)) ts us t.marks)
-      (joins (flat_handler h) (flat_finalizer f ++ []) us ws r u.marks (alone_again (flat_finalizer f) ws r v.marks));
+  marks = joins (token (fixed kinds.Try) ∷ flats.in_braces (flat_statements vs.1.0)) (flat_handler h ++ (flat_finalizer f ++ [])) ts us r (and_nothing (token (fixed kinds.Try) ∷ flats.in_braces (flat_statements vs.1.0)) ts us t.marks)
+      (joins (flat_handler h) (flat_finalizer f ++ []) us ws r u.marks (before_nothing (flat_finalizer f) ws r v.marks));
   well = (t.sane.1.0.0, t.sane.1.0.1, u.well, v.well, v.handled);
   form = refl;
   no_else = λ i. absurd cc;
@@ -392,7 +362,7 @@ try_sound n b s context ts x e =
 
 block_sound : (n : ℕ) (b : Below) → SoundBelow n b → (context : Context) (ts : List Token) (x : Statement × List Token) → made b (in_braces context [] ∷ []) (λ v. trees.block v.0) ts ≡ Ok x → TakesStatement context (suc n) ts x.0 x.1
 block_sound n b s context ts = made_as n b s (in_braces context [] ∷ []) (λ v. trees.block v.0) ts (TakesStatement context (suc n) ts) (λ v r t low. record {
-  marks = alone (flats.in_braces (flat_statements v.0)) ts r t.marks;
+  marks = and_nothing (flats.in_braces (flat_statements v.0)) ts r t.marks;
   well = t.sane.0;
   form = refl;
   no_else = λ i. absurd cc;
@@ -401,7 +371,7 @@ block_sound n b s context ts = made_as n b s (in_braces context [] ∷ []) (λ v
 
 expression_sound : (n : ℕ) (b : Below) → SoundBelow n b → (context : Context) (ts : List Token) → first (head_of ts) ≡ classes.an_expression → (x : Statement × List Token) → made b (ended ∷ []) (λ v. trees.expression v.0) ts ≡ Ok x → TakesStatement context (suc n) ts x.0 x.1
 expression_sound n b s context ts h = made_as n b s (ended ∷ []) (λ v. trees.expression v.0) ts (TakesStatement context (suc n) ts) (λ v r t low.
-    let m = alone (flat v.0 ++ (semicolon (after_expression (edge v.0)) ∷ [])) ts r t.marks in
+    let m = and_nothing (flat v.0 ++ (semicolon (after_expression (edge v.0)) ∷ [])) ts r t.marks in
     let p = parts (flat v.0) (semicolon (after_expression (edge v.0)) ∷ []) ts r m in
     let k = expression_next (head_of ts) h in
     record {
@@ -416,7 +386,7 @@ statement_by_sound : (n : ℕ) (b : Below) → SoundBelow n b → (context : Con
 statement_by_sound n b s context ts classes.a_block h x e = block_sound n b s context ts x e
 statement_by_sound n b s context ts (classes.a_lexical constant) h x e = absurd cc
 statement_by_sound n b s context ts classes.a_semicolon h x e =
-    subst (λ (x : Statement × List Token). TakesStatement context (suc n) ts x.0 x.1) (ok_is (trees.empty, tail_of ts) x e) (record { marks = (a_semicolon_next (head_of ts) h, refl); well = tt; form = refl; no_else = λ i. absurd cc; height = omega arith })
+    subst (λ (x : Statement × List Token). TakesStatement context (suc n) ts x.0 x.1) (ok_is (trees.empty, tail_of ts) x e) (record { marks = (first_semicolon (head_of ts) h, refl); well = tt; form = refl; no_else = λ i. absurd cc; height = omega arith })
 statement_by_sound n b s context ts classes.an_if h x e = if_sound n b s context ts x e
 statement_by_sound n b s context ts classes.a_do h x e = do_sound n b s context ts x e
 statement_by_sound n b s context ts classes.a_while h x e = while_sound n b s context ts x e
@@ -452,7 +422,7 @@ lexical_sound n b s context constant taken ts h x e =
     let rest = flat_declarators p.0.0 ++ (semicolon (end_of_declarators p.0.0) ∷ []) in
     let m = joins (flat_declarators p.0.0) (semicolon (end_of_declarators p.0.0) ∷ []) (tail_of ts) p.0.1 q.0.1 t.marks (semicolon_sound (end_of_declarators p.0.0) p.0.1 q.0 q.1) in
     subst (λ (x : Statement × List Token). TakesItem context taken (suc n) ts x.0 x.1) (ok_is (trees.lexical constant p.0.0, q.0.1) x q.2) (record {
-      marks = subst (λ (ms : List Mark). Matches (ms ++ rest) ts q.0.1) (let_is constant) (lexical_next constant (head_of ts) h, m);
+      marks = subst (λ (ms : List Mark). Matches (ms ++ rest) ts q.0.1) (let_is constant) (first_lexical constant (head_of ts) h, m);
       well = (t.some, t.well, t.initialized);
       fresh = t.fresh;
       no_else = λ i. absurd cc;
@@ -469,7 +439,7 @@ declaration_sound n b s context taken ts h x e =
     let body = flats.in_braces (flat_statements q.0.0.body) in
     let m = parts (flat_parameters q.0.0.parameters) body p.0.1 q.0.1 u.marks in
     subst (λ (x : Statement × List Token). TakesItem context taken (suc n) ts x.0 x.1) (ok_is (trees.declared_function p.0.0 q.0.0.parameters q.0.0.body, q.0.1) x q.2) (record {
-      marks = (function_next (head_of ts) h, joins (token (identifier p.0.0) ∷ []) (flat_parameters q.0.0.parameters ++ (body ++ [])) (tail_of ts) p.0.1 q.0.1 t.0 (joins (flat_parameters q.0.0.parameters) (body ++ []) p.0.1 m.0 q.0.1 m.1 (alone_again body m.0 q.0.1 m.2)));
+      marks = (first_function (head_of ts) h, joins (token (identifier p.0.0) ∷ []) (flat_parameters q.0.0.parameters ++ (body ++ [])) (tail_of ts) p.0.1 q.0.1 t.0 (joins (flat_parameters q.0.0.parameters) (body ++ []) p.0.1 m.0 q.0.1 m.1 (before_nothing body m.0 q.0.1 m.2)));
       well = (u.differ, u.well);
       fresh = (t.1, tt);
       no_else = λ i. absurd cc;

@@ -1,6 +1,5 @@
 -- The readers of single tokens, both ways, and tools on what is read.
 use Rattle.std.proofs.Common.{◌≡◌, ℕ, Bool, true, false, cond, List, [], ◌∷◌, length, Option, Some, None, Ok, Err, refl, sym, ap, subst, ◌∙◌, ◌⊎◌, inl, inr}
-use Rattle.std.specs.Prelude.{◌&&◌, not}
 use Rattle.js_lexer.specs.declared.token.TokenKind.{TokenKind}
 use Rattle.js_lexer.specs.declared.token.TokenKind.TheVariants as kinds
 use Rattle.js_tree.specs.Trees.{Identifier}
@@ -8,13 +7,10 @@ use Rattle.js_language.specs.Tokens.{Token, fixed, identifier, identifier_name, 
 use Rattle.js_language.specs.Well.{is_among}
 use Rattle.js_syntax.specs.Kinds.{is_kind}
 use Rattle.js_syntax.specs.Reading.{Fault, stuck, Read, ◌>>=◌, expect, expect_near, text_of, name_at, fresh_name, is_word_next, word_at, semicolon_at}
-use Rattle.js_syntax.proofs.KindLemmas.{kind_is, next_is, next_again}
+use Rattle.js_syntax.proofs.KindLemmas.{next_is, next_again}
+use Rattle.js_syntax.proofs.PlacedTokens.{name_next, word_next}
 
 -- ---- tools
-
-pub bind_ok : {A B : Type 0} (r : Read A) (f : A × List Token → Read B) (y : B × List Token) → (r >>= f) ≡ Ok y → (x : A × List Token) × (r ≡ Ok x) × (f x ≡ Ok y)
-bind_ok (Ok x) f y e = (x, refl, e)
-bind_ok (Err d) f y e = absurd cc
 
 abbrev pub got : {A : Type 0} → A × List Token → Read A
 got x = Ok x
@@ -33,14 +29,6 @@ cond_ok false p q y e = inr (refl, e)
 pub test_ok : {A : Type 0} (b : Bool) (p : Read A) (d : Fault) (y : A × List Token) → cond b p (faulty d) ≡ Ok y → (b ≡ true) × (p ≡ Ok y)
 test_ok true p d y e = (refl, e)
 test_ok false p d y e = absurd cc
-
-pub and_true : (a b : Bool) → (a && b) ≡ true → (a ≡ true) × (b ≡ true)
-and_true true b e = (refl, e)
-and_true false b e = absurd cc
-
-pub not_true : (b : Bool) → not b ≡ true → b ≡ false
-not_true true e = absurd cc
-not_true false e = refl
 
 -- ---- a token of a kind
 
@@ -66,10 +54,6 @@ unfolding expect_near
 expect_near_again k ts r m = rw m.1 (expect_again k ts r (m.0, m.2))
 
 -- ---- names and words
-
-name_next : (o : Option Token) → is_kind kinds.Name o ≡ true → IsNext (identifier (text_of o)) o
-name_next None e = cc
-name_next (Some t) e = (kind_is kinds.Name t e, refl)
 
 pub name_sound : (ts : List Token) (y : Identifier × List Token) → name_at ts ≡ Ok y → Matches (token (identifier y.0) ∷ []) ts y.1
 unfolding name_at
@@ -98,10 +82,6 @@ fresh_sound taken ts y e = elim (cond_ok (is_among taken (text_of (head_of ts)))
 pub fresh_again : (taken : List Identifier) (n : Identifier) (ts r : List Token) → Matches (token (identifier n) ∷ []) ts r → is_among taken n ≡ false → fresh_name taken ts ≡ Ok (n, r)
 unfolding fresh_name
 fresh_again taken n ts r m f = rw (ap (λ (n : Identifier). is_among taken n) (text_is n (head_of ts) m.0).1 ∙ f) (name_again n ts r m)
-
-word_next : (o : Option Token) → is_word_next o ≡ true → IsNext (identifier_name (text_of o)) o
-word_next None e = cc
-word_next (Some t) e = (e, refl)
 
 pub word_sound : (ts : List Token) (y : List ℕ × List Token) → word_at ts ≡ Ok y → Matches (token (identifier_name y.0) ∷ []) ts y.1
 unfolding word_at

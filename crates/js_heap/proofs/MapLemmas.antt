@@ -17,7 +17,7 @@ get-end : (cs : List Cell) → slice_get cs (length cs) ≡ None
 get-end [] = refl
 get-end (d ∷ cs) = get-end cs
 
-get-last : (cs : List Cell) (c : Cell) → slice_get (cs ++ c ∷ []) (length cs) ≡ Some c
+pub get-last : (cs : List Cell) (c : Cell) → slice_get (cs ++ c ∷ []) (length cs) ≡ Some c
 get-last [] c = refl
 get-last (d ∷ cs) c = get-last cs c
 

@@ -17,6 +17,7 @@ use Rattle.js_heap.specs.Keys.{same_units, has_key, with_value, stands_before, i
 use Rattle.js_heap.specs.Cells.{Kind, kind_of, weight, changed, with_element, binding_of, bound, declared}
 use Rattle.js_heap.specs.World.{Room, World, fine, effect, full, read_cell, is_own, next_address, with_cell, room_less, make_cell, replaced, room_after, written, written_at, write_cell}
 use Rattle.js_heap.specs.Worlds.{IsObjectKind, IsTextKind, IsScopeKind, Leads, SoundValue, SoundScope, SoundBinding, SoundValues, SoundProperties, SoundNames, SoundCell, SoundCells, IsSound, SoundChange, KindStays, AfterFine}
+use Rattle.js_heap.proofs.MapLemmas.{get-last}
 use Rattle.js_heap.proofs.KeepLemmas.{fine_if, made_kinds, set_kinds, changed-kind, KindKept}
 
 -- ---- what a later world has
@@ -239,10 +240,6 @@ pub writing-sound : (w : World) (a : Addr) (ch : Change) → IsSound w → Sound
 writing-sound w a ch h s = own_sound w a ch (is_own w.start a) h s
 
 -- ---- where a new cell is
-
-get-last : (cs : List Cell) (c : Cell) → slice_get (cs ++ c ∷ []) (length cs) ≡ Some c
-get-last [] c = refl
-get-last (d ∷ cs) c = get-last cs c
 
 pub leads-to : (c : Cell) (o : Option Cell) → o ≡ Some c → Leads (λ k. k ≡ kind_of c) o
 leads-to c None e = cc

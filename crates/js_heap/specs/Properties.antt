@@ -22,9 +22,6 @@ pub use Rattle.js_heap.specs.declared.computed.Written.TheVariants.{Change as a_
 abbrev pub bad_key : Result
 bad_key = an_error classes.TypeError (codes "Property key must be a string or a number")
 
-abbrev pub quoted : List ℕ → List ℕ → List ℕ → List ℕ
-quoted before key behind = before ++ key ++ behind
-
 abbrev pub cannot_read : List ℕ → List ℕ → Result
 cannot_read what key = an_error classes.TypeError (codes "Cannot read properties of " ++ what ++ codes " (reading '" ++ key ++ codes "')")
 

@@ -1,9 +1,9 @@
 //! What an operation on values comes to.
 
-use cdp_text::units::Units;
 use crate::built_in::ErrorClass;
 use crate::change::Change;
 use crate::value::{Addr, Value};
+use cdp_text::units::Units;
 
 /// The result of an operation: a value, a text whose cell isn't made yet, or an error that isn't made yet.
 #[derive(Debug, Drop)]

@@ -9,6 +9,4 @@ pub mod keys;
 pub mod laws;
 pub mod properties;
 pub mod reading;
-#[cfg(test)]
-mod tests;
 pub mod value;

@@ -25,10 +25,6 @@ pub over_stays : (k : ℕ) (p : Program) (f : Finish) (s : State) → steps k p 
 over_stays zero p f s = refl
 over_stays (suc k) p f s = over_stays k p f s
 
-pub over_takes : (k : ℕ) (p : Program) (f : Finish) (s : State) → steps_taken k p (over f s) ≡ 0
-over_takes zero p f s = refl
-over_takes (suc k) p f s = refl
-
 -- with steps left, one is taken
 pub step_left : (n m : ℕ) (p : Program) (t : Term) (s : State) (r : Run) → n ≡ suc m → step p (running t s) ≡ r → steps n p (running t s) ≡ steps m p r
 step_left n m p t s r e h = rw e (ap (steps m p) h)

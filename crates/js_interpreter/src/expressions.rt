@@ -221,5 +221,10 @@ pub fn callee_row(
     let callee = state.get(alloc, scope, reference, values)?;
     let this = callee_this(reference, values);
     let first = two(alloc, done(this), done(callee))?;
-    Ok(went(part(alloc, Form::Call(place, node), joined(first, later)?, end(alloc))?))
+    Ok(went(part(
+        alloc,
+        Form::Call(place, node),
+        joined(first, later)?,
+        end(alloc),
+    )?))
 }

@@ -38,7 +38,12 @@ fn method_row(
     let a = state.make(cell)?;
     let before = values_as_parts(alloc, values)?;
     let behind = joined(one(alloc, done(Value::Object(a)))?, now)?;
-    let whole = part(alloc, Form::Object(members), joined(before, behind)?, others)?;
+    let whole = part(
+        alloc,
+        Form::Object(members),
+        joined(before, behind)?,
+        others,
+    )?;
     Ok(went(whole))
 }
 

@@ -209,6 +209,16 @@ handler_places h = if_some (option_map catch_places h)
 abbrev pub finalizer_places : Option Block → List Place
 finalizer_places f = finally_if_some (option_map block_places f)
 
+-- ---- numbers
+
+-- the numbers of the nodes, in the order in which the nodes end
+abbrev pub numbers_of : List Place → List ℕ
+numbers_of [] = []
+numbers_of (stands s ∷ ps) = numbers_of ps
+numbers_of (stands_maybe kind ∷ ps) = numbers_of ps
+numbers_of (opens n ∷ ps) = numbers_of ps
+numbers_of (closes n ∷ ps) = n ∷ numbers_of ps
+
 -- ---- spans
 
 -- where the next token begins, and where it ends

@@ -1,7 +1,7 @@
 -- The characters of a string literal.
 use Rattle.std.proofs.Common.{◌≡◌, ℕ, suc, ◌+◌, ◌<◌, ◌≤◌, Bool, true, false, not, cond, eqb, leb, List, [], ◌∷◌, ◌++◌, length, take, drop, Option, Some, None, refl, sym, ap, subst, ◌∙◌, append_assoc, arith, ◌&&◌, ◌||◌}
 use Rattle.std.specs.List.{list_all}
-use Rattle.std.proofs.lemmas.Bool.{eqb-true, leb-true, le-leb}
+use Rattle.std.proofs.lemmas.Bool.{eqb-true, leb-true, le-leb, and_parts}
 use Rattle.std.proofs.lemmas.List.{take-append-drop, length-append, length-take}
 use Rattle.std.proofs.Math.Seq.{take-add, take-append_seam, drop-append_seam}
 use lib.Chars.{codes}
@@ -12,7 +12,7 @@ use Rattle.js_lexer.specs.Numbers.{are_digits, digits_value}
 use Rattle.js_lexer.specs.Strings.{is_plain, is_hex, is_single, single_value, IsCharacter}
 use Rattle.js_lexer.specs.Strings.IsCharacter.{plain, continuation, both, single, nul, hex, unit, code_point}
 use Rattle.js_lexer.specs.Characters.{found, hex_at, unit_at, code_point_at, unicode_at, escape_at, character_at}
-use Rattle.js_lexer.proofs.Leading.{and_true, leading_all, leading_within, leading_exact}
+use Rattle.js_lexer.proofs.Leading.{leading_all, leading_within, leading_exact}
 
 -- ---- what is found is a character
 
@@ -90,7 +90,7 @@ good_escape q (c ∷ us) = by_zero (eqb c 48) refl
 
     by_return : (r : Bool) → is_digit c ≡ false → eqb c 120 ≡ false → eqb c 117 ≡ false → ((eqb c 13) && begins (λ d. eqb d 10) us) ≡ r → Good q (92 ∷ c ∷ us) (cond r (found 3 None) (cond (is_line_terminator c) (found 2 None) (found 2 (Some (single_value c)))))
     by_return true d x u e =
-        let a = and_true (eqb c 13) (begins (λ d. eqb d 10) us) e in
+        let a = and_parts (eqb c 13) (begins (λ d. eqb d 10) us) e in
         let l = first_is 10 us a.1 in
         let here : c ∷ us ≡ 13 ∷ 10 ∷ drop 1 us = ap (λ c. c ∷ us) (eqb-true c 13 a.0) ∙ ap (λ l. 13 ∷ l) l in
         subst (λ (l : List ℕ). Good q (92 ∷ l) (found 3 None)) (sym here) (omega arith, omega arith, both refl refl)
@@ -185,13 +185,13 @@ unit_known q a b c d m e = (omega arith, by_brace (eqb a 123) refl)
     by_brace : (t : Bool) → eqb a 123 ≡ t → cond t (code_point_at (b ∷ c ∷ d ∷ m)) (unit_at (a ∷ b ∷ c ∷ d ∷ m)) ≡ found 6 (Some (digits_value 16 0 (a ∷ b ∷ c ∷ d ∷ [])))
     by_brace true f =
         let h : is_hex a ≡ is_hex 123 = ap is_hex (eqb-true a 123 f) in
-        let g = (and_true (is_hex a) (list_all is_hex (b ∷ c ∷ d ∷ [])) e).0 in
+        let g = (and_parts (is_hex a) (list_all is_hex (b ∷ c ∷ d ∷ [])) e).0 in
         absurd cc
     by_brace false f = rw e refl
 
 code_point_known : (q : ℕ) (ds m : List ℕ) → are_digits 16 ds ≡ true → digits_value 16 0 ds ≤ 0x10FFFF → IsFound q (92 ∷ 117 ∷ 123 ∷ (ds ++ codes "}")) (Some (digits_value 16 0 ds)) m
 code_point_known q ds m e h =
-    let a = and_true (list_all is_hex ds) (not (eqb (length ds) 0)) e in
+    let a = and_parts (list_all is_hex ds) (not (eqb (length ds) 0)) e in
     let joined : (ds ++ codes "}") ++ m ≡ ds ++ (125 ∷ m) = append_assoc ds (codes "}") m in
     let n : leading is_hex (ds ++ (125 ∷ m)) ≡ length ds = leading_exact is_hex ds (125 ∷ m) a.0 refl in
     let front : take (length ds) (ds ++ (125 ∷ m)) ≡ ds = take-append_seam ds (125 ∷ m) in

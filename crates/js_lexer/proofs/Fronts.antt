@@ -3,7 +3,7 @@ use Rattle.std.proofs.Common.{◌≡◌, ℕ, suc, ◌+◌, ◌<◌, ◌≤◌, 
 use Rattle.std.specs.List.{list_all}
 use Rattle.std.specs.Prelude.{is_some}
 use Rattle.std.proofs.lemmas.List.{take-append-drop, length-take, length-append}
-use Rattle.std.proofs.lemmas.Bool.{eqb-true}
+use Rattle.std.proofs.lemmas.Bool.{eqb-true, and_parts}
 use Rattle.std.proofs.lemmas.Bool.Decides.{nat_tests}
 use Rattle.std.proofs.Math.Seq.{take-append_seam, drop-append_seam}
 use Rattle.js_lexer.specs.declared.token.TokenKind.{TokenKind}
@@ -17,7 +17,7 @@ use Rattle.js_lexer.specs.Numbers.{IsNumber, goes_on}
 use Rattle.js_lexer.specs.Tokens.{IsListed, IsToken, BeginsAs, IsLongest}
 use Rattle.js_lexer.specs.Tokens.IsToken.{name, reserved, number, string, punctuator}
 use Rattle.js_lexer.specs.Scanning.{number_of, word_token, number_token, string_token, token_at}
-use Rattle.js_lexer.proofs.Leading.{and_true, leading_all, leading_within, leading_longest, leading_exact}
+use Rattle.js_lexer.proofs.Leading.{leading_all, leading_within, leading_longest, leading_exact}
 use Rattle.js_lexer.proofs.Numbers.{number_begins, number_parts, number_some, number_is}
 use Rattle.js_lexer.specs.Pieces.{run}
 use Rattle.js_lexer.specs.Strings.{IsStringLiteral}
@@ -47,12 +47,12 @@ begins_front p (c ∷ t) m e = e
 
 word_begins : (t : List ℕ) → is_word t ≡ true → begins is_word_start t ≡ true
 word_begins [] e = absurd cc
-word_begins (c ∷ t) e = (and_true (is_word_start c) (list_all is_word_part t) e).0
+word_begins (c ∷ t) e = (and_parts (is_word_start c) (list_all is_word_part t) e).0
 
 word_parts : (t : List ℕ) → is_word t ≡ true → list_all is_word_part t ≡ true
 word_parts [] e = refl
 word_parts (c ∷ t) e =
-    let a = and_true (is_word_start c) (list_all is_word_part t) e in
+    let a = and_parts (is_word_start c) (list_all is_word_part t) e in
     rw (a.0, a.1) refl
 
 -- a unit that begins a token of one shape begins none of another

@@ -3,7 +3,7 @@ use Rattle.std.proofs.Common.{◌≡◌, ℕ, zero, suc, ◌+◌, ◌<◌, ◌�
 use Rattle.std.specs.List.{list_any, list_all}
 use Rattle.std.proofs.lemmas.List.{length-drop, length-append}
 use Rattle.std.proofs.Math.Seq.{take-add}
-use Rattle.std.proofs.lemmas.Bool.{eqb-true, ltb-true}
+use Rattle.std.proofs.lemmas.Bool.{eqb-true, ltb-true, and_parts}
 use Rattle.std.proofs.lemmas.Bool.Decides.{nat_tests}
 use lib.Chars.{codes}
 use Rattle.cdp_text.specs.Position.{is_line_terminator}
@@ -12,7 +12,7 @@ use Rattle.js_lexer.specs.Spellings.{begins_with}
 use Rattle.js_lexer.specs.Gaps.{ends_line, IsGapPiece}
 use Rattle.js_lexer.specs.Gaps.IsGapPiece.{blank, line_comment, block_comment}
 use Rattle.js_lexer.specs.Scanning.{line_len, before_close, gap_piece}
-use Rattle.js_lexer.proofs.Leading.{and_true, leading_all, leading_stops, leading_within, leading_exact}
+use Rattle.js_lexer.proofs.Leading.{leading_all, leading_stops, leading_within, leading_exact}
 use Rattle.js_lexer.proofs.Spellings.{begins_with_is}
 use Rattle.js_lexer.proofs.Runs.{Finds, Knows}
 
@@ -61,12 +61,12 @@ close_exact (b ∷ body) m h = by_test (close_exact body m (λ before after e. h
     second : (body : List ℕ) → ((before after : List ℕ) → b ∷ body ≡ before ++ (codes "*/" ++ after) → ⊥) → b ≡ 42 → begins_with (47 ∷ []) (body ++ (codes "*/" ++ m)) ≡ true → ⊥
     second [] h e f = cc
     second (c ∷ cs) h e f =
-        let g : c ≡ 47 = eqb-true c 47 (and_true (eqb c 47) true f).0 in
+        let g : c ≡ 47 = eqb-true c 47 (and_parts (eqb c 47) true f).0 in
         h [] cs cc
 
     by_test : before_close (body ++ (codes "*/" ++ m)) ≡ length body → (c : Bool) → begins_with (codes "*/") (b ∷ (body ++ (codes "*/" ++ m))) ≡ c → cond c 0 (suc (before_close (body ++ (codes "*/" ++ m)))) ≡ suc (length body)
     by_test go true e =
-        let a = and_true (eqb b 42) (begins_with (47 ∷ []) (body ++ (codes "*/" ++ m))) e in
+        let a = and_parts (eqb b 42) (begins_with (47 ∷ []) (body ++ (codes "*/" ++ m))) e in
         absurd (second body h (eqb-true b 42 a.0) a.1)
     by_test go false e = omega arith
 
@@ -77,7 +77,7 @@ Found us n = (n ≤ length us) × IsGapPiece (take n us) (drop n us)
 
 none_from_all : (p : ℕ → Bool) (us : List ℕ) → list_all (λ c. not (p c)) us ≡ true → list_any p us ≡ false
 none_from_all p [] e = refl
-none_from_all p (u ∷ us) e = by_test (λ f. none_from_all p us f) (p u) (and_true (not (p u)) (list_all (λ c. not (p c)) us) e)
+none_from_all p (u ∷ us) e = by_test (λ f. none_from_all p us f) (p u) (and_parts (not (p u)) (list_all (λ c. not (p c)) us) e)
   where
     by_test : (list_all (λ c. not (p c)) us ≡ true → list_any p us ≡ false) → (b : Bool) → (not b ≡ true) × (list_all (λ c. not (p c)) us ≡ true) → (b || list_any p us) ≡ false
     by_test go true a = absurd (let x = a.0 in cc)

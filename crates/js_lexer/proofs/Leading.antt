@@ -1,11 +1,8 @@
 -- How many units at the front pass.
-use Rattle.std.proofs.Common.{◌≡◌, ℕ, suc, ◌≤◌, Bool, true, false, cond, List, [], ◌∷◌, ◌++◌, length, take, drop, refl, arith, ◌&&◌}
+use Rattle.std.proofs.Common.{◌≡◌, ℕ, suc, ◌≤◌, Bool, true, false, cond, List, [], ◌∷◌, ◌++◌, length, take, drop, refl, arith}
 use Rattle.std.specs.List.{list_all}
 use Rattle.js_lexer.specs.Classes.{begins, leading}
-
-pub and_true : (a b : Bool) → (a && b) ≡ true → (a ≡ true) × (b ≡ true)
-and_true true b e = (refl, e)
-and_true false b e = absurd cc
+use Rattle.std.proofs.lemmas.Bool.{and_parts}
 
 pub leading_all : (p : ℕ → Bool) (us : List ℕ) → list_all p (take (leading p us) us) ≡ true
 leading_all p [] = refl
@@ -27,7 +24,7 @@ leading_within p (u ∷ us) = by_test (leading p us) (length us) (leading_within
 pub leading_longest : (p : ℕ → Bool) (t m : List ℕ) → list_all p t ≡ true → length t ≤ leading p (t ++ m)
 leading_longest p [] m e = omega arith
 leading_longest p (u ∷ t) m e =
-    let a = and_true (p u) (list_all p t) e in
+    let a = and_parts (p u) (list_all p t) e in
     rw a.0 (omega (arith, leading_longest p t m a.1))
 
 -- what follows doesn't pass
@@ -44,5 +41,5 @@ pub leading_exact : (p : ℕ → Bool) (t m : List ℕ) → list_all p t ≡ tru
 leading_exact p [] [] e f = refl
 leading_exact p [] (u ∷ m) e f = rw f refl
 leading_exact p (u ∷ t) m e f =
-    let a = and_true (p u) (list_all p t) e in
+    let a = and_parts (p u) (list_all p t) e in
     rw a.0 (omega (arith, leading_exact p t m a.1 f))

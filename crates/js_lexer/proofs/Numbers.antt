@@ -2,14 +2,13 @@
 use Rattle.std.proofs.Common.{◌≡◌, ℕ, suc, ◌+◌, ◌*◌, ◌<◌, ◌≤◌, ◌^◌, Bool, true, false, not, cond, eqb, ltb, List, [], ◌∷◌, length, drop, get_or, Some, None, refl, ap, arith, ◌&&◌, ◌||◌}
 use Rattle.std.specs.List.{list_all}
 use Rattle.std.specs.Prelude.{is_some}
-use Rattle.std.proofs.lemmas.Bool.{eqb-true, ltb-true, lt-ltb}
+use Rattle.std.proofs.lemmas.Bool.{eqb-true, ltb-true, lt-ltb, and_parts}
 use Rattle.std.proofs.lemmas.Bool.Decides.{nat_tests}
 use Rattle.std.proofs.Math.Seq.{drop-cons}
 use Rattle.std.proofs.Math.Nat.{mul-le-mul_left}
 use Rattle.js_lexer.specs.Classes.{begins, is_digit, is_word_part}
 use Rattle.js_lexer.specs.Numbers.{digit_value, are_digits, is_decimal, base_of, is_numeral, digits_value, number_value, IsNumber}
 use Rattle.js_lexer.specs.Scanning.{number_of}
-use Rattle.js_lexer.proofs.Leading.{and_true}
 
 grows : (base v d w : ℕ) → 1 ≤ base → v * base + d ≤ w → v ≤ w
 grows base v d w b h = omega (arith, mul-le-mul_left v b)
@@ -42,12 +41,12 @@ base_is_small c = grind (arith, nat_tests)
 digits_are_parts : (base : ℕ) (ds : List ℕ) → base ≤ 16 → list_all (λ c. ltb (digit_value c) base) ds ≡ true → list_all is_word_part ds ≡ true
 digits_are_parts base [] b e = refl
 digits_are_parts base (d ∷ ds) b e =
-    let a = and_true (ltb (digit_value d) base) (list_all (λ c. ltb (digit_value c) base) ds) e in
+    let a = and_parts (ltb (digit_value d) base) (list_all (λ c. ltb (digit_value c) base) ds) e in
     rw (digit_is_part d base b a.0) (digits_are_parts base ds b a.1)
 
 digits_begin : (ds : List ℕ) → list_all (λ c. ltb (digit_value c) 10) ds ≡ true → not (eqb (length ds) 0) ≡ true → begins is_digit ds ≡ true
 digits_begin [] e f = absurd cc
-digits_begin (d ∷ ds) e f = digit_is_decimal d (and_true (ltb (digit_value d) 10) (list_all (λ c. ltb (digit_value c) 10) ds) e).0
+digits_begin (d ∷ ds) e f = digit_is_decimal d (and_parts (ltb (digit_value d) 10) (list_all (λ c. ltb (digit_value c) 10) ds) e).0
 
 -- a numeral begins with a digit, and a word could hold its units
 pub record IsNumeral (text : List ℕ) : Type 0 where
@@ -57,15 +56,15 @@ pub record IsNumeral (text : List ℕ) : Type 0 where
 decimal_is : (ds : List ℕ) → is_decimal ds ≡ true → IsNumeral ds
 decimal_is [] e = absurd cc
 decimal_is (d ∷ ds) e =
-    let a = and_true (are_digits 10 (d ∷ ds)) (not (eqb d 48) || eqb (length ds) 0) e in
-    let b = and_true (list_all (λ c. ltb (digit_value c) 10) (d ∷ ds)) (not (eqb (length (d ∷ ds)) 0)) a.0 in
+    let a = and_parts (are_digits 10 (d ∷ ds)) (not (eqb d 48) || eqb (length ds) 0) e in
+    let b = and_parts (list_all (λ c. ltb (digit_value c) 10) (d ∷ ds)) (not (eqb (length (d ∷ ds)) 0)) a.0 in
     record { begins_so = digits_begin (d ∷ ds) b.0 b.1; parts = digits_are_parts 10 (d ∷ ds) (omega arith) b.0 }
 
 based_is : (z c : ℕ) (ds : List ℕ) → (b : Bool) → eqb (base_of c) 10 ≡ b → eqb z 48 && not b ≡ true → cond b (is_decimal ds) (are_digits (base_of c) ds) ≡ true → IsNumeral (z ∷ c ∷ ds)
-based_is z c ds true f e h = absurd (let x = (and_true (eqb z 48) false e).1 in cc)
+based_is z c ds true f e h = absurd (let x = (and_parts (eqb z 48) false e).1 in cc)
 based_is z c ds false f e h =
-    let zero_first : z ≡ 48 = eqb-true z 48 (and_true (eqb z 48) true e).0 in
-    let a = and_true (list_all (λ c'. ltb (digit_value c') (base_of c)) ds) (not (eqb (length ds) 0)) h in
+    let zero_first : z ≡ 48 = eqb-true z 48 (and_parts (eqb z 48) true e).0 in
+    let a = and_parts (list_all (λ c'. ltb (digit_value c') (base_of c)) ds) (not (eqb (length ds) 0)) h in
     record {
       begins_so = rw zero_first refl;
       parts = rw (zero_first, letter_is_part c f) (digits_are_parts (base_of c) ds (base_is_small c) a.0);

@@ -1,16 +1,15 @@
 -- Texts at the front, and tables of them.
 use Rattle.std.proofs.Common.{◌≡◌, ℕ, ◌≤◌, true, eqb, List, [], ◌∷◌, ◌++◌, length, drop, refl, ap, eq-eqb, arith}
-use Rattle.std.proofs.lemmas.Bool.{eqb-true}
+use Rattle.std.proofs.lemmas.Bool.{eqb-true, and_parts}
 use Rattle.std.proofs.lemmas.List.{length-append}
 use Rattle.js_lexer.specs.Spellings.{begins_with}
-use Rattle.js_lexer.proofs.Leading.{and_true}
 
 -- a text that stands at the front, and what follows it
 pub begins_with_is : (t us : List ℕ) → begins_with t us ≡ true → us ≡ t ++ drop (length t) us
 begins_with_is [] us e = refl
 begins_with_is (c ∷ cs) [] e = absurd cc
 begins_with_is (c ∷ cs) (u ∷ us) e =
-    let a = and_true (eqb u c) (begins_with cs us) e in
+    let a = and_parts (eqb u c) (begins_with cs us) e in
     let h : u ≡ c = eqb-true u c a.0 in
     let r = begins_with_is cs us a.1 in
     cc

@@ -1,7 +1,7 @@
 -- The tables of words and punctuators.
 use Rattle.std.proofs.Common.{◌≡◌, ℕ, ◌≤◌, Bool, true, false, not, cond, eqb, leb, List, [], ◌∷◌, ◌++◌, length, drop, Option, Some, None, refl, sym, ap, ◌∙◌, ◌⊎◌, inl, inr, eq-eqb, arith, ◌&&◌}
 use Rattle.std.specs.List.{list_all}
-use Rattle.std.proofs.lemmas.Bool.{eqb-true, leb-true}
+use Rattle.std.proofs.lemmas.Bool.{eqb-true, leb-true, and_parts}
 use Rattle.std.proofs.lemmas.List.{append-nil, length-drop}
 use Rattle.js_lexer.specs.declared.token.TokenKind.{TokenKind}
 use Rattle.js_lexer.specs.declared.token.TokenKind.TheVariants.{Name, Number, String}
@@ -10,7 +10,6 @@ use Rattle.js_lexer.specs.Spellings.{begins_with, is_same, kind_in, first_in}
 use Rattle.js_lexer.specs.Words.{is_word, reserved_words}
 use Rattle.js_lexer.specs.Punctuators.{punctuators}
 use Rattle.js_lexer.specs.Tokens.{IsListed}
-use Rattle.js_lexer.proofs.Leading.{and_true}
 use Rattle.js_lexer.proofs.Spellings.{begins_with_is, begins_with_self}
 
 abbrev Entry : Type 0
@@ -19,8 +18,8 @@ Entry = TokenKind × List ℕ
 -- what holds of each entry holds of one
 all_listed : (p : Entry → Bool) (table : List Entry) → list_all p table ≡ true → (e : Entry) → IsListed e table → p e ≡ true
 all_listed p [] h e l = absurd l
-all_listed p (x ∷ xs) h e (inl q) = ap p q ∙ (and_true (p x) (list_all p xs) h).0
-all_listed p (x ∷ xs) h e (inr l) = all_listed p xs (and_true (p x) (list_all p xs) h).1 e l
+all_listed p (x ∷ xs) h e (inl q) = ap p q ∙ (and_parts (p x) (list_all p xs) h).0
+all_listed p (x ∷ xs) h e (inr l) = all_listed p xs (and_parts (p x) (list_all p xs) h).1 e l
 
 -- ---- words
 
@@ -33,7 +32,7 @@ empty_back t us l e = by_rest (drop (length t) us) e (omega (arith, length-drop 
 
 same_is : (t us : List ℕ) → is_same t us ≡ true → us ≡ t
 same_is t us e =
-    let a = and_true (eqb (length us) (length t)) (begins_with t us) e in
+    let a = and_parts (eqb (length us) (length t)) (begins_with t us) e in
     empty_back t us (eqb-true (length us) (length t) a.0) (begins_with_is t us a.1)
 
 same_self : (t : List ℕ) → is_same t t ≡ true
@@ -97,7 +96,7 @@ first_here e es us b = record {
   len = refl;
   longest = λ d f l h. elim l [
     | inl q ↦ omega (arith, ap (λ (x : Entry). length x.1) q)
-    | inr l ↦ leb-true (length f.1) (length e.1) (all_listed (λ d. leb (length d.1) (length e.1)) es (and_true (list_all (λ d. leb (length d.1) (length e.1)) es) (descends es) d).0 f l)
+    | inr l ↦ leb-true (length f.1) (length e.1) (all_listed (λ d. leb (length d.1) (length e.1)) es (and_parts (list_all (λ d. leb (length d.1) (length e.1)) es) (descends es) d).0 f l)
   ];
 }
 
@@ -121,7 +120,7 @@ first_below e es us b (Some t) h = record {
         let g : begins_with f.1 us ≡ begins_with e.1 us = ap (λ (x : Entry). begins_with x.1 us) q in
         absurd cc
         )
-    | inr l ↦ h.longest (and_true (list_all (λ d. leb (length d.1) (length e.1)) es) (descends es) d).1 f l p
+    | inr l ↦ h.longest (and_parts (list_all (λ d. leb (length d.1) (length e.1)) es) (descends es) d).1 f l p
   ];
 }
 

@@ -7,8 +7,6 @@ pub mod number;
 mod punctuators;
 mod spelling;
 pub mod strings;
-#[cfg(test)]
-mod tests;
 pub mod token;
 pub mod tokens;
 mod words;

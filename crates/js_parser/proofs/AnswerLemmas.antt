@@ -2,7 +2,6 @@
 use Rattle.std.proofs.Common.{◌≡◌, ℕ, zero, suc, ◌-◌, ◌≤◌, ◌<◌, inl, inr, List, [], ◌∷◌, ◌++◌, length, Option, Some, None, Result, Ok, Err, refl, sym, ap, subst, ◌∙◌, append_assoc, arith}
 use Rattle.std.specs.Prelude.{slice_get, Bool, true, false, nat_lt, IfOk}
 use borrow.Author.Tests.{ltb-true, ltb-false}
-use Rattle.std.proofs.lemmas.Bool.{cases_lt}
 use Rattle.std.proofs.lemmas.List.{append-nil, length-append}
 use Rattle.js_language.specs.Tokens.{Token}
 use Rattle.js_language.specs.Language.{InLanguage, Begins}
@@ -215,14 +214,6 @@ told_by Is height_of source look room read end ts stop (Err (errors.Syntax left)
 told_answers : {A Tree : Type 0} (Is : List Token → Tree → Type 0) (height_of : Tree → ℕ) (source : List ℕ) (look : A → Tree) (room : ℕ) (read : Result Tree Fault) (end : ℕ) (given : Result (A × ℕ) ParseError)
     → most_height ≤ room → ReadsExactly Is height_of room (lexed_of source).tokens read → length source ≤ most_units → end ≡ length source → Gives (λ x. look x.0) given read → IsHigh height_of look given → Answers Is height_of source look (told (lexed_of source) end given)
 told_answers Is height_of source look room read end given le exact short e g h = told_by Is height_of source look room read end (lexed_of source).tokens (lexed_of source).stop given le exact short e (is_read_of source) g h
-
--- What is told of a source whose tokens weren't read.
-pub unread_answers : {A Tree : Type 0} (Is : List Token → Tree → Type 0) (height_of : Tree → ℕ) (source : List ℕ) (look : A → Tree) (f : ParseFault) → (most_units < length source → f ≡ faults.TooLong (length source)) → (length source ≤ most_units → f ≡ faults.Memory) → Answers Is height_of source look (Err f)
-unread_answers {A} Is height_of source look f long short =
-    elim (cases_lt most_units (length source)) [
-      | inl l ↦ subst (λ (f : ParseFault). Answers Is height_of source look (fails {A = A} f)) (sym (long l)) (placed_answers Is height_of source look (faults.TooLong (length source)) tt (l, refl))
-      | inr s ↦ subst (λ (f : ParseFault). Answers Is height_of source look (fails {A = A} f)) (sym (short s)) (memory_answers Is height_of source look s)
-    ]
 
 -- The same as the one before, of the code's values.
 pub told_as : {A Tree : Type 0} (Is : List Token → Tree → Type 0) (height_of : Tree → ℕ) (source : List ℕ) (look : A → Tree) (room : ℕ) (read : List Token → Result Tree Fault) (l : Lexed) (ts : List Token) (end : ℕ) (given : Result (A × ℕ) ParseError) (answer : Result A ParseFault)

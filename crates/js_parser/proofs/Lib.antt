@@ -6,3 +6,4 @@ pub mod OrderLemmas
 pub mod PlaceLemmas
 pub mod ReadLemmas
 pub mod SpanLemmas
+pub mod NumberLemmas

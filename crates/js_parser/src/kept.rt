@@ -32,6 +32,7 @@ pub fn url_of(alloc: Global, url: &str) -> Result<Units, ParseFault>
 
 /// The spans of the nodes that were made for a source.
 pub fn spans_of(nodes: &Nodes, source: &[u16]) -> Result<Spans, ParseFault>
+    ensures counted { IfOk result (λ spans. length spans ≡ length nodes.now) }
     ensures within { IfOk result (λ spans. All (IsWithin (length source.now)) spans) }
     ensures exact { IfOk result (λ spans. (places : List Place) → AreSpansIn source.now nodes.now places → All IsForward nodes.now → AreSpansIn source.now spans places) }
     ensures fault { IfErr result (λ f. f ≡ Memory) }

@@ -7,7 +7,5 @@ mod kept;
 pub mod parse;
 mod reading;
 pub mod source;
-#[cfg(test)]
-mod tests;
 mod trees;
 mod whole;

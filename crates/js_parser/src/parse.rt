@@ -1,10 +1,11 @@
 //! Sources parsed: scripts, expressions and functions (ECMA-262, 16.1, 13.16, 15.2 and 15.3).
 
 ghost use Rattle.std.specs.Prelude.{◌≡◌, ◌<◌, length, Err, IfErr, IfOk};
+ghost use Rattle.std.specs.List.{range_with_len};
 ghost use Rattle.cdp_text.specs.Units.{utf16_of};
 ghost use Rattle.js_tree.specs.Height.{height, height_of_statements};
 ghost use Rattle.js_language.specs.Language.{IsExpression, IsFunction, IsScript};
-ghost use Rattle.js_language.specs.Places.{expression_places, statements_places};
+ghost use Rattle.js_language.specs.Places.{expression_places, numbers_of, statements_places};
 ghost use Rattle.js_tree.specs.Views.{expression_view, statements_view};
 ghost use Rattle.js_syntax.specs.declared.fault.ParseFault.TheVariants.{TooLong};
 ghost use Rattle.js_parser.specs.Answers.{FailsBy, OkOrMemory};
@@ -32,6 +33,8 @@ pub fn parse_expression(alloc: Global, source: &[u16]) -> Result<Expression, Par
     ensures kept { IfOk result (λ x. x.source ≡ source.now) }
     // The span of each node is that of its own tokens.
     ensures spans { IfOk result (λ x. AreSpansIn source.now x.spans (expression_places x.tree)) }
+    // The nodes are numbered 0, 1, .. in the order in which they end, and each number has a span.
+    ensures numbered { IfOk result (λ x. numbers_of (expression_places x.tree) ≡ range_with_len 0 (length x.spans)) }
     // A source of the language within the limits is answered with its tree, unless memory runs out.
     ensures only { (e : _) → IsSource IsExpression height source.now e → OkOrMemory (λ x. expression_view x.tree ≡ e) result }
     // A source has at most one tree.
@@ -68,6 +71,8 @@ pub fn parse_function(alloc: Global, source: &[u16]) -> Result<FunctionCode, Par
     ensures kept { IfOk result (λ x. x.source ≡ source.now) }
     // The span of each node is that of its own tokens.
     ensures spans { IfOk result (λ x. AreSpansIn source.now x.spans (expression_places x.tree)) }
+    // The nodes are numbered 0, 1, .. in the order in which they end, and each number has a span.
+    ensures numbered { IfOk result (λ x. numbers_of (expression_places x.tree) ≡ range_with_len 0 (length x.spans)) }
     // A source of the language within the limits is answered with its tree, unless memory runs out.
     ensures only { (e : _) → IsSource IsFunction height source.now e → OkOrMemory (λ x. expression_view x.tree ≡ e) result }
     // A source has at most one tree.
@@ -110,6 +115,8 @@ pub fn parse_script(
     ensures kept { IfOk result (λ x. (x.source ≡ source.now) × (x.url ≡ utf16_of url.now) × (x.number ≡ number)) }
     // The span of each node is that of its own tokens.
     ensures spans { IfOk result (λ x. AreSpansIn source.now x.spans (statements_places x.body)) }
+    // The nodes are numbered 0, 1, .. in the order in which they end, and each number has a span.
+    ensures numbered { IfOk result (λ x. numbers_of (statements_places x.body) ≡ range_with_len 0 (length x.spans)) }
     // A source of the language within the limits is answered with its tree, unless memory runs out.
     ensures only { (body : _) → IsSource (IsScript declared.now) height_of_statements source.now body → OkOrMemory (λ x. statements_view x.body ≡ body) result }
     // A source has at most one tree.

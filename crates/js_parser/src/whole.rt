@@ -1,12 +1,12 @@
 //! Trees that all tokens of a source make up.
 
-ghost use Rattle.std.specs.Prelude.{◌≡◌, IfOk, [], All};
+ghost use Rattle.std.specs.Prelude.{◌≡◌, IfOk, [], length, All};
 ghost use Rattle.js_tree.specs.Height.{height, height_of_statements};
 ghost use Rattle.js_tree.specs.Views.{expression_view, statements_view};
 ghost use Rattle.js_syntax.specs.Giving.{Gives};
 ghost use Rattle.js_syntax.specs.Parsing.{parse_expression, parse_function, parse_script};
 ghost use Rattle.js_syntax.specs.Views.{tokens_view};
-ghost use Rattle.js_syntax.specs.Placed.{AreInOrder, IsForward};
+ghost use Rattle.js_syntax.specs.Placed.{AreInOrder, AreNumbered, IsForward};
 ghost use Rattle.js_language.specs.Places.{AreSpans, expression_places, statements_places};
 
 use crate::functions::function_code_at;
@@ -30,6 +30,7 @@ pub fn expression_of(nodes: &mut Nodes, tokens: &[Token<'_>]) -> Result<(Expr, u
     ensures height { IfOk result (λ x. x.1 ≡ height (expression_view x.0)) }
     ensures placed { IfOk result (λ x. AreSpans nodes.new (expression_places x.0) 0 (tokens_view tokens.now) []) }
     ensures forward { IfOk result (λ x. AreInOrder (tokens_view tokens.now) → All IsForward nodes.old → All IsForward nodes.new) }
+    ensures numbers { IfOk result (λ x. AreNumbered (length nodes.old) (expression_places x.0) (length nodes.new)) }
 {
     let (tree, height, rest) = expression_below(nodes, MOST_ROOM, tokens)?;
     if !rest.is_empty() {
@@ -45,6 +46,7 @@ pub fn function_of(nodes: &mut Nodes, tokens: &[Token<'_>]) -> Result<(Expr, u32
     ensures height { IfOk result (λ x. x.1 ≡ height (expression_view x.0)) }
     ensures placed { IfOk result (λ x. AreSpans nodes.new (expression_places x.0) 0 (tokens_view tokens.now) []) }
     ensures forward { IfOk result (λ x. AreInOrder (tokens_view tokens.now) → All IsForward nodes.old → All IsForward nodes.new) }
+    ensures numbers { IfOk result (λ x. AreNumbered (length nodes.old) (expression_places x.0) (length nodes.new)) }
 {
     let (tree, height, rest) = function_code_at(nodes, MOST_ROOM - 1, tokens)?;
     if !rest.is_empty() {
@@ -64,6 +66,7 @@ pub fn script_of<'s>(
     ensures height { IfOk result (λ x. x.1 ≡ height_of_statements (statements_view x.0)) }
     ensures placed { IfOk result (λ x. AreSpans nodes.new (statements_places x.0) 0 (tokens_view tokens.now) []) }
     ensures forward { IfOk result (λ x. AreInOrder (tokens_view tokens.now) → All IsForward nodes.old → All IsForward nodes.new) }
+    ensures numbers { IfOk result (λ x. AreNumbered (length nodes.old) (statements_places x.0) (length nodes.new)) }
 {
     let (body, height, rest) = items_at(nodes, MOST_ROOM, Context::top(), names, tokens)?;
     if !rest.is_empty() {

@@ -81,10 +81,6 @@ pub ruleset found_laws = (literals_literal, literals_parts, found_done, found_st
 
 -- ---- loops
 
--- the literals found so far, and those of the parts left
-pub found_more : (found now : List (List ℕ)) (x : Term) (rest : List Term) → now ≡ found ++ run.literals (term_view x) → now ++ run.literals_of (listed_view rest) ≡ found ++ run.literals_of (listed_view (x ∷ rest))
-found_more found now x rest e = ap (λ us. us ++ run.literals_of (listed_view rest)) e ∙ append_assoc found (run.literals (term_view x)) (run.literals_of (listed_view rest))
-
 -- the parts placed so far, and those left
 placed_front : (front : List semantics.Term) (t : semantics.Term) (rest : semantics.Terms) → semantics.joined (listed (front ++ t ∷ [])) rest ≡ semantics.joined (listed front) (semantics.more t rest)
 placed_front [] t rest = refl

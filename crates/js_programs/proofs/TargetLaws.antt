@@ -66,9 +66,6 @@ type_is _ = refl
 
 -- ---- of a term that is read
 
-abbrev at : Reference → Terms → Terms → ReadTerm
-at r now later = record { reference = r; now = now; later = later }
-
 pub assigned_read : (t e : Term) (r : Reference) (now later : Terms) → read_of t ≡ Some (record { reference = r; now = now; later = later }) → makers.assigned_to t e ≡ semantics.part (forms.Assign r) (semantics.joined now (semantics.one e)) semantics.end
 assigned_read t e r now later h = assigned_is t e ∙ ap (λ o. assigned_by o t e) h
 

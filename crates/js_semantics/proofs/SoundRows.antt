@@ -17,7 +17,7 @@ use Rattle.js_heap.specs.Cells.{kind_of}
 use Rattle.js_heap.specs.World.{World, read_cell}
 use Rattle.js_heap.specs.Worlds.{Leads, IsObjectKind, SoundValue, SoundScope, SoundBinding, SoundValues, SoundProperties, SoundNames, SoundCell, IsSound}
 use Rattle.js_heap.specs.BuiltIns.{script_scope}
-use Rattle.js_heap.proofs.SoundLemmas.{sound-value, sound-scope, read-sound, put_sound}
+use Rattle.js_heap.proofs.SoundLemmas.{sound-value, sound_values, sound_binding, sound-scope, read-sound, put_sound}
 use Rattle.js_semantics.specs.Terms.{Mark, Completion, throws, returns, breaks, continues, Reference, to_name, to_member, to_index, FunctionForm, Member, keyed, computed, Stage, first, doing, testing, body, updating, Form, script, enter, enter_debugger, enter_for, enter_for_of, block, scoped, frame, initialize, choose, both, either, loop, list_of, turn_of, body_of, break_, continue_, return_, throw_, catching, finishing, ending, this, read, typeof_name, unary, binary, comma, function, array, object, method, assign, compound, update, delete, call, call_of, Term, done, standing, part, Terms, end, more, one, joined, dones, at_test, at_update, settled, settle}
 use Rattle.js_heap.specs.Values.{type_text, is_truthy, key_of}
 use Rattle.js_heap.specs.Operators.{not_numbers, binary_result, unary_result, update_result}
@@ -29,7 +29,7 @@ use Rattle.js_semantics.specs.BuiltIns.{argument, last_of, is_array}
 use Rattle.js_semantics.specs.Functions.{Program, function_cell, with_functions}
 use Rattle.js_semantics.specs.Rows.{only, script_row, enter_row, block_row, chosen, kept_or, otherwise, turn_or_end, copy_of, copied, loop_row, for_in, enter_for_row, enter_for_of_row, list_row, element_of, elements_of, body_part, turn_row, type_of_found, comma_row, compound_row, update_value, updated_by, update_row, assign_row, callee_this, callee_row, with_computed, properties_from, object_or_fail, object_row, ending_row, row, catch_row, taken}
 use Rattle.js_semantics.specs.Sound.{SoundCompletion, SoundKept, SoundForm, SoundTerm, SoundTerms, SoundState, HasBuiltIns, Later, SoundAction}
-use Rattle.js_semantics.proofs.SoundTerms.{later-trans, sound-term, sound-terms, sound-values, joined-sound, dones-sound, at_test-sound, at_update-sound, at_body-sound, settled-sound, settle-sound}
+use Rattle.js_semantics.proofs.SoundTerms.{later-trans, sound-term, sound-terms, joined-sound, dones-sound, at_test-sound, at_update-sound, at_body-sound, settled-sound, settle-sound}
 use Rattle.js_semantics.proofs.SoundValues.{SoundK, SoundResult, give-sound, leads-as, make_text-sound, make_object-sound, fail-sound, with_result-sound, binary-sound, unary-sound, update-sound, SoundFound, found-sound, value_of_found-sound, get-value, with_key-sound, read_result-sound, get-sound, put-sound, remove-sound}
 use Rattle.js_semantics.proofs.SoundCalls.{argument-sound, last_of-sound, is-scope, this_of-sound, function-sound, functions-sound, names-sound, new_scope-sound, call-sound, choose_action}
 
@@ -128,16 +128,11 @@ enter_for-sound : (w : World) (scope : Addr) (node : ℕ) (constant : Bool) (nam
 enter_for-sound w scope node constant names later s n h =
     new_scope-sound w scopes.Block [] scope names (λ a. go (for_in constant a later)) s n (λ v l a e. for_in-sound v constant a later e (sound-terms w v l later h))
 
--- a binding's value in a later world
-later-binding : (w v : World) → Later w v → (o : Option Value) → SoundBinding w o → SoundBinding v o
-later-binding w v l None h = tt
-later-binding w v l (Some x) h = sound-value w v l x h
-
 enter_for_of-sound : (w : World) (scope : Addr) (node : ℕ) (b : Binding) (later : Terms) → SoundScope w (Some scope) → SoundBinding w b.value → SoundTerms w later → SoundAction w (enter_for_of_row scope node b later)
 enter_for_of-sound w scope node b end s n h = tt
 enter_for_of-sound w scope node b (more t ts) s n h =
     new_scope-sound w scopes.Block [] scope (b ∷ []) (λ a. go (part (list_of b) (one (settled (scoped a) (one t) end)) ts)) s (n, tt)
-    (λ v l a e. (later-binding w v l b.value n, (scoped-sound v t a (sound-term w v l t h.0) e, tt), sound-terms w v l ts h.1))
+    (λ v l a e. (sound_binding w v l b.value n, (scoped-sound v t a (sound-term w v l t h.0) e, tt), sound-terms w v l ts h.1))
 
 list-sound : (w : World) (b : Binding) (x : Value) (later : Terms) → SoundBinding w b.value → SoundValue w x → SoundTerms w later → SoundAction w (list_row w b x later)
 list-sound w b x later n h k =
@@ -173,7 +168,7 @@ turn_row-sound : (w : World) (scope : Addr) (b : Binding) (i : ℕ) (o : Option 
 turn_row-sound w scope b i None later s n h k = tt
 turn_row-sound w scope b i (Some x) later s n h k =
     new_scope-sound w scopes.Block [] scope (record b { value = Some x } ∷ []) (λ a. go (settled (body_of b (i + 1)) (one (settled (scoped a) (one (body_part later)) end)) later)) s (h, tt)
-    (λ v l a e. settled-sound v (body_of b (i + 1)) (one (settled (scoped a) (one (body_part later)) end)) later (later-binding w v l b.value n)
+    (λ v l a e. settled-sound v (body_of b (i + 1)) (one (settled (scoped a) (one (body_part later)) end)) later (sound_binding w v l b.value n)
     (scoped-sound v (body_part later) a (sound-term w v l (body_part later) (body_part-sound w later k)) e, tt) (sound-terms w v l later k))
 
 -- ---- expressions
@@ -193,7 +188,7 @@ compound-sound : (w : World) → IsSound w → HasBuiltIns w → (scope : Addr) 
 compound-sound w s b scope o r vs end h k = tt
 compound-sound w s b scope o r vs (more e ts) h k =
     get-sound w s b scope r vs (λ old. go (part (assign r) (joined (dones vs) (one (part (binary o) (more (done old) (one e)) end))) end))
-    (λ v l x q. (tt, joined-sound v (dones vs) (one (part (binary o) (more (done x) (one e)) end)) (dones-sound v vs (sound-values w v l vs h)) ((tt, (q, (sound-term w v l e k.0, tt)), tt), tt), tt))
+    (λ v l x q. (tt, joined-sound v (dones vs) (one (part (binary o) (more (done x) (one e)) end)) (dones-sound v vs (sound_values w v l vs h)) ((tt, (q, (sound-term w v l e k.0, tt)), tt), tt), tt))
 
 update_value-sound : (w : World) (b : Bool) (x y : Value) → SoundValue w x → SoundValue w y → SoundValue w (update_value b x y)
 update_value-sound w true x y h k = k
@@ -256,7 +251,7 @@ method-sound w scope ms vs f now ts s h n k key = (
   (s, tt),
   λ v a l e. (
     tt,
-    joined-sound v (dones vs) (more (done (values.Object a)) now) (dones-sound v vs (sound-values w v l vs h))
+    joined-sound v (dones vs) (more (done (values.Object a)) now) (dones-sound v vs (sound_values w v l vs h))
         (is-object v f key scope a e, sound-terms w v l now n),
     sound-terms w v l ts k,
   ),

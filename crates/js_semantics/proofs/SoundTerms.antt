@@ -59,10 +59,6 @@ mutual
   sound-terms w v l end h = tt
   sound-terms w v l (more t ts) h = (sound-term w v l t h.0, sound-terms w v l ts h.1)
 
-pub sound-values : (w v : World) → Later w v → (us : List Value) → SoundValues w us → SoundValues v us
-sound-values w v l [] h = tt
-sound-values w v l (u ∷ us) h = (sound-value w v l u h.0, sound-values w v l us h.1)
-
 sound-program : (w v : World) → Later w v → (p : Program) → SoundProgram w p → SoundProgram v p
 sound-program w v l [] h = tt
 sound-program w v l (t ∷ ts) h = (sound-term w v l t.tree h.0, sound-program w v l ts h.1)

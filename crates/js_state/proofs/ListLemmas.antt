@@ -1,5 +1,6 @@
 -- Lemmas on lists as built-in functions read them.
-use Rattle.std.proofs.Common.{◌≡◌, ℕ, zero, suc, ◌+◌, ◌-◌, ◌<◌, ◌≤◌, Bool, true, false, List, [], ◌∷◌, ◌++◌, length, drop, get_or, Option, Some, None, refl, sym, ap, ◌∙◌, subst, arith, add-one, drop-cons, append_assoc}
+use Rattle.std.proofs.Common.{◌≡◌, ℕ, zero, suc, ◌+◌, ◌-◌, ◌<◌, ◌≤◌, Bool, false, List, [], ◌∷◌, ◌++◌, length, drop, get_or, Option, Some, None, refl, sym, ap, ◌∙◌, subst, arith, add-one, drop-cons, append_assoc}
+use Rattle.std.proofs.Math.Bool.{and-false}
 use Rattle.std.specs.Prelude.{nat_eq, take, ◌==◌, ◌&&◌}
 use Rattle.std.proofs.lemmas.List.{drop_all, take_all, length-drop}
 use Rattle.js_heap.specs.declared.value.Value.{Value}
@@ -63,15 +64,11 @@ pub ruleset part_rules = (part-none, part-some, parts-all)
 
 -- ---- the start of a text
 
-and_false : (b : Bool) → (b && false) ≡ false
-and_false true = refl
-and_false false = refl
-
 pub begins-short : (us vs : List ℕ) → length us < length vs → begins_with us vs ≡ false
 begins-short [] [] h = absurd (omega arith)
 begins-short [] (v ∷ vs) h = refl
 begins-short (u ∷ us) [] h = absurd (omega arith)
-begins-short (u ∷ us) (v ∷ vs) h = ap (λ b. nat_eq u v && b) (begins-short us vs (omega arith)) ∙ and_false (nat_eq u v)
+begins-short (u ∷ us) (v ∷ vs) h = ap (λ b. nat_eq u v && b) (begins-short us vs (omega arith)) ∙ and-false (nat_eq u v)
 
 pub ruleset begin_rules = (begins-short)
 

@@ -17,7 +17,7 @@ use Rattle.js_syntax.specs.Parsing.{operator_from, let_kind}
 
 -- ---- what begins a primary expression
 
-this_by : (k : TokenKind) (s : List ℕ) (v : ℕ) → start_by k s v ≡ this_word → k ≡ kinds.This
+pub this_by : (k : TokenKind) (s : List ℕ) (v : ℕ) → start_by k s v ≡ this_word → k ≡ kinds.This
 this_by kinds.This s v e = refl
 this_by _ s v e = absurd cc
 
@@ -25,7 +25,7 @@ pub start_this : (o : Option Token) → start o ≡ this_word → IsNext (fixed 
 start_this None e = absurd cc
 start_this (Some t) e = this_by t.kind t.string_value t.numeric_value e
 
-null_by : (k : TokenKind) (s : List ℕ) (v : ℕ) → start_by k s v ≡ null_word → k ≡ kinds.Null
+pub null_by : (k : TokenKind) (s : List ℕ) (v : ℕ) → start_by k s v ≡ null_word → k ≡ kinds.Null
 null_by kinds.Null s v e = refl
 null_by _ s v e = absurd cc
 
@@ -33,7 +33,7 @@ pub start_null : (o : Option Token) → start o ≡ null_word → IsNext (fixed 
 start_null None e = absurd cc
 start_null (Some t) e = null_by t.kind t.string_value t.numeric_value e
 
-brace_by : (k : TokenKind) (s : List ℕ) (v : ℕ) → start_by k s v ≡ brace → k ≡ kinds.LeftBrace
+pub brace_by : (k : TokenKind) (s : List ℕ) (v : ℕ) → start_by k s v ≡ brace → k ≡ kinds.LeftBrace
 brace_by kinds.LeftBrace s v e = refl
 brace_by _ s v e = absurd cc
 
@@ -41,7 +41,7 @@ pub start_brace : (o : Option Token) → start o ≡ brace → IsNext (fixed kin
 start_brace None e = absurd cc
 start_brace (Some t) e = brace_by t.kind t.string_value t.numeric_value e
 
-function_by : (k : TokenKind) (s : List ℕ) (v : ℕ) → start_by k s v ≡ function_word → k ≡ kinds.Function
+pub function_by : (k : TokenKind) (s : List ℕ) (v : ℕ) → start_by k s v ≡ function_word → k ≡ kinds.Function
 function_by kinds.Function s v e = refl
 function_by _ s v e = absurd cc
 
@@ -49,7 +49,7 @@ pub start_function : (o : Option Token) → start o ≡ function_word → IsNext
 start_function None e = absurd cc
 start_function (Some t) e = function_by t.kind t.string_value t.numeric_value e
 
-boolean_by : (c : Bool) (k : TokenKind) (s : List ℕ) (v : ℕ) → start_by k s v ≡ a_boolean c → k ≡ cond c kinds.True kinds.False
+pub boolean_by : (c : Bool) (k : TokenKind) (s : List ℕ) (v : ℕ) → start_by k s v ≡ a_boolean c → k ≡ cond c kinds.True kinds.False
 boolean_by true kinds.True s v e = refl
 boolean_by false kinds.False s v e = refl
 boolean_by true _ s v e = absurd cc
@@ -59,7 +59,7 @@ pub start_boolean : (c : Bool) (o : Option Token) → start o ≡ a_boolean c �
 start_boolean c None e = absurd cc
 start_boolean c (Some t) e = boolean_by c t.kind t.string_value t.numeric_value e
 
-name_by : (n : List ℕ) (k : TokenKind) (s : List ℕ) (v : ℕ) → start_by k s v ≡ a_name n → (k ≡ kinds.Name) × (s ≡ n)
+pub name_by : (n : List ℕ) (k : TokenKind) (s : List ℕ) (v : ℕ) → start_by k s v ≡ a_name n → (k ≡ kinds.Name) × (s ≡ n)
 name_by n kinds.Name s v e = (refl, cc)
 name_by n _ s v e = absurd cc
 
@@ -67,7 +67,7 @@ pub start_name : (n : List ℕ) (o : Option Token) → start o ≡ a_name n → 
 start_name n None e = absurd cc
 start_name n (Some t) e = name_by n t.kind t.string_value t.numeric_value e
 
-number_by : (n : ℕ) (k : TokenKind) (s : List ℕ) (v : ℕ) → start_by k s v ≡ a_number n → (k ≡ kinds.Number) × (v ≡ n)
+pub number_by : (n : ℕ) (k : TokenKind) (s : List ℕ) (v : ℕ) → start_by k s v ≡ a_number n → (k ≡ kinds.Number) × (v ≡ n)
 number_by n kinds.Number s v e = (refl, cc)
 number_by n _ s v e = absurd cc
 
@@ -75,7 +75,7 @@ pub start_number : (n : ℕ) (o : Option Token) → start o ≡ a_number n → I
 start_number n None e = absurd cc
 start_number n (Some t) e = number_by n t.kind t.string_value t.numeric_value e
 
-string_by : (n : List ℕ) (k : TokenKind) (s : List ℕ) (v : ℕ) → start_by k s v ≡ a_string n → (k ≡ kinds.String) × (s ≡ n)
+pub string_by : (n : List ℕ) (k : TokenKind) (s : List ℕ) (v : ℕ) → start_by k s v ≡ a_string n → (k ≡ kinds.String) × (s ≡ n)
 string_by n kinds.String s v e = (refl, cc)
 string_by n _ s v e = absurd cc
 
@@ -85,7 +85,7 @@ start_string n (Some t) e = string_by n t.kind t.string_value t.numeric_value e
 
 -- ---- what goes on with a call or a member
 
-dot_by : (k : TokenKind) → link_by k ≡ dot → k ≡ kinds.Dot
+pub dot_by : (k : TokenKind) → link_by k ≡ dot → k ≡ kinds.Dot
 dot_by kinds.Dot e = refl
 dot_by _ e = absurd cc
 
@@ -95,7 +95,7 @@ link_dot (Some t) e = dot_by t.kind e
 
 -- ---- operators before and behind an operand
 
-updated_by : (u : UpdateOperator) (k : TokenKind) → update_by k ≡ Some u → k ≡ update_kind u
+pub updated_by : (u : UpdateOperator) (k : TokenKind) → update_by k ≡ Some u → k ≡ update_kind u
 updated_by u kinds.Increment e = let is : updates.Increment ≡ u = cc in ap (λ (u : UpdateOperator). update_kind u) is
 updated_by u kinds.Decrement e = let is : updates.Decrement ≡ u = cc in ap (λ (u : UpdateOperator). update_kind u) is
 updated_by u _ e = absurd cc
@@ -109,7 +109,7 @@ pub update_next : (u : UpdateOperator) (o : Option Token) → update_near o ≡ 
 update_next u None e = absurd cc
 update_next u (Some t) e = near_by u t.newline_before t.kind e
 
-delete_by : (k : TokenKind) → prefix_by k ≡ deletes → k ≡ kinds.Delete
+pub delete_by : (k : TokenKind) → prefix_by k ≡ deletes → k ≡ kinds.Delete
 delete_by kinds.Delete e = refl
 delete_by _ e = absurd cc
 
@@ -130,7 +130,7 @@ pub prefix_unary : (u : UnaryOperator) (o : Option Token) → prefix o ≡ a_una
 prefix_unary u None e = absurd cc
 prefix_unary u (Some t) e = unary_by u t.kind e
 
-prefix_update_by : (u : UpdateOperator) (k : TokenKind) → prefix_by k ≡ an_update u → k ≡ update_kind u
+pub prefix_update_by : (u : UpdateOperator) (k : TokenKind) → prefix_by k ≡ an_update u → k ≡ update_kind u
 prefix_update_by u kinds.Increment e = let is : updates.Increment ≡ u = cc in ap (λ (u : UpdateOperator). update_kind u) is
 prefix_update_by u kinds.Decrement e = let is : updates.Decrement ≡ u = cc in ap (λ (u : UpdateOperator). update_kind u) is
 prefix_update_by u _ e = absurd cc
@@ -146,7 +146,7 @@ abbrev KindOf : Option BinaryOperator → TokenKind → Type 0
 KindOf None k = Unit {0}
 KindOf (Some o) k = k ≡ binary_kind o
 
-kind_of : (k : TokenKind) → KindOf (operator_by k) k
+pub kind_of : (k : TokenKind) → KindOf (operator_by k) k
 kind_of kinds.LogicalOr = refl
 kind_of kinds.LogicalAnd = refl
 kind_of kinds.BitwiseOr = refl
@@ -188,11 +188,11 @@ from_next m o next e = operator_next o next (from_is (operator next) e)
 
 -- ---- keys
 
-word_test : (b : Bool) (w s : List ℕ) → cond b (classes.a_word_key s) classes.no_key ≡ classes.a_word_key w → (b ≡ true) × (s ≡ w)
+pub word_test : (b : Bool) (w s : List ℕ) → cond b (classes.a_word_key s) classes.no_key ≡ classes.a_word_key w → (b ≡ true) × (s ≡ w)
 word_test true w s e = (refl, cc)
 word_test false w s e = absurd cc
 
-key_word_by : (w : List ℕ) (k : TokenKind) (s : List ℕ) (v : ℕ) → key_start_by k s v ≡ classes.a_word_key w → (is_word k ≡ true) × (s ≡ w)
+pub key_word_by : (w : List ℕ) (k : TokenKind) (s : List ℕ) (v : ℕ) → key_start_by k s v ≡ classes.a_word_key w → (is_word k ≡ true) × (s ≡ w)
 key_word_by w kinds.String s v e = absurd cc
 key_word_by w kinds.Number s v e = absurd cc
 key_word_by w kinds.LeftBracket s v e = absurd cc
@@ -202,7 +202,7 @@ pub key_word : (w : List ℕ) (o : Option Token) → key_start o ≡ classes.a_w
 key_word w None e = absurd cc
 key_word w (Some t) e = key_word_by w t.kind t.string_value t.numeric_value e
 
-key_string_by : (w : List ℕ) (k : TokenKind) (s : List ℕ) (v : ℕ) → key_start_by k s v ≡ classes.a_string_key w → (k ≡ kinds.String) × (s ≡ w)
+pub key_string_by : (w : List ℕ) (k : TokenKind) (s : List ℕ) (v : ℕ) → key_start_by k s v ≡ classes.a_string_key w → (k ≡ kinds.String) × (s ≡ w)
 key_string_by w kinds.String s v e = (refl, cc)
 key_string_by w _ s v e = absurd cc
 
@@ -210,7 +210,7 @@ pub key_string : (w : List ℕ) (o : Option Token) → key_start o ≡ classes.a
 key_string w None e = absurd cc
 key_string w (Some t) e = key_string_by w t.kind t.string_value t.numeric_value e
 
-key_number_by : (w : ℕ) (k : TokenKind) (s : List ℕ) (v : ℕ) → key_start_by k s v ≡ classes.a_number_key w → (k ≡ kinds.Number) × (v ≡ w)
+pub key_number_by : (w : ℕ) (k : TokenKind) (s : List ℕ) (v : ℕ) → key_start_by k s v ≡ classes.a_number_key w → (k ≡ kinds.Number) × (v ≡ w)
 key_number_by w kinds.Number s v e = (refl, cc)
 key_number_by w _ s v e = absurd cc
 

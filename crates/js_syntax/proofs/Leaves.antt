@@ -17,6 +17,7 @@ use Rattle.js_syntax.specs.Parsing as parsing
 use Rattle.js_syntax.specs.Parsing.{if_low}
 use Rattle.js_syntax.specs.Productions as productions
 use Rattle.js_syntax.specs.Productions.{tok, a_name, an_assignment, an_expression, arguments, ended, an_end, a_statement, a_block, in_braces, code, Below, Item, item, seq, made, one_of, arguments_before, more_assignments, names_before, parameters_at, items_at, braces, code_at, initializer_by, declarator_at, declarators_at, with_declarator, with_declared, optional_by, optional_before, ended_expression, expect_name}
+use Rattle.js_syntax.proofs.LoopSteps.{tail_shorter}
 
 -- what is read leaves fewer than n tokens
 abbrev pub Leaves : {A : Type 0} → ℕ → Read A → Type 0
@@ -42,10 +43,6 @@ wider m n (Err e) h l = tt
 choose : {A : Type 0} (n : ℕ) (c : Bool) (a b : Read A) → Leaves n a → Leaves n b → Leaves n (if c then a else b)
 choose n true a b h k = h
 choose n false a b h k = k
-
-tail_le : (ts : List Token) → length (tail_of ts) ≤ length ts
-tail_le [] = omega arith
-tail_le (t ∷ ts) = omega arith
 
 -- ---- single tokens
 
@@ -75,7 +72,7 @@ word_short (t ∷ ts) = choose (length (t ∷ ts)) (is_word_next (Some t)) (Ok (
 
 semicolon_weak : (end : End) → Weak (semicolon_at end)
 unfolding semicolon_at
-semicolon_weak end ts = choose (suc (length ts)) (is_kind kinds.Semicolon (head_of ts)) (Ok (tt, tail_of ts)) _ (omega (arith, tail_le ts)) (choose (suc (length ts)) (absent end (head_of ts)) (Ok (tt, ts)) _ (omega arith) tt)
+semicolon_weak end ts = choose (suc (length ts)) (is_kind kinds.Semicolon (head_of ts)) (Ok (tt, tail_of ts)) _ (omega (arith, tail_shorter ts)) (choose (suc (length ts)) (absent end (head_of ts)) (Ok (tt, ts)) _ (omega arith) tt)
 
 the_name_short : (n : List ℕ) → Short (expect_name n)
 unfolding expect_name
@@ -85,8 +82,8 @@ the_name_short n (t ∷ ts) = choose (length (t ∷ ts)) (is_name n (Some t)) (O
 -- ---- lists
 
 go_after_leaves : {A : Type 0} (n : ℕ) (go : Reader (List A)) (a : After) (ts : List Token) → length ts < n → Weak go → Leaves n (go_after go a ts)
-go_after_leaves n go goes_on ts l h = wider (suc (length (tail_of ts))) n (go (tail_of ts)) (h (tail_of ts)) (omega (arith, tail_le ts))
-go_after_leaves n go ends ts l h = omega (arith, tail_le ts)
+go_after_leaves n go goes_on ts l h = wider (suc (length (tail_of ts))) n (go (tail_of ts)) (h (tail_of ts)) (omega (arith, tail_shorter ts))
+go_after_leaves n go ends ts l h = omega (arith, tail_shorter ts)
 go_after_leaves n go neither ts l h = tt
 
 weaken : {A : Type 0} (r : Reader A) → Short r → Weak r
@@ -107,7 +104,7 @@ elements_short one next closer h (suc k) s (t ∷ ts) = elements_whole one next 
 
 others_rest : {S A : Type 0} (one : S → Reader A) (next : S → A → S) (go : S → Reader (List A)) (s : S) (ts : List Token) (c : Bool) → Short (one s) → ((s : S) → Weak (go s)) → Leaves (suc (length ts)) (others_by one next go s c ts)
 others_rest one next go s ts false h g = omega arith
-others_rest one next go s ts true h g = after_that (length (tail_of ts)) (suc (length ts)) (one s (tail_of ts)) _ (h (tail_of ts)) (λ x l. after_that (suc (length x.1)) (suc (length ts)) (go (next s x.0) x.1) _ (g (next s x.0) x.1) (λ y k. omega (arith, tail_le ts)))
+others_rest one next go s ts true h g = after_that (length (tail_of ts)) (suc (length ts)) (one s (tail_of ts)) _ (h (tail_of ts)) (λ x l. after_that (suc (length x.1)) (suc (length ts)) (go (next s x.0) x.1) _ (g (next s x.0) x.1) (λ y k. omega (arith, tail_shorter ts)))
 
 others_weak : {S A : Type 0} (one : S → Reader A) (next : S → A → S) → ((s : S) → Short (one s)) → (k : ℕ) (s : S) → Weak (others one next k s)
 unfolding others
@@ -167,7 +164,7 @@ unfolding code_at
 code_short b h ts = after_that (length ts) (length ts) (parameters_at ts) _ (parameters_short ts) (λ ps l. after_that (length ps.1) (length ts) _ _ (braces_short b h _ _ ps.1) (λ x k. omega arith))
 
 initializer_weak : (b : Below) (h : ShortBelow b) (constant : Bool) (n : Identifier) (c : Bool) → Weak (initializer_by b constant n c)
-initializer_weak b h constant n true ts = after_that (length (tail_of ts)) (suc (length ts)) (b.assignment (tail_of ts)) _ (h.assignment (tail_of ts)) (λ x l. omega (arith, tail_le ts))
+initializer_weak b h constant n true ts = after_that (length (tail_of ts)) (suc (length ts)) (b.assignment (tail_of ts)) _ (h.assignment (tail_of ts)) (λ x l. omega (arith, tail_shorter ts))
 initializer_weak b h true n false ts = tt
 initializer_weak b h false n false ts = omega arith
 
@@ -297,7 +294,7 @@ primary_short b h n [] = tt
 primary_short b h n (t ∷ ts) = primary_by_short b h n t ts (start (Some t))
 
 linked_weak : (b : Below) (h : ShortBelow b) (e : Expression) (l : Link) → Weak (parsing.linked_by b e l)
-linked_weak b h e classes.dot ts = after_that (length (tail_of ts)) (suc (length ts)) (word_at (tail_of ts)) _ (word_short (tail_of ts)) (λ x l. omega (arith, tail_le ts))
+linked_weak b h e classes.dot ts = after_that (length (tail_of ts)) (suc (length ts)) (word_at (tail_of ts)) _ (word_short (tail_of ts)) (λ x l. omega (arith, tail_shorter ts))
 linked_weak b h e classes.key ts = weaken _ (made_short b h (tok kinds.LeftBracket ∷ an_expression ∷ tok kinds.RightBracket ∷ []) (λ v. trees.index e v.1.0) refl) ts
 linked_weak b h e classes.arguments ts = weaken _ (made_short b h (tok kinds.LeftParenthesis ∷ arguments kinds.RightParenthesis ∷ []) (λ v. trees.call e v.1.0) refl) ts
 linked_weak b h e classes.no_link ts = tt
@@ -321,16 +318,16 @@ call_short b h n ts = after_that (length ts) (length ts) (parsing.primary b n ts
 
 updated_weak : (n : ℕ) (e : Expression) (o : Option _) → Weak (parsing.updated_by n e o)
 updated_weak n e None ts = omega arith
-updated_weak n e (Some o) ts = choose (suc (length ts)) (is_target e) _ _ (low_leaves (suc (length ts)) _ n ts (Ok (trees.postfix o e, tail_of ts)) (omega (arith, tail_le ts))) tt
+updated_weak n e (Some o) ts = choose (suc (length ts)) (is_target e) _ _ (low_leaves (suc (length ts)) _ n ts (Ok (trees.postfix o e, tail_of ts)) (omega (arith, tail_shorter ts))) tt
 
 postfix_short : (b : Below) (h : ShortBelow b) (n : ℕ) → Short (parsing.postfix b n)
 unfolding parsing.postfix
 postfix_short b h n ts = after_that (length ts) (length ts) (parsing.call b n ts) _ (call_short b h n ts) (λ x l. wider (suc (length x.1)) (length ts) _ (updated_weak n x.0 (update_near (head_of x.1)) x.1) (omega arith))
 
 unary_by_short : (b : Below) (h : ShortBelow b) (n : ℕ) (p : Prefix) → Short (parsing.unary_by b n p)
-unary_by_short b h n classes.deletes ts = after_that (length (tail_of ts)) (length ts) (b.call (tail_of ts)) _ (h.call (tail_of ts)) (λ x l. choose (length ts) (is_property x.0) (Ok (trees.unary unaries.Delete x.0, x.1)) _ (omega (arith, tail_le ts)) tt)
-unary_by_short b h n (classes.a_unary o) ts = after_that (length (tail_of ts)) (length ts) (b.unary (tail_of ts)) _ (h.unary (tail_of ts)) (λ x l. omega (arith, tail_le ts))
-unary_by_short b h n (classes.an_update o) ts = after_that (length (tail_of ts)) (length ts) (b.call (tail_of ts)) _ (h.call (tail_of ts)) (λ x l. choose (length ts) (is_target x.0) (Ok (trees.prefix o x.0, x.1)) _ (omega (arith, tail_le ts)) tt)
+unary_by_short b h n classes.deletes ts = after_that (length (tail_of ts)) (length ts) (b.call (tail_of ts)) _ (h.call (tail_of ts)) (λ x l. choose (length ts) (is_property x.0) (Ok (trees.unary unaries.Delete x.0, x.1)) _ (omega (arith, tail_shorter ts)) tt)
+unary_by_short b h n (classes.a_unary o) ts = after_that (length (tail_of ts)) (length ts) (b.unary (tail_of ts)) _ (h.unary (tail_of ts)) (λ x l. omega (arith, tail_shorter ts))
+unary_by_short b h n (classes.an_update o) ts = after_that (length (tail_of ts)) (length ts) (b.call (tail_of ts)) _ (h.call (tail_of ts)) (λ x l. choose (length ts) (is_target x.0) (Ok (trees.prefix o x.0, x.1)) _ (omega (arith, tail_shorter ts)) tt)
 unary_by_short b h n classes.no_prefix ts = postfix_short b h n ts
 
 unary_short : (b : Below) (h : ShortBelow b) (n : ℕ) → Short (parsing.unary b n)
@@ -339,7 +336,7 @@ unary_short b h n ts = unary_by_short b h n (prefix (head_of ts)) ts
 
 chain_then : (b : Below) (h : ShortBelow b) (n : ℕ) (go : Expression → Reader Expression) (e : Expression) (o : Option _) → ((f : Expression) → Weak (go f)) → Weak (parsing.chain_by b n go e o)
 chain_then b h n go e None g ts = omega arith
-chain_then b h n go e (Some o) g ts = low_leaves _ _ n ts _ (after_that (length (tail_of ts)) (suc (length ts)) (b.operation (suc (strength o)) (tail_of ts)) _ (h.operation (suc (strength o)) (tail_of ts)) (λ x l. wider (suc (length x.1)) (suc (length ts)) _ (g (trees.binary o e x.0) x.1) (omega (arith, tail_le ts))))
+chain_then b h n go e (Some o) g ts = low_leaves _ _ n ts _ (after_that (length (tail_of ts)) (suc (length ts)) (b.operation (suc (strength o)) (tail_of ts)) _ (h.operation (suc (strength o)) (tail_of ts)) (λ x l. wider (suc (length x.1)) (suc (length ts)) _ (g (trees.binary o e x.0) x.1) (omega (arith, tail_shorter ts))))
 
 chain_weak : (b : Below) (h : ShortBelow b) (n m turns : ℕ) (e : Expression) → Weak (parsing.chain b n m turns e)
 unfolding parsing.chain
@@ -428,7 +425,7 @@ catch_short b h c true ts = after_that (length ts) (length ts) (seq b (tok kinds
 catch_short b h c false ts = after_that (length ts) (length ts) (b.block c [] ts) _ (h.block c [] ts) (λ x l. l)
 
 handler_by_weak : (b : Below) (h : ShortBelow b) (c : Context) (o : Bool) → Weak (parsing.handler_by b c o)
-handler_by_weak b h c true ts = wider (length (tail_of ts)) (suc (length ts)) _ (catch_short b h c (is_kind kinds.LeftParenthesis (head_of (tail_of ts))) (tail_of ts)) (omega (arith, tail_le ts))
+handler_by_weak b h c true ts = wider (length (tail_of ts)) (suc (length ts)) _ (catch_short b h c (is_kind kinds.LeftParenthesis (head_of (tail_of ts))) (tail_of ts)) (omega (arith, tail_shorter ts))
 handler_by_weak b h c false ts = omega arith
 
 finalizer_by_weak : (b : Below) (h : ShortBelow b) (c : Context) (a : Handler) (o : Bool) → Weak (parsing.finalizer_by b c a o)
@@ -464,11 +461,11 @@ statement_short b h c (t ∷ ts) = statement_by_short b h c t ts (first (Some t)
 
 lexical_short : (b : Below) (h : ShortBelow b) (constant : Bool) (taken : List Identifier) → Short (parsing.lexical_at b constant taken)
 unfolding parsing.lexical_at
-lexical_short b h constant taken ts = after_that (length (tail_of ts)) (length ts) (declarators_at b constant taken (tail_of ts)) _ (declarators_short b h constant taken (tail_of ts)) (λ d l. after_that (suc (length d.1)) (length ts) (semicolon_at _ d.1) _ (semicolon_weak _ d.1) (λ x k. omega (arith, tail_le ts)))
+lexical_short b h constant taken ts = after_that (length (tail_of ts)) (length ts) (declarators_at b constant taken (tail_of ts)) _ (declarators_short b h constant taken (tail_of ts)) (λ d l. after_that (suc (length d.1)) (length ts) (semicolon_at _ d.1) _ (semicolon_weak _ d.1) (λ x k. omega (arith, tail_shorter ts)))
 
 declaration_short : (b : Below) (h : ShortBelow b) (taken : List Identifier) → Short (parsing.declaration_at b taken)
 unfolding parsing.declaration_at
-declaration_short b h taken ts = after_that (length (tail_of ts)) (length ts) (fresh_name taken (tail_of ts)) _ (fresh_short taken (tail_of ts)) (λ n l. after_that (length n.1) (length ts) (code_at b n.1) _ (code_short b h n.1) (λ x k. omega (arith, tail_le ts)))
+declaration_short b h taken ts = after_that (length (tail_of ts)) (length ts) (fresh_name taken (tail_of ts)) _ (fresh_short taken (tail_of ts)) (λ n l. after_that (length n.1) (length ts) (code_at b n.1) _ (code_short b h n.1) (λ x k. omega (arith, tail_shorter ts)))
 
 item_by_short : (b : Below) (h : ShortBelow b) (c : Context) (taken : List Identifier) (f : First) → Short (parsing.item_by b c taken f)
 item_by_short b h c taken (classes.a_lexical constant) ts = lexical_short b h constant taken ts

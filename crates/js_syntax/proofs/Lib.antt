@@ -4,7 +4,6 @@ pub mod NameLemmas
 pub mod FreshLemmas
 pub mod SpanLemmas
 pub mod ViewLemmas
-pub mod WordLemmas
 pub mod LinkLemmas
 pub mod LoopSteps
 pub mod Leaves

@@ -8,18 +8,11 @@ use Rattle.js_syntax.specs.declared.fault.ParseError.TheVariants as errors
 use Rattle.js_syntax.specs.Giving.{Fails}
 use Rattle.js_syntax.specs.Kinds.{is_kind}
 use Rattle.js_syntax.specs.Reading.{Fault, stuck, deep, Read, Reader, ◌>>=◌, goes_on, ends, neither, after, go_after, elements, others, ends_list, items}
+use Rattle.js_syntax.proofs.LoopSteps.{with_nothing, append_nil}
 
 -- what was read, in front of what is still read
 abbrev pub with_front : {A : Type 0} → List A → Read (List A) → Read (List A)
 with_front front read = read >>= λ x. Ok (front ++ x.0, x.1)
-
-front_none : {A : Type 0} (read : Read (List A)) → with_front [] read ≡ read
-front_none (Ok x) = refl
-front_none (Err f) = refl
-
-front_end : {A : Type 0} (front : List A) → front ++ [] ≡ front
-front_end [] = refl
-front_end (x ∷ xs) = ap (λ ys. x ∷ ys) (front_end xs)
 
 regroup : {A : Type 0} (front : List A) (x : A) (read : Read (List A)) → with_front front (read >>= λ y. Ok (x ∷ y.0, y.1)) ≡ with_front (front ++ x ∷ []) read
 regroup front x (Ok y) = ap (λ xs. Ok (xs, y.1)) (sym (append_assoc front (x ∷ []) y.0))
@@ -37,7 +30,7 @@ pub items_begin : {S A : Type 0} (one : S → Reader A) (next : S → A → S) (
 items_begin one next s ts = record {
   fuel = suc (length ts);
   enough = omega arith;
-  same = front_none (items one next (suc (length ts)) s ts);
+  same = with_nothing (items one next (suc (length ts)) s ts);
 }
 
 item_more : {S A : Type 0} (one : S → Reader A) (next : S → A → S) (goal : Read (List A)) (xs : List A) (s : S) (rest : List Token) (x : A) (later : List Token) (k : ℕ) → ends_list (head_of rest) ≡ false → length rest < k → with_front xs (items one next k s rest) ≡ goal → one s rest ≡ Ok (x, later)
@@ -59,7 +52,7 @@ items_go_on one next s₀ ts xs s rest x later r g a l =
 items_end_by : {S A : Type 0} (one : S → Reader A) (next : S → A → S) (goal : Read (List A)) (xs : List A) (s : S) (rest : List Token) (k : ℕ) → ends_list (head_of rest) ≡ true → length rest < k → with_front xs (items one next k s rest) ≡ goal → goal ≡ Ok (xs, rest)
 unfolding items
 items_end_by one next goal xs s rest zero g f e = absurd (omega arith)
-items_end_by one next goal xs s rest (suc k) g f e = sym (rw g at e) ∙ ap (λ ys. Ok (ys, rest)) (front_end xs)
+items_end_by one next goal xs s rest (suc k) g f e = sym (rw g at e) ∙ ap (λ ys. Ok (ys, rest)) (append_nil xs)
 
 pub items_end : {S A : Type 0} (one : S → Reader A) (next : S → A → S) (s₀ : S) (ts : List Token) (xs : List A) (s : S) (rest : List Token) → ReadsItems one next s₀ ts xs s rest → ends_list (head_of rest) ≡ true → items one next (suc (length ts)) s₀ ts ≡ Ok (xs, rest)
 items_end one next s₀ ts xs s rest r g = items_end_by one next (items one next (suc (length ts)) s₀ ts) xs s rest r.fuel g r.enough r.same
@@ -85,7 +78,7 @@ pub others_begin : {S A : Type 0} (one : S → Reader A) (next : S → A → S) 
 others_begin one next s ts = record {
   fuel = suc (length ts);
   enough = omega arith;
-  same = front_none (others one next (suc (length ts)) s ts);
+  same = with_nothing (others one next (suc (length ts)) s ts);
 }
 
 -- behind a comma fewer tokens are left
@@ -112,7 +105,7 @@ others_go_on one next s₀ ts xs s rest x later r g a l =
 others_end_by : {S A : Type 0} (one : S → Reader A) (next : S → A → S) (goal : Read (List A)) (xs : List A) (s : S) (rest : List Token) (k : ℕ) → is_kind kinds.Comma (head_of rest) ≡ false → length rest < k → with_front xs (others one next k s rest) ≡ goal → goal ≡ Ok (xs, rest)
 unfolding others
 others_end_by one next goal xs s rest zero g f e = absurd (omega arith)
-others_end_by one next goal xs s rest (suc k) g f e = sym (rw g at e) ∙ ap (λ ys. Ok (ys, rest)) (front_end xs)
+others_end_by one next goal xs s rest (suc k) g f e = sym (rw g at e) ∙ ap (λ ys. Ok (ys, rest)) (append_nil xs)
 
 pub others_end : {S A : Type 0} (one : S → Reader A) (next : S → A → S) (s₀ : S) (ts : List Token) (xs : List A) (s : S) (rest : List Token) → ReadsOthers one next s₀ ts xs s rest → is_kind kinds.Comma (head_of rest) ≡ false → others one next (suc (length ts)) s₀ ts ≡ Ok (xs, rest)
 others_end one next s₀ ts xs s rest r g = others_end_by one next (others one next (suc (length ts)) s₀ ts) xs s rest r.fuel g r.enough r.same
@@ -134,18 +127,11 @@ pub record ReadsElements {S A : Type 0} (one : S → Reader A) (next : S → A �
   pub enough : length rest < fuel
   pub same : with_front xs (elements one next closer fuel s rest) ≡ elements one next closer (suc (length ts)) s₀ ts
 
-pub elements_begin : {S A : Type 0} (one : S → Reader A) (next : S → A → S) (closer : TokenKind) (s : S) (ts : List Token) → ReadsElements one next closer s ts [] s ts
-elements_begin one next closer s ts = record {
-  fuel = suc (length ts);
-  enough = omega arith;
-  same = front_none (elements one next closer (suc (length ts)) s ts);
-}
-
 -- at the token that ends the list
 elements_end_by : {S A : Type 0} (one : S → Reader A) (next : S → A → S) (closer : TokenKind) (goal : Read (List A)) (xs : List A) (s : S) (rest : List Token) (k : ℕ) → is_kind closer (head_of rest) ≡ true → length rest < k → with_front xs (elements one next closer k s rest) ≡ goal → goal ≡ Ok (xs, tail_of rest)
 unfolding elements
 elements_end_by one next closer goal xs s rest zero g f e = absurd (omega arith)
-elements_end_by one next closer goal xs s rest (suc k) g f e = sym (rw g at e) ∙ ap (λ ys. Ok (ys, tail_of rest)) (front_end xs)
+elements_end_by one next closer goal xs s rest (suc k) g f e = sym (rw g at e) ∙ ap (λ ys. Ok (ys, tail_of rest)) (append_nil xs)
 
 pub elements_end : {S A : Type 0} (one : S → Reader A) (next : S → A → S) (closer : TokenKind) (s₀ : S) (ts : List Token) (xs : List A) (s : S) (rest : List Token) → ReadsElements one next closer s₀ ts xs s rest → is_kind closer (head_of rest) ≡ true → elements one next closer (suc (length ts)) s₀ ts ≡ Ok (xs, tail_of rest)
 elements_end one next closer s₀ ts xs s rest r g = elements_end_by one next closer (elements one next closer (suc (length ts)) s₀ ts) xs s rest r.fuel g r.enough r.same
@@ -171,7 +157,7 @@ pub elements_end_after : {S A : Type 0} (one : S → Reader A) (next : S → A �
     → elements one next closer (suc (length ts)) s₀ ts ≡ Ok (xs ++ x ∷ [], tail_of later)
 elements_end_after one next closer s₀ ts xs s rest x later r g a h =
     let m = element_by one next closer (elements one next closer (suc (length ts)) s₀ ts) xs s rest x later r.fuel g r.enough r.same a in
-    sym (rw h at m.2) ∙ ap (λ ys. Ok (ys, tail_of later)) (front_end (xs ++ x ∷ []))
+    sym (rw h at m.2) ∙ ap (λ ys. Ok (ys, tail_of later)) (append_nil (xs ++ x ∷ []))
 
 pub elements_stop : {S A : Type 0} (one : S → Reader A) (next : S → A → S) (closer : TokenKind) (s₀ : S) (ts : List Token) (xs : List A) (s : S) (rest : List Token) (x : A) (later : List Token) → ReadsElements one next closer s₀ ts xs s rest → is_kind closer (head_of rest) ≡ false → one s rest ≡ Ok (x, later) → after closer (head_of later) ≡ neither
     → elements one next closer (suc (length ts)) s₀ ts ≡ Err (stuck (length later))

@@ -9,17 +9,13 @@ use Rattle.js_syntax.specs.declared.fault.ParseError.{ParseError}
 use Rattle.js_syntax.specs.declared.fault.ParseError.TheVariants as errors
 use Rattle.js_syntax.specs.Giving.{Fails}
 use Rattle.js_syntax.specs.Kinds.{is_kind}
-use Rattle.js_syntax.specs.Reading.{Fault, stuck, deep, Read, Reader, ◌>>=◌, After, goes_on, ends, neither, after, elements, others, items, ends_list}
+use Rattle.js_syntax.specs.Reading.{Fault, stuck, deep, Read, Reader, ◌>>=◌, After, goes_on, ends, neither, after, elements, others}
 
 -- what was read before, and what is still read
 abbrev pub with_front : {A : Type 0} → List A → Read (List A) → Read (List A)
 with_front front read = read >>= λ x. Ok (front ++ x.0, x.1)
 
--- a reader leaves fewer tokens than it got
-abbrev pub Shortens : {S A : Type 0} → (S → Reader A) → Type 0
-Shortens one = (s : _) (ts : List Token) (x : _) (r : List Token) → one s ts ≡ Ok (x, r) → length r < length ts
-
-append_nil : {A : Type 0} (xs : List A) → xs ++ [] ≡ xs
+pub append_nil : {A : Type 0} (xs : List A) → xs ++ [] ≡ xs
 append_nil [] = refl
 append_nil (x ∷ xs) = ap (λ ys. x ∷ ys) (append_nil xs)
 
@@ -38,7 +34,7 @@ pub record Elements {S A : Type 0} (one : S → Reader A) (next : S → A → S)
   pub enough : length rest < fuel
   pub same : with_front front (elements one next closer fuel s rest) ≡ all
 
-with_nothing : {A : Type 0} (read : Read (List A)) → with_front [] read ≡ read
+pub with_nothing : {A : Type 0} (read : Read (List A)) → with_front [] read ≡ read
 with_nothing (Ok x) = refl
 with_nothing (Err f) = refl
 
@@ -142,53 +138,6 @@ others_more one next all front s rest x later h r c o =
     record {
       fuel = m.0;
       enough = omega (arith, tail_shorter rest, r.enough, m.1);
-      same = m.2;
-    }
-
--- ---- statements up to what ends a list
-
-pub record Items {S A : Type 0} (one : S → Reader A) (next : S → A → S) (all : Read (List A)) (front : List A) (s : S) (rest : List Token) : Type 0 where
-  pub fuel : ℕ
-  pub enough : length rest < fuel
-  pub same : with_front front (items one next fuel s rest) ≡ all
-
-pub items_begin : {S A : Type 0} (one : S → Reader A) (next : S → A → S) (s : S) (ts : List Token) → Items one next (items one next (suc (length ts)) s ts) [] s ts
-items_begin one next s ts = record {
-  fuel = suc (length ts);
-  enough = omega arith;
-  same = with_nothing (items one next (suc (length ts)) s ts);
-}
-
-no_item : {S A : Type 0} (one : S → Reader A) (next : S → A → S) (all : Read (List A)) (front : List A) (s : S) (rest : List Token) (k : ℕ) → length rest < k → with_front front (items one next k s rest) ≡ all → ends_list (head_of rest) ≡ true → all ≡ Ok (front, rest)
-unfolding items
-no_item one next all front s rest zero l e c = absurd (omega arith)
-no_item one next all front s rest (suc k) l e c = sym (rw c at e) ∙ ap (λ xs. Ok (xs, rest)) (append_nil front)
-
-pub items_none : {S A : Type 0} (one : S → Reader A) (next : S → A → S) (all : Read (List A)) (front : List A) (s : S) (rest : List Token) → Items one next all front s rest → ends_list (head_of rest) ≡ true → all ≡ Ok (front, rest)
-items_none one next all front s rest r c = no_item one next all front s rest r.fuel r.enough r.same c
-
-item_fails : {S A : Type 0} (one : S → Reader A) (next : S → A → S) (all : Read (List A)) (front : List A) (s : S) (rest : List Token) (k : ℕ) (f : Fault) → length rest < k → with_front front (items one next k s rest) ≡ all → ends_list (head_of rest) ≡ false → one s rest ≡ Err f → all ≡ Err f
-unfolding items
-item_fails one next all front s rest zero f l e c o = absurd (omega arith)
-item_fails one next all front s rest (suc k) f l e c o = sym (rw (c, o) at e)
-
-pub items_fail : {S A : Type 0} (one : S → Reader A) (next : S → A → S) (all : Read (List A)) (front : List A) (s : S) (rest : List Token) (fault : ParseError) → Items one next all front s rest → ends_list (head_of rest) ≡ false → Fails fault (one s rest) → Fails fault all
-items_fail one next all front s rest errors.Memory r c o = tt
-items_fail one next all front s rest (errors.TooDeep left) r c o = item_fails one next all front s rest r.fuel (deep left) r.enough r.same c o
-items_fail one next all front s rest (errors.Syntax left) r c o = item_fails one next all front s rest r.fuel (stuck left) r.enough r.same c o
-
-one_item : {S A : Type 0} (one : S → Reader A) (next : S → A → S) (all : Read (List A)) (front : List A) (s : S) (rest : List Token) (k : ℕ) (x : A) (later : List Token) → length rest < k → with_front front (items one next k s rest) ≡ all → ends_list (head_of rest) ≡ false → one s rest ≡ Ok (x, later)
-    → (j : ℕ) × (suc j ≡ k) × (with_front (front ++ (x ∷ [])) (items one next j (next s x) later) ≡ all)
-unfolding items
-one_item one next all front s rest zero x later l e c o = absurd (omega arith)
-one_item one next all front s rest (suc k) x later l e c o = (k, refl, sym (regroup front x (items one next k (next s x) later)) ∙ (rw (c, o) at e))
-
-pub items_more : {S A : Type 0} (one : S → Reader A) (next : S → A → S) (all : Read (List A)) (front : List A) (s : S) (rest : List Token) (x : A) (later : List Token) → length later < length rest → Items one next all front s rest → ends_list (head_of rest) ≡ false → one s rest ≡ Ok (x, later) → Items one next all (front ++ (x ∷ [])) (next s x) later
-items_more one next all front s rest x later h r c o =
-    let m = one_item one next all front s rest r.fuel x later r.enough r.same c o in
-    record {
-      fuel = m.0;
-      enough = omega (arith, r.enough, m.1);
       same = m.2;
     }
 

@@ -1,24 +1,21 @@
 -- Parameters, as their loop reads them.
-use Rattle.std.proofs.Common.{◌≡◌, suc, ◌<◌, false, List, [], ◌∷◌, ◌++◌, length, Ok, refl, ap, arith}
+use Rattle.std.proofs.Common.{◌≡◌, suc, ◌<◌, false, List, [], ◌∷◌, ◌++◌, length, Ok, ap, arith}
 use Rattle.js_lexer.specs.declared.token.TokenKind.TheVariants as kinds
-use Rattle.std.proofs.lemmas.List.{length-map}
 use Rattle.js_lexer.specs.declared.token.Token as lexer
-use Rattle.js_syntax.specs.Views.{token_view, tokens_view}
+use Rattle.js_syntax.specs.Views.{tokens_view}
 use Rattle.js_tree.specs.Trees.{Identifier}
 use Rattle.js_language.specs.Tokens.{Token, head_of, tail_of}
 use Rattle.js_syntax.specs.Kinds.{is_kind}
 use Rattle.js_syntax.specs.Reading.{goes_on, ends, after, elements, fresh_name, with_name, with_names}
-use Rattle.js_syntax.proofs.LoopLemmas.{ReadsElements, elements_begin, elements_go_on, elements_end_after}
+use Rattle.js_syntax.proofs.LoopLemmas.{ReadsElements, elements_go_on, elements_end_after}
 use Rattle.js_syntax.proofs.ListLemmas.{with_names_push}
-use Rattle.js_syntax.proofs.ShorterLemmas.{fresh_shorter, tail_shorter}
+use Rattle.js_syntax.proofs.ShorterLemmas.{fresh_shorter}
+use Rattle.js_syntax.proofs.LoopSteps.{tail_shorter, length_view}
 
 -- these names were read and are taken
 pub record ReadsParameters (ts : List Token) (xs names : List Identifier) (rest : List Token) : Type 0 where
   pub taken : names ≡ with_names [] xs
   pub reads : ReadsElements fresh_name with_name kinds.RightParenthesis [] ts xs names rest
-
-pub parameters_begin : (ts : List Token) → ReadsParameters ts [] [] ts
-parameters_begin ts = record { taken = refl; reads = elements_begin fresh_name with_name kinds.RightParenthesis [] ts }
 
 pub parameters_shorten : (names : List Identifier) (rest : List Token) (n : Identifier) (later : List Token) → fresh_name names rest ≡ Ok (n, later) → length (tail_of later) < length rest
 parameters_shorten names rest n later e = omega (arith, fresh_shorter names rest n later e, tail_shorter later)
@@ -35,11 +32,5 @@ pub parameters_end_after : (ts : List Token) (xs names : List Identifier) (rest 
 parameters_end_after ts xs names rest n later r g e h =
     (elements_end_after fresh_name with_name kinds.RightParenthesis [] ts xs names rest n later r.reads g e h, rw (with_names_push [] xs n) (ap (λ (ns : List Identifier). n ∷ ns) r.taken))
 
-pub length_view : (ts : List lexer.Token) → length (tokens_view ts) ≡ length ts
-length_view ts = length-map ts token_view
-
 pub less_by_view : (rest later new : List lexer.Token) → tokens_view new ≡ tail_of (tokens_view later) → length (tail_of (tokens_view later)) < length (tokens_view rest) → length new < length rest
 less_by_view rest later new e l = omega (arith, length_view rest, length_view new, ap (λ (ts : List Token). length ts) e)
-
-pub less_in_view : (rest later : List lexer.Token) → length (tokens_view later) < length (tokens_view rest) → length later < length rest
-less_in_view rest later l = omega (arith, length_view rest, length_view later)

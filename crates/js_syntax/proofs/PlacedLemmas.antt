@@ -11,16 +11,13 @@ use Rattle.js_language.specs.Places.{Place, stands, stands_maybe, opens, closes,
 use Rattle.js_tree.specs.Spans.{span_of}
 use Rattle.js_syntax.specs.Views.{tokens_view}
 use Rattle.js_syntax.specs.Places.{end_of, end_before, span_between}
-use Rattle.js_syntax.specs.Placed.{GoesOn, InPlace, Placed, AreInOrder, IsForward}
+use Rattle.js_syntax.specs.Placed.{GoesOn, AreNumbered, InPlace, Placed, AreInOrder, IsForward}
+use Rattle.js_syntax.proofs.LoopSteps.{append_nil}
 
 -- ---- lists of spans
 
-pub append_none : {A : Type 0} (xs : List A) → xs ++ [] ≡ xs
-append_none [] = refl
-append_none (x ∷ xs) = ap (λ ys. x ∷ ys) (append_none xs)
-
 pub same_spans : (spans : List Span) → GoesOn spans spans
-same_spans spans = record { more = []; is = sym (append_none spans) }
+same_spans spans = record { more = []; is = sym (append_nil spans) }
 
 pub goes_on : {a b c : List Span} → GoesOn a b → GoesOn b c → GoesOn a c
 goes_on {a} {b} {c} p q = record { more = p.more ++ q.more; is = rw (q.is, p.is) (append_assoc a p.more q.more) }
@@ -34,7 +31,7 @@ last_index [] s more = refl
 last_index (x ∷ a) s more = last_index a s more
 
 -- the span of a node where it is the next one of the list, however the list goes on
-pub numbered : {new spans : List Span} (old : List Span) (s : Span) → new ≡ old ++ s ∷ [] → GoesOn new spans → span_of spans (length old) ≡ s
+numbered : {new spans : List Span} (old : List Span) (s : Span) → new ≡ old ++ s ∷ [] → GoesOn new spans → span_of spans (length old) ≡ s
 numbered {new} {spans} old s e g = rw (g.is, e) (last_index old s g.more)
 
 -- ---- pieces one after another
@@ -85,6 +82,19 @@ end_of_used before (u ∷ us) left h =
     let n : length (u ∷ (us ++ left)) - length left - 1 ≡ length us = omega (arith, length-append us left) in
     rw n (last_at before u us left)
 
+-- ---- numbers
+
+-- two runs of places
+numbered_runs : (first mid next : ℕ) (ps qs : List Place) → AreNumbered first ps mid → AreNumbered mid qs next → AreNumbered first (ps ++ qs) next
+numbered_runs first mid next [] qs p q = rw p q
+numbered_runs first mid next (opens n ∷ ps) qs p q = numbered_runs first mid next ps qs p q
+numbered_runs first mid next (closes n ∷ ps) qs p q = (p.0, numbered_runs (suc first) mid next ps qs p.1 q)
+numbered_runs first mid next (stands s ∷ ps) qs p q = numbered_runs first mid next ps qs p q
+numbered_runs first mid next (stands_maybe k ∷ ps) qs p q = numbered_runs first mid next ps qs p q
+
+one_longer : {new : List Span} (old : List Span) (s : Span) → new ≡ old ++ s ∷ [] → suc (length old) ≡ length new
+one_longer old s e = rw e (omega (arith, length-append old (s ∷ [])))
+
 -- ---- tokens in order
 
 order_behind : (us left : List Token) → AreInOrder (us ++ left) → AreInOrder left
@@ -110,7 +120,7 @@ one_forward old s e h f = rw e (All-push IsForward old s h f)
 
 -- nothing
 nothing_stands : {spans : List Span} {ts : List Token} → InPlace false spans spans [] ts ts
-nothing_stands {spans} {ts} = record { grew = same_spans spans; fewer = λ h. absurd cc; exact = λ later g before. refl }
+nothing_stands {spans} {ts} = record { grew = same_spans spans; fewer = λ h. absurd cc; exact = λ later g before. refl; numbers = refl }
 
 pub nothing : {spans : List Span} {ts : List Token} → Placed false spans spans [] ts ts
 nothing {spans} {ts} = record { stands = nothing_stands; forward = λ i h. h }
@@ -136,6 +146,7 @@ then_stands {a} {b} {old} {mid} {new} {ps} {qs} {ts} {rest} {left} p q = record 
   grew = goes_on p.grew q.grew;
   fewer = either_some a b (length left) (length rest) (length ts) p.fewer q.fewer (no_longer p) (no_longer q);
   exact = λ spans g before. runs spans ps qs before ts rest left (p.exact spans (goes_on q.grew g) before) (λ before. q.exact spans g before);
+  numbers = numbered_runs (length old) (length mid) (length new) ps qs p.numbers q.numbers;
 }
 
 pub then : {a b : Bool} {old mid new : List Span} {ps qs : List Place} {ts rest left : List Token} → Placed a old mid ps ts rest → Placed b mid new qs rest left → Placed (a || b) old new (ps ++ qs) ts left
@@ -145,59 +156,37 @@ then p q = record { stands = then_stands p.stands q.stands; forward = λ i h. q.
 pub then_both : {a b : Bool} {old mid new : List Span} {rs : List Place} {ts rest left : List Token} (ps qs : List Place) → Placed a old mid (ps ++ qs) ts rest → Placed b mid new rs rest left → Placed (a || b) old new (ps ++ (qs ++ rs)) ts left
 then_both {a} {b} {old} {mid} {new} {rs} {ts} {rest} {left} ps qs p q = rw (← append_assoc ps qs rs) (then p q)
 
--- spans that come later change nothing
-later : {some : Bool} {old mid new : List Span} {ps : List Place} {ts left : List Token} → InPlace some old mid ps ts left → GoesOn mid new → InPlace some old new ps ts left
-later p g = record { grew = goes_on p.grew g; fewer = p.fewer; exact = λ spans h before. p.exact spans (goes_on g h) before }
-
 -- less is said of how many tokens were read
 loosely_stands : {some : Bool} {old new : List Span} {ps : List Place} {ts left : List Token} → InPlace some old new ps ts left → InPlace false old new ps ts left
-loosely_stands p = record { grew = p.grew; fewer = λ h. absurd cc; exact = p.exact }
+loosely_stands p = record { grew = p.grew; fewer = λ h. absurd cc; exact = p.exact; numbers = p.numbers }
 
 pub loosely : {some : Bool} {old new : List Span} {ps : List Place} {ts left : List Token} → Placed some old new ps ts left → Placed false old new ps ts left
 loosely p = record { stands = loosely_stands p.stands; forward = p.forward }
 
 -- ---- nodes
 
--- the span of a node, however the spans go on
-record Spanned (new : List Span) (n : ℕ) (span : Span) : Type 0 where
-  always : (spans : List Span) → GoesOn new spans → span_of spans n ≡ span
-
-added : {new : List Span} {n : ℕ} {s : Span} (old : List Span) → new ≡ old ++ s ∷ [] → n ≡ length old → Spanned new n s
-added {new} {n} {s} old e h = record { always = λ spans g. rw h (numbered old s e g) }
-
-still : {new longer : List Span} {n : ℕ} {s : Span} → Spanned new n s → GoesOn new longer → Spanned longer n s
-still p g = record { always = λ spans h. p.always spans (goes_on g h) }
-
--- a node of pieces
-node : {old new : List Span} {n : ℕ} {ps : List Place} {ts left : List Token} → InPlace true old new ps ts left → Spanned new n (span_between ts left) → InPlace true old new (opens n ∷ (ps ++ closes n ∷ [])) ts left
-node {old} {new} {n} {ps} {ts} {left} p s = record {
-  grew = p.grew;
-  fewer = p.fewer;
-  exact = λ spans g before.
-      let is = s.always spans g in
-      (ap (λ (s : Span). s.start) is, closed_run spans n ps before ts left (p.exact spans g before) (λ us h. ap (λ (s : Span). s.end) is ∙ (rw h (end_of_used before us left (rw h at (p.fewer refl))))));
-}
-
 -- a node that was numbered when its pieces had been read
+node : {old mid new : List Span} {n : ℕ} {ps : List Place} {ts left : List Token} → InPlace true old mid ps ts left → new ≡ mid ++ span_between ts left ∷ [] → n ≡ length mid → InPlace true old new (opens n ∷ (ps ++ closes n ∷ [])) ts left
+node {old} {mid} {new} {n} {ps} {ts} {left} p e h =
+    let more = one_more (span_between ts left) e in
+    record {
+      grew = goes_on p.grew more;
+      fewer = p.fewer;
+      exact = λ spans g before.
+          let is : span_of spans n ≡ span_between ts left = rw h (numbered mid (span_between ts left) e g) in
+          (ap (λ (s : Span). s.start) is, closed_run spans n ps before ts left (p.exact spans (goes_on more g) before) (λ us h. ap (λ (s : Span). s.end) is ∙ (rw h (end_of_used before us left (rw h at (p.fewer refl))))));
+      numbers = numbered_runs (length old) (length mid) (length new) ps (closes n ∷ []) p.numbers (h, one_longer mid (span_between ts left) e);
+    }
+
 pub closed : {old mid new : List Span} {n : ℕ} {ps : List Place} {ts left : List Token} (places : List Place) → Placed true old mid ps ts left → new ≡ mid ++ span_between ts left ∷ [] → n ≡ length mid → places ≡ opens n ∷ (ps ++ closes n ∷ []) → Placed true old new places ts left
 closed {old} {mid} {new} {n} {ps} {ts} {left} places p e h is = rw is (record {
-  stands = node (later p.stands (one_more (span_between ts left) e)) (added mid e h);
+  stands = node p.stands e h;
   forward = λ i all. one_forward mid (span_between ts left) e (p.forward i all) (span_forward ts left i (p.stands.fewer refl));
 })
 
--- A node whose last piece is a node over the last tokens, which was numbered after it.
-pub closed_twice : {old mid m0 m1 new : List Span} {n k : ℕ} {ps qs : List Place} {ts rest left : List Token} (places : List Place) → Placed true old mid ps ts rest → Placed true mid m0 qs rest left → m1 ≡ m0 ++ span_between ts left ∷ [] → n ≡ length m0 → new ≡ m1 ++ span_between rest left ∷ [] → k ≡ length m1 → places ≡ opens n ∷ ((ps ++ ((opens k ∷ (qs ++ closes k ∷ [])) ++ [])) ++ closes n ∷ []) → Placed true old new places ts left
-closed_twice {old} {mid} {m0} {m1} {new} {n} {k} {ps} {qs} {ts} {rest} {left} places p q e n_is f k_is is =
-    let g = one_more (span_between ts left) e in
-    let h = one_more (span_between rest left) f in
-    let inner = node (later q.stands (goes_on g h)) (added m1 f k_is) in
-    rw is (record {
-      stands = node (then_stands p.stands (then_stands inner nothing_stands)) (still (added m0 e n_is) h);
-      forward = λ i all.
-          let j = left_in_order p.stands i in
-          let first = one_forward m0 (span_between ts left) e (q.forward j (p.forward i all)) (span_forward ts left i ((then_stands p.stands q.stands).fewer refl)) in
-          one_forward m1 (span_between rest left) f first (span_forward rest left j (q.stands.fewer refl));
-    })
+-- A node whose last piece is a node over the last tokens, which ends first and was numbered before it.
+pub closed_twice : {old mid m0 m1 new : List Span} {n k : ℕ} {ps qs : List Place} {ts rest left : List Token} (places : List Place) → Placed true old mid ps ts rest → Placed true mid m0 qs rest left → new ≡ m1 ++ span_between ts left ∷ [] → n ≡ length m1 → m1 ≡ m0 ++ span_between rest left ∷ [] → k ≡ length m0 → places ≡ opens n ∷ ((ps ++ ((opens k ∷ (qs ++ closes k ∷ [])) ++ [])) ++ closes n ∷ []) → Placed true old new places ts left
+closed_twice places p q e n_is f k_is is = closed places (then p (then (closed _ q f k_is refl) nothing)) e n_is is
 
 -- ---- whole sources
 

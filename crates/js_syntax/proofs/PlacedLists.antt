@@ -1,5 +1,5 @@
 -- Lists where they stand, read one element after the other.
-use Rattle.std.proofs.Common.{◌≡◌, ℕ, ◌<◌, Bool, true, false, List, [], ◌∷◌, ◌++◌, length, refl, sym, ap, ◌∙◌, append_assoc, inl, inr, arith}
+use Rattle.std.proofs.Common.{◌≡◌, ℕ, suc, ◌<◌, Bool, true, false, List, [], ◌∷◌, ◌++◌, length, refl, sym, ap, ◌∙◌, append_assoc, inl, inr, arith}
 use Rattle.js_lexer.specs.declared.token.TokenKind.{TokenKind}
 use Rattle.js_lexer.specs.declared.token.TokenKind.TheVariants as kinds
 use Rattle.js_tree.specs.declared.node.Span.{Span}
@@ -8,9 +8,10 @@ use Rattle.js_language.specs.Places.{Place, stands, stands_maybe, opens, closes,
 use Rattle.js_syntax.specs.Kinds.{is_kind, is_same_kind}
 use Rattle.js_syntax.specs.Reading.{goes_on, ends, after, after_by}
 use Rattle.js_syntax.proofs.KindLemmas.{kind_not}
-use Rattle.js_syntax.specs.Placed.{Placed}
-use Rattle.js_syntax.proofs.PlacedLemmas.{append_none, same_spans, then, loosely}
+use Rattle.js_syntax.specs.Placed.{AreNumbered, Placed}
+use Rattle.js_syntax.proofs.PlacedLemmas.{same_spans, then, loosely}
 use Rattle.js_syntax.proofs.PlacedTokens.{tested, left_out}
+use Rattle.js_syntax.proofs.LoopSteps.{append_nil}
 
 -- ---- pieces
 
@@ -23,12 +24,12 @@ before_commas [] = []
 before_commas (p ∷ ps) = p ++ (comma ∷ before_commas ps)
 
 behind_last : (ps : List (List Place)) (p : List Place) → behind_commas (ps ++ p ∷ []) ≡ comma ∷ (before_commas ps ++ p)
-behind_last [] p = ap (λ qs. comma ∷ qs) (append_none p)
-behind_last (q ∷ ps) p = ap (λ qs. comma ∷ qs) (ap (λ qs. q ++ qs) (append_none (behind_commas (ps ++ p ∷ [])) ∙ behind_last ps p) ∙ sym (append_assoc q (comma ∷ before_commas ps) p))
+behind_last [] p = ap (λ qs. comma ∷ qs) (append_nil p)
+behind_last (q ∷ ps) p = ap (λ qs. comma ∷ qs) (ap (λ qs. q ++ qs) (append_nil (behind_commas (ps ++ p ∷ [])) ∙ behind_last ps p) ∙ sym (append_assoc q (comma ∷ before_commas ps) p))
 
 -- the last piece has none behind it
 with_last : (ps : List (List Place)) (p : List Place) → with_commas (ps ++ p ∷ []) ≡ before_commas ps ++ p
-with_last [] p = append_none p
+with_last [] p = append_nil p
 with_last (q ∷ ps) p = ap (λ qs. q ++ qs) (behind_last ps p) ∙ sym (append_assoc q (comma ∷ before_commas ps) p)
 
 before_more : (ps : List (List Place)) (p : List Place) → before_commas (ps ++ p ∷ []) ≡ (before_commas ps ++ p) ++ comma ∷ []
@@ -39,19 +40,19 @@ before_more (q ∷ ps) p =
 
 -- a comma behind the last piece
 before_is : (q : List Place) (ps : List (List Place)) → before_commas (q ∷ ps) ≡ with_commas (q ∷ ps) ++ comma ∷ []
-before_is q [] = ap (λ qs. qs ++ comma ∷ []) (sym (append_none q))
+before_is q [] = ap (λ qs. qs ++ comma ∷ []) (sym (append_nil q))
 before_is q (p ∷ ps) =
-    ap (λ qs. q ++ (comma ∷ qs)) (before_is p ps ∙ ap (λ qs. (p ++ qs) ++ comma ∷ []) (sym (append_none (behind_commas ps))))
+    ap (λ qs. q ++ (comma ∷ qs)) (before_is p ps ∙ ap (λ qs. (p ++ qs) ++ comma ∷ []) (sym (append_nil (behind_commas ps))))
     ∙ sym (append_assoc q (comma ∷ (p ++ (behind_commas ps ++ []))) (comma ∷ []))
 
 behind_more : (ps : List (List Place)) (p : List Place) → behind_commas (ps ++ p ∷ []) ≡ behind_commas ps ++ (comma ∷ p)
-behind_more [] p = ap (λ qs. comma ∷ qs) (append_none p)
+behind_more [] p = ap (λ qs. comma ∷ qs) (append_nil p)
 behind_more (q ∷ ps) p =
-    ap (λ qs. comma ∷ (q ++ qs)) (append_none (behind_commas (ps ++ p ∷ [])) ∙ (behind_more ps p ∙ ap (λ qs. qs ++ (comma ∷ p)) (sym (append_none (behind_commas ps)))))
+    ap (λ qs. comma ∷ (q ++ qs)) (append_nil (behind_commas (ps ++ p ∷ [])) ∙ (behind_more ps p ∙ ap (λ qs. qs ++ (comma ∷ p)) (sym (append_nil (behind_commas ps)))))
     ∙ ap (λ qs. comma ∷ qs) (sym (append_assoc q (behind_commas ps ++ []) (comma ∷ p)))
 
 turn_more : (ps : List (List Place)) (p : List Place) → in_turn (ps ++ p ∷ []) ≡ in_turn ps ++ p
-turn_more [] p = append_none p
+turn_more [] p = append_nil p
 turn_more (q ∷ ps) p = ap (λ qs. q ++ qs) (turn_more ps p) ∙ sym (append_assoc q (in_turn ps) p)
 
 -- ---- elements and arguments
@@ -65,9 +66,21 @@ maybe_there spans k (stands s ∷ ps) before ts left p = (p.0, maybe_there spans
 maybe_there spans k (stands_maybe j ∷ ps) before ts left (inl p) = inl (p.0, maybe_there spans k ps (end_of (head_of ts)) (tail_of ts) left p.1)
 maybe_there spans k (stands_maybe j ∷ ps) before ts left (inr p) = inr (p.0, maybe_there spans k ps before ts left p.1)
 
+numbered_maybe : (k : TokenKind) (ps : List Place) (first next : ℕ) → AreNumbered first (ps ++ stands (fixed k) ∷ []) next → AreNumbered first (ps ++ stands_maybe k ∷ []) next
+numbered_maybe k [] first next p = p
+numbered_maybe k (opens n ∷ ps) first next p = numbered_maybe k ps first next p
+numbered_maybe k (closes n ∷ ps) first next p = (p.0, numbered_maybe k ps (suc first) next p.1)
+numbered_maybe k (stands s ∷ ps) first next p = numbered_maybe k ps first next p
+numbered_maybe k (stands_maybe j ∷ ps) first next p = numbered_maybe k ps first next p
+
 there : {some : Bool} {old new : List Span} {ts left : List Token} (k : TokenKind) (ps : List Place) → Placed some old new (ps ++ stands (fixed k) ∷ []) ts left → Placed some old new (ps ++ stands_maybe k ∷ []) ts left
 there {some} {old} {new} {ts} {left} k ps p = record {
-  stands = record { grew = p.stands.grew; fewer = p.stands.fewer; exact = λ spans g before. maybe_there spans k ps before ts left (p.stands.exact spans g before) };
+  stands = record {
+    grew = p.stands.grew;
+    fewer = p.stands.fewer;
+    exact = λ spans g before. maybe_there spans k ps before ts left (p.stands.exact spans g before);
+    numbers = numbered_maybe k ps (length old) (length new) p.stands.numbers;
+  };
   forward = p.forward;
 }
 

@@ -1,5 +1,5 @@
 -- Names in parentheses where they stand.
-use Rattle.std.proofs.Common.{◌≡◌, ℕ, zero, suc, Bool, true, false, List, [], ◌∷◌, ◌++◌, length, Ok, Err, refl, ap, subst, ◌∙◌}
+use Rattle.std.proofs.Common.{◌≡◌, ℕ, zero, suc, Bool, true, false, List, [], ◌∷◌, ◌++◌, length, Ok, refl, ap, subst, ◌∙◌}
 use Rattle.js_lexer.specs.declared.token.TokenKind.TheVariants as kinds
 use Rattle.js_tree.specs.declared.node.Span.{Span}
 use Rattle.js_tree.specs.Trees.{Identifier}
@@ -13,10 +13,7 @@ use Rattle.js_syntax.proofs.KindLemmas.{kind_not}
 use Rattle.js_syntax.specs.Placed.{Placed}
 use Rattle.js_syntax.proofs.PlacedLemmas.{then}
 use Rattle.js_syntax.proofs.PlacedTokens.{tested, expected, named, named_freshly, left_out, put_in}
-
-bound : {A B : Type 0} (r : Read A) (f : A × List Token → Read B) (y : B × List Token) → (r >>= f) ≡ Ok y → (x : A × List Token) × (r ≡ Ok x) × (f x ≡ Ok y)
-bound (Ok x) f y e = (x, refl, e)
-bound (Err d) f y e = absurd cc
+use Rattle.js_syntax.proofs.ShorterLemmas.{bind_ok}
 
 -- names up to the parenthesis that ends them, and the same behind a name
 abbrev behind_name : List Identifier → List Place
@@ -70,8 +67,8 @@ names_by : (spans : List Span) {S : Type 0} (one : S → Reader Identifier) (nex
     → (s : S) (b : Bool) (ts : List Token) → is_kind kinds.RightParenthesis (head_of ts) ≡ b → (x : List Identifier × List Token) → elements_by one next go kinds.RightParenthesis s b ts ≡ Ok x → Placed true spans spans (up_to_end x.0) ts x.1
 names_by spans one next h go more s true ts f x e = same_names spans ([], tail_of ts) x ts e (tested spans kinds.RightParenthesis ts (tail_of ts) f refl)
 names_by spans one next h go more s false ts f x e =
-    let p = bound (one s ts) (λ x. go_after (go (next s x.0)) (after kinds.RightParenthesis (head_of x.1)) x.1 >>= λ y. Ok (x.0 ∷ y.0, y.1)) x e in
-    let q = bound (go_after (go (next s p.0.0)) (after kinds.RightParenthesis (head_of p.0.1)) p.0.1) (λ y. Ok (p.0.0 ∷ y.0, y.1)) x p.2 in
+    let p = bind_ok (one s ts) (λ x. go_after (go (next s x.0)) (after kinds.RightParenthesis (head_of x.1)) x.1 >>= λ y. Ok (x.0 ∷ y.0, y.1)) x e in
+    let q = bind_ok (go_after (go (next s p.0.0)) (after kinds.RightParenthesis (head_of p.0.1)) p.0.1) (λ y. Ok (p.0.0 ∷ y.0, y.1)) x p.2 in
     same_names spans (p.0.0 ∷ q.0.0, q.0.1) x ts q.2 (then (h spans s ts p.0.0 p.0.1 p.1) (go_on spans (go (next s p.0.0)) (more (next s p.0.0)) (after kinds.RightParenthesis (head_of p.0.1)) p.0.1 refl q.0 q.1))
 
 names_up_to : (spans : List Span) {S : Type 0} (one : S → Reader Identifier) (next : S → Identifier → S) → ReadsNames one → (k : ℕ) (s : S) (ts : List Token) (x : List Identifier × List Token) → elements one next kinds.RightParenthesis k s ts ≡ Ok x → Placed true spans spans (up_to_end x.0) ts x.1
@@ -105,5 +102,5 @@ listed spans ns ts mid left e f = rw (flat_list ns) (then (expected spans kinds.
 pub parameters_placed : (spans : List Span) (ns : List Identifier) (ts left : List Token) → parameters_at ts ≡ Ok (ns, left) → Placed true spans spans (plain (flat_parameters ns)) ts left
 unfolding parameters_at
 parameters_placed spans ns ts left e =
-    let p = bound (expect kinds.LeftParenthesis ts) (λ o. elements fresh_name with_name kinds.RightParenthesis (suc (length o.1)) [] o.1) (ns, left) e in
+    let p = bind_ok (expect kinds.LeftParenthesis ts) (λ o. elements fresh_name with_name kinds.RightParenthesis (suc (length o.1)) [] o.1) (ns, left) e in
     rw (flat_list ns) (then (expected spans kinds.LeftParenthesis ts p.0.1 p.1) (names_up_to spans fresh_name with_name (λ spans s ts n r e. named_freshly spans s n ts r e) (suc (length p.0.1)) [] p.0.1 (ns, left) p.2))

@@ -1,6 +1,6 @@
 -- Single tokens where they stand, and what may be left out.
 use Rattle.std.proofs.Common.{◌≡◌, ℕ, ◌<◌, Bool, true, false, cond, List, [], ◌∷◌, length, Option, Some, None, Ok, Err, refl, sym, ap, inl, inr, arith}
-use Rattle.std.specs.Prelude.{nat_eq, ◌&&◌}
+use Rattle.std.specs.Prelude.{nat_eq}
 use Rattle.std.specs.Cmp.Lexicographic.{pointwise, same_text}
 use Rattle.js_lexer.specs.declared.token.TokenKind.{TokenKind}
 use Rattle.js_lexer.specs.declared.token.TokenKind.TheVariants as kinds
@@ -16,8 +16,9 @@ use Rattle.js_syntax.specs.Parsing.{let_kind}
 use Rattle.js_syntax.proofs.KindLemmas.{next_is, next_again}
 use Rattle.js_syntax.specs.Placed.{Placed}
 use Rattle.js_syntax.proofs.PlacedLemmas.{same_spans}
+use Rattle.std.proofs.lemmas.Bool.{and_parts}
 
-next_shorter : (s : Symbol) (ts : List Token) → IsNext s (head_of ts) → length (tail_of ts) < length ts
+pub next_shorter : (s : Symbol) (ts : List Token) → IsNext s (head_of ts) → length (tail_of ts) < length ts
 next_shorter s [] h = absurd h
 next_shorter s (t ∷ ts) h = omega arith
 
@@ -28,6 +29,7 @@ symbol spans s ts left h is = rw is (record {
     grew = same_spans spans;
     fewer = λ some. next_shorter s ts h;
     exact = λ later g before. (h, refl);
+    numbers = refl;
   };
   forward = λ i all. all;
 })
@@ -62,7 +64,7 @@ pub expected_near : (spans : List Span) (k : TokenKind) (ts left : List Token) �
 unfolding expect_near
 expected_near spans k ts left e = expected spans k ts left (near (is_on_line (head_of ts)) k ts left e)
 
-name_next : (o : Option Token) → is_kind kinds.Name o ≡ true → IsNext (identifier (text_of o)) o
+pub name_next : (o : Option Token) → is_kind kinds.Name o ≡ true → IsNext (identifier (text_of o)) o
 name_next None e = absurd cc
 name_next (Some t) e = (next_is kinds.Name (Some t) e, refl)
 
@@ -83,7 +85,7 @@ pub named_freshly : (spans : List Span) (taken : List (List ℕ)) (n : List ℕ)
 unfolding fresh_name
 named_freshly spans taken n ts left e = named spans n ts left (kept _ ts (n, left) e)
 
-word_next : (o : Option Token) → is_word_next o ≡ true → IsNext (identifier_name (text_of o)) o
+pub word_next : (o : Option Token) → is_word_next o ≡ true → IsNext (identifier_name (text_of o)) o
 word_next None e = absurd cc
 word_next (Some t) e = (e, refl)
 
@@ -95,17 +97,12 @@ worded spans n ts left e =
     let is : text_of (head_of ts) ≡ n = ap (λ x. x.0) p.1 in
     symbol spans (identifier_name n) ts left (rw is at (word_next (head_of ts) p.0)) (sym (ap (λ x. x.1) p.1))
 
-both_true : (a b : Bool) → (a && b) ≡ true → (a ≡ true) × (b ≡ true)
-both_true true true e = (refl, refl)
-both_true true false e = absurd cc
-both_true false b e = absurd cc
-
 -- this name
 pub named_so : (spans : List Span) (n : List ℕ) (ts left : List Token) → expect_name n ts ≡ Ok (tt, left) → Placed true spans spans (stands (identifier n) ∷ []) ts left
 unfolding expect_name
 named_so spans n ts left e =
     let p = chosen (is_name n (head_of ts)) (tt, tail_of ts) (tt, left) (stuck (length ts)) e in
-    let q = both_true (is_kind kinds.Name (head_of ts)) (pointwise nat_eq (text_of (head_of ts)) n) p.0 in
+    let q = and_parts (is_kind kinds.Name (head_of ts)) (pointwise nat_eq (text_of (head_of ts)) n) p.0 in
     let is : text_of (head_of ts) ≡ n = same_text (text_of (head_of ts)) n (sym q.1) in
     symbol spans (identifier n) ts left (rw is at (name_next (head_of ts) q.0)) (sym (ap (λ x. x.1) p.1))
 
@@ -135,6 +132,7 @@ left_out spans k ts e = record {
     grew = same_spans spans;
     fewer = λ h. absurd cc;
     exact = λ later g before. inr (kind_apart k (head_of ts) e, refl);
+    numbers = refl;
   };
   forward = λ i all. all;
 }
@@ -146,6 +144,7 @@ put_in spans k ts left e is = rw is (record {
     grew = same_spans spans;
     fewer = λ h. absurd cc;
     exact = λ later g before. inl (next_is k (head_of ts) e, refl);
+    numbers = refl;
   };
   forward = λ i all. all;
 })

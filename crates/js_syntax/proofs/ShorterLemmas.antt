@@ -14,14 +14,11 @@ use Rattle.js_syntax.specs.Parsing as parsing
 use Rattle.js_syntax.specs.Parsing.{below, statement, statement_by}
 use Rattle.js_syntax.proofs.Leaves.{short, shorter, name_short}
 use Rattle.js_syntax.proofs.NewNameLemmas.{name_of_fresh}
+use Rattle.js_syntax.proofs.LoopSteps.{tail_shorter}
 
 pub bind_ok : {A B : Type 0} (r : Read A) (f : A × List Token → Read B) (y : B × List Token) → (r >>= f) ≡ Ok y → (x : A × List Token) × (r ≡ Ok x) × (f x ≡ Ok y)
 bind_ok (Ok x) f y e = (x, refl, e)
 bind_ok (Err d) f y e = absurd cc
-
-pub tail_shorter : (ts : List Token) → length (tail_of ts) ≤ length ts
-tail_shorter [] = omega arith
-tail_shorter (t ∷ ts) = omega arith
 
 -- ---- fewer tokens
 

@@ -24,10 +24,6 @@ abbrev pub ◌>>=◌ : {A B : Type 0} → Read A → (A × List Token → Read B
 (Ok x) >>= f = f x
 (Err e) >>= f = Err e
 
--- the next token doesn't go on
-abbrev pub stuck_at : {A : Type 0} → Reader A
-stuck_at ts = Err (stuck (length ts))
-
 -- ---- single tokens
 
 -- a token of this kind

@@ -8,10 +8,10 @@ ghost use Rattle.js_syntax.specs.Heads.{edge_view, end_view};
 ghost use Rattle.js_syntax.specs.Reading as reading;
 ghost use Rattle.js_syntax.specs.Views.{tokens_view};
 
-use js_lexer::token::{Token, TokenKind};
 use crate::classes::statements::{Edge, End, is_absent};
 use crate::fault::ParseError;
 use crate::token::{is_next, tail};
+use js_lexer::token::{Token, TokenKind};
 use js_tree::tree::{Declarators, Expr};
 
 /// The tokens after the semicolon of a statement that ends so, which may be absent.

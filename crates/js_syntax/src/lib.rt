@@ -11,7 +11,5 @@ pub mod name_set;
 pub mod names;
 pub mod nodes;
 pub mod targets;
-#[cfg(test)]
-mod tests;
 pub mod token;
 pub mod words;

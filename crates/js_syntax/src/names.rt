@@ -8,14 +8,14 @@ ghost use Rattle.js_syntax.specs.Reading as reading;
 ghost use Rattle.js_syntax.specs.Reading.{with_names};
 ghost use Rattle.js_syntax.specs.Views.{tokens_view};
 
-use crate::words::name_at;
-use cdp_text::units::Units;
-use js_lexer::token::{Token, TokenKind};
 use crate::classes::lists::{After, after_of};
 use crate::classes::statements::is_name;
 use crate::fault::ParseError;
 use crate::name_set::NameSet;
 use crate::token::{expect, is_next, tail};
+use crate::words::name_at;
+use cdp_text::units::Units;
+use js_lexer::token::{Token, TokenKind};
 use js_tree::names::Names;
 use std::alloc::Global;
 
@@ -24,7 +24,7 @@ use std::alloc::Global;
 /// # Errors
 ///
 /// `Syntax` at the next token where it is no name or one of these.
-#[tactic(auto, using(crate::proofs::NameLemmas::fresh_laws))]
+#[tactic(auto, using(crate::proofs::NewNameLemmas::fresh_laws))]
 pub fn fresh_name<'t, 's>(
     names: &NameSet<'_>,
     tokens: &'t [Token<'s>],

@@ -10,12 +10,12 @@ ghost use Rattle.js_syntax.specs.Views.{tokens_view};
 ghost use Rattle.js_language.specs.Places.{stands, node_of};
 ghost use Rattle.js_syntax.specs.Placed.{Placed};
 
-use cdp_text::units::Units;
-use js_lexer::token::{Token, TokenKind};
 use crate::classes::lists::{After, after_of, is_word};
 use crate::fault::ParseError;
 use crate::nodes::Nodes;
 use crate::token::{expect, is_next, tail};
+use cdp_text::units::Units;
+use js_lexer::token::{Token, TokenKind};
 use js_tree::names::Names;
 use js_tree::node::NodeId;
 use std::alloc::{AllocError, Global};

@@ -94,10 +94,6 @@ property_step (PropertyDefinition-F.Shorthand n) = trees.shorthand n
 property_step (PropertyDefinition-F.Value k e) = trees.value k e
 property_step (PropertyDefinition-F.Method node k ps body) = trees.method k ps body
 
-abbrev pub if_step : Expression → Statement → Option Statement → Statement
-if_step e s None = trees.if_then e s
-if_step e s (Some t) = trees.if_else e s t
-
 abbrev pub statement_step : Layer Stmt-F → Statement
 statement_step (Stmt-F.Block b) = trees.block b
 statement_step (Stmt-F.Lexical node c ds) = trees.lexical c ds

@@ -4,9 +4,9 @@ ghost use Rattle.std.specs.Prelude.{◌≡◌, ◌<◌, ◌^◌, nat_abs, IfOk, 
 ghost use Rattle.js_heap.specs.Values.{a_number};
 ghost use Rattle.js_heap.specs.Operators.{on_numbers, safe, to_unsigned, to_signed, shift_count, numeric, update_result};
 
-use js_heap::computed::Computed;
 use crate::numbers::{shift_count, shifted_right, to_signed, to_unsigned};
 use crate::results::{not_numbers, not_safe, quotient, remainder, safe};
+use js_heap::computed::Computed;
 use js_heap::value::Value;
 use js_tree::operator::{BinaryOperator, UpdateOperator};
 use std::alloc::{AllocError, Global};

@@ -6,7 +6,5 @@ pub mod numbers;
 pub mod operators;
 pub mod properties;
 pub mod results;
-#[cfg(test)]
-mod tests;
 pub mod text;
 pub mod values;

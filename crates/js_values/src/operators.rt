@@ -1,18 +1,18 @@
 //! Operators on values.
 
-ghost use Rattle.std.specs.Prelude.{◌≡◌, ◌<◌, ◌^◌, nat_abs, IfOk, ◌++◌, min};
+ghost use Rattle.std.specs.Prelude.{◌≡◌, ◌<◌, ◌^◌, nat_abs, IfOk, min};
 ghost use Rattle.std.specs.Fmt.{signed_decimal};
 ghost use Rattle.js_heap.specs.Values.{text_of, key_of, units_at, bool_text};
 ghost use Rattle.js_heap.specs.Operators.{units_before, is_before, is_equal, answer_of, negated, numeric, joined_texts, sum_of, binary_result, number_result, unary_result, update_result};
 ghost use Rattle.js_values.specs.Safe.{IsSafe};
 
 use crate::arithmetic::on_numbers;
-use js_heap::computed::Computed;
 use crate::numbers::{to_signed, to_unsigned};
 use crate::results::{not_a_text, not_comparable, not_numbers};
-use crate::text::ascii;
+use crate::text::{ascii, joined};
 use crate::values::{is_same, is_truthy, type_text, units_at};
 use cdp_text::units::Units;
+use js_heap::computed::Computed;
 use js_heap::reading::Cells;
 use js_heap::value::Value;
 use js_tree::operator::{BinaryOperator, UnaryOperator, UpdateOperator};
@@ -155,15 +155,6 @@ fn joined_texts(
         (Some(t), Some(u)) => Ok(Computed::Text(joined(alloc, t.as_slice(), u.as_slice())?)),
         _ => not_a_text(alloc),
     }
-}
-
-/// Two texts one behind the other.
-pub fn joined(alloc: Global, first: &[u16], second: &[u16]) -> Result<Units, AllocError>
-    ensures { IfOk result (λ units. units ≡ first.now ++ second.now) }
-{
-    let mut items = Vec::from_slice(alloc, first)?;
-    items.extend_from_slice(second)?;
-    Ok(Units::from_vec(items))
 }
 
 /// `+` (13.15.3): a sum of numbers, or a text where one side is a string.

@@ -1,6 +1,6 @@
 //! Properties of values: reading, and the changes by writing and deleting.
 
-ghost use Rattle.std.specs.Prelude.{◌≡◌, IfOk, option_copied, ◌<◌, ◌^◌, ◌++◌, length, codes, pos};
+ghost use Rattle.std.specs.Prelude.{◌≡◌, IfOk, option_copied, ◌<◌, ◌^◌, length, codes, pos};
 ghost use Rattle.js_heap.specs.Keys.{index_of_key};
 ghost use Rattle.js_heap.specs.declared.value.Value.TheVariants as values;
 ghost use Rattle.js_heap.specs.Values.{a_number, units_of_cell};
@@ -11,14 +11,13 @@ ghost use Rattle.js_heap.specs.Properties.{bad_key, cannot_read, cannot_set, can
 ghost use Rattle.js_heap.specs.declared.built_in.ErrorClass.TheVariants as classes;
 ghost use Rattle.js_heap.specs.declared.computed.Written.TheVariants.{Refused as refused};
 
-use js_heap::computed::{Computed, Written};
-use crate::operators::joined;
-use crate::text::{ascii, is_ascii};
+use crate::text::{ascii, is_ascii, quoted};
 use crate::values::{class_text, units_at};
 use cdp_text::units::Units;
 use js_heap::built_in::{BuiltIn, ErrorClass, built_in_at};
 use js_heap::cell::Cell;
 use js_heap::change::Change;
+use js_heap::computed::{Computed, Written};
 use js_heap::keys::index_of_key;
 use js_heap::properties::property_at;
 use js_heap::reading::Cells;
@@ -31,16 +30,6 @@ pub fn bad_key(alloc: Global) -> Result<Computed, AllocError>
 {
     let message = ascii(alloc, b"Property key must be a string or a number")?;
     Ok(Computed::Error(ErrorClass::TypeError, message))
-}
-
-// a key between two ASCII texts
-fn quoted(alloc: Global, before: &[u8], key: &[u16], behind: &[u8]) -> Result<Units, AllocError>
-    ensures { IfOk result (λ units. units ≡ before.now ++ key.now ++ behind.now) }
-{
-    let opened = ascii(alloc, before)?;
-    let named = joined(alloc, opened.as_slice(), key)?;
-    let closing = ascii(alloc, behind)?;
-    joined(alloc, named.as_slice(), closing.as_slice())
 }
 
 /// The TypeError of reading a property of undefined.

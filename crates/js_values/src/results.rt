@@ -3,9 +3,9 @@
 ghost use Rattle.std.specs.Prelude.{◌≡◌, ◌<◌, ◌^◌, nat_abs, IfOk, ◌≤ℤ◌, ◌<ℤ◌, pos};
 ghost use Rattle.js_heap.specs.Operators.{safe, quotient, remainder, not_safe, not_numbers, not_a_text, not_comparable};
 
-use js_heap::computed::Computed;
 use crate::text::ascii;
 use js_heap::built_in::ErrorClass;
+use js_heap::computed::Computed;
 use js_heap::value::Value;
 use std::alloc::{AllocError, Global};
 

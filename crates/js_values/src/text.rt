@@ -1,6 +1,6 @@
-//! Texts of ASCII bytes.
+//! Texts made of other texts and of ASCII bytes.
 
-ghost use Rattle.std.specs.Prelude.{◌≡◌, IfOk};
+ghost use Rattle.std.specs.Prelude.{◌≡◌, ◌++◌, IfOk};
 ghost use Rattle.js_heap.specs.Keys.{same_units};
 
 use cdp_text::units::Units;
@@ -30,4 +30,28 @@ pub fn is_ascii(units: &[u16], bytes: &[u8]) -> bool
         }
     }
     true
+}
+
+/// Two texts one behind the other.
+pub fn joined(alloc: Global, first: &[u16], second: &[u16]) -> Result<Units, AllocError>
+    ensures { IfOk result (λ units. units ≡ first.now ++ second.now) }
+{
+    let mut items = Vec::from_slice(alloc, first)?;
+    items.extend_from_slice(second)?;
+    Ok(Units::from_vec(items))
+}
+
+/// A text between two ASCII texts.
+pub fn quoted(
+    alloc: Global,
+    before: &[u8],
+    text: &[u16],
+    behind: &[u8],
+) -> Result<Units, AllocError>
+    ensures { IfOk result (λ units. units ≡ before.now ++ text.now ++ behind.now) }
+{
+    let opened = ascii(alloc, before)?;
+    let named = joined(alloc, opened.as_slice(), text)?;
+    let closing = ascii(alloc, behind)?;
+    joined(alloc, named.as_slice(), closing.as_slice())
 }

@@ -12,12 +12,11 @@ use Rattle.js_syntax.specs.Views.{tokens_view}
 use Rattle.js_syntax.proofs.Leaves.{short, shorter}
 use Rattle.js_syntax.proofs.LinkLemmas.{links_deep, links_more, chain_deep, chain_more}
 use Rattle.js_syntax.proofs.ListReads.{elements_init, elements_next, others_init, others_next, others_smaller, members_init, members_next, member_shorter, last_height, last_property_height}
-use Rattle.js_syntax.proofs.LoopSteps.{elements_none, elements_fail, elements_end, elements_stop, others_none, others_fail, map_push, less_by_view, length_view}
+use Rattle.js_syntax.proofs.LoopSteps.{elements_none, elements_fail, elements_end, elements_stop, others_none, others_fail, map_push, less_by_view, length_view, less_in_view}
 use Rattle.js_descent.proofs.+parser.Goals as goal
 use Rattle.js_descent.proofs.+parser.Goals.{primaries::function_at-then-is_name_next+in_ok-text+in_ok-from_slice, primaries::function_at-else-is_name_next}
 use Rattle.js_syntax.specs.Context.{context_view}
 use Rattle.js_syntax.proofs.ListLemmas.{map_push as map_pushed, statements_begin, statements_go_on, statements_end, statements_fail, declarators_begin, declarators_go_on, declarators_shorten, declarators_end, declarators_fail}
-use Rattle.js_syntax.proofs.ParameterLemmas.{less_in_view as less_of_view}
 use Rattle.js_syntax.proofs.ShorterLemmas.{item_shorter}
 use Rattle.js_syntax.proofs.StatementLemmas.{expect_found, names_kept, no_finalizer}
 use Rattle.js_syntax.proofs.ClassLemmas.{first_function, first_lexical, first_semicolon, from_next, key_number, key_string, key_word, link_dot, prefix_delete, prefix_unary, prefix_update, start_boolean, start_brace, start_function, start_name, start_null, start_number, start_string, start_this, update_next}
@@ -149,7 +148,7 @@ blocks::items_at-returns-in_err-item-clause-gives t c =
     rw (p.1, p.2) (statements_fail c.args.room (context_view c.args.context) c.args.names (tokens_view c.args.tokens.now) (map statement_view c.items.items.items) c.items.read.0 c.items.names (tokens_view c.items.read.1.now) c.in_err-item.field-0.0 c.items.invariant.read (sym c.ends_list.ensures ∙ c.items-test.true) c.in_err-item.ensures.gives)
 
 pub blocks::items_at-items-smaller : goal.blocks::items_at-items-smaller
-blocks::items_at-items-smaller t c = less_of_view c.items.read.1.now c.in_ok-item.rest.now (item_shorter c.args.room (context_view c.args.context) c.items.names (tokens_view c.items.read.1.now) (statement_view c.in_ok-item.item) (tokens_view c.in_ok-item.rest.now) c.in_ok-item.ensures.gives)
+blocks::items_at-items-smaller t c = less_in_view c.items.read.1.now c.in_ok-item.rest.now (item_shorter c.args.room (context_view c.args.context) c.items.names (tokens_view c.items.read.1.now) (statement_view c.in_ok-item.item) (tokens_view c.in_ok-item.rest.now) c.in_ok-item.ensures.gives)
 
 pub blocks::items_at-items-preserved : goal.blocks::items_at-items-preserved
 blocks::items_at-items-preserved t c = record {
@@ -173,7 +172,7 @@ declarations::declarators_at-returns-in_err-item-clause-gives t c =
     rw (p.1, p.2) (declarators_fail c.args.room c.args.constant c.args.names.now (tokens_view c.args.tokens.now) (map declarator_view c.others.items.items) c.others.read.0 c.others.names (tokens_view c.others.read.1.now) c.in_err-item.field-0.0 c.others.invariant.read (sym c.is_next.ensures ∙ c.others-test.true) (rw c.tail.ensures at c.in_err-item.ensures.gives))
 
 pub declarations::declarators_at-others-smaller : goal.declarations::declarators_at-others-smaller
-declarations::declarators_at-others-smaller t c = less_of_view c.others.read.1.now c.in_ok-item.rest.now (declarators_shorten c.args.room c.args.constant c.others.names (tokens_view c.others.read.1.now) (declarator_view c.in_ok-item.item) (tokens_view c.in_ok-item.rest.now) (sym c.is_next.ensures ∙ c.others-test.true) (rw c.tail.ensures at c.in_ok-item.ensures.gives))
+declarations::declarators_at-others-smaller t c = less_in_view c.others.read.1.now c.in_ok-item.rest.now (declarators_shorten c.args.room c.args.constant c.others.names (tokens_view c.others.read.1.now) (declarator_view c.in_ok-item.item) (tokens_view c.in_ok-item.rest.now) (sym c.is_next.ensures ∙ c.others-test.true) (rw c.tail.ensures at c.in_ok-item.ensures.gives))
 
 pub declarations::declarators_at-others-preserved : goal.declarations::declarators_at-others-preserved
 declarations::declarators_at-others-preserved t c = record {

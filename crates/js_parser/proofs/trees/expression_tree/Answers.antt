@@ -18,4 +18,4 @@ returns-clause-answers c =
 
 pub returns-clause-placed : goal.returns-clause-placed
 returns-clause-placed c =
-    told_placed expression_places c.args.source.now _ _ (lexed_view c.in_ok-lexed.lexed) (tokens_view c.as_slice.result.now) (length c.args.source.now) c.expression_of-read.result c.told.result c.in_ok-lexed.ensures.tokens (ap (λ (ts : List lexer.Token). tokens_view ts) c.as_slice.ensures.value) c.expression_of-read.ensures.placed c.expression_of-read.ensures.forward c.told.ensures
+    told_placed expression_places c.args.source.now _ _ (lexed_view c.in_ok-lexed.lexed) (tokens_view c.as_slice.result.now) (length c.args.source.now) c.expression_of-read.result c.told.result c.in_ok-lexed.ensures.tokens (ap (λ (ts : List lexer.Token). tokens_view ts) c.as_slice.ensures.value) c.expression_of-read.ensures.placed c.expression_of-read.ensures.forward c.expression_of-read.ensures.numbers c.told.ensures

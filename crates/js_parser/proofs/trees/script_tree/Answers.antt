@@ -21,4 +21,4 @@ returns-clause-answers c =
 
 pub returns-clause-placed : goal.returns-clause-placed
 returns-clause-placed c =
-    told_placed statements_places c.args.source.now _ _ (lexed_view c.in_ok-lexed.lexed) (tokens_view c.as_slice.result.now) (length c.args.source.now) c.script_of-read.result c.told.result c.in_ok-lexed.ensures.tokens (ap (λ (ts : List lexer.Token). tokens_view ts) c.as_slice.ensures.value) c.script_of-read.ensures.placed c.script_of-read.ensures.forward c.told.ensures
+    told_placed statements_places c.args.source.now _ _ (lexed_view c.in_ok-lexed.lexed) (tokens_view c.as_slice.result.now) (length c.args.source.now) c.script_of-read.result c.told.result c.in_ok-lexed.ensures.tokens (ap (λ (ts : List lexer.Token). tokens_view ts) c.as_slice.ensures.value) c.script_of-read.ensures.placed c.script_of-read.ensures.forward c.script_of-read.ensures.numbers c.told.ensures

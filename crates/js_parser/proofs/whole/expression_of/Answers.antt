@@ -7,3 +7,6 @@ returns-clause-placed c = whole_source c.in_ok-tree.ensures.placed (no_tokens c.
 
 pub returns-clause-forward : goal.returns-clause-forward
 returns-clause-forward c = c.in_ok-tree.ensures.placed.forward
+
+pub returns-clause-numbers : goal.returns-clause-numbers
+returns-clause-numbers c = c.in_ok-tree.ensures.placed.stands.numbers

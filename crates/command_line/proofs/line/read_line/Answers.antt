@@ -1,0 +1,14 @@
+use Rattle.std.proofs.Common.{ap, sym, ◌∙◌}
+use Rattle.std.proofs.lemmas.Option.{none-some}
+use Rattle.command_line.specs.Lines.{line_of_text}
+use Rattle.command_line.proofs.LineLemmas.{held-is, line-read, line_of-utf8, line_of-other}
+use Rattle.command_line.proofs.line.read_line.Goals as goal
+
+pub returns-in-Ok-clause-is : goal.returns-in-Ok-clause-is
+returns-in-Ok-clause-is c =
+    held-is c.args.bytes.now c.read_text.result
+    (c.read_text.ensures ∙ ap line_of_text c.in-Ok.ensures.cases.0 ∙ sym (line_of-utf8 c.args.bytes.now c.in-Ok.ensures.cases.1))
+
+pub returns-in-Err-clause-isnt : goal.returns-in-Err-clause-isnt
+returns-in-Err-clause-isnt c line is =
+    none-some line (sym (line_of-other c.args.bytes.now c.in-Err.ensures.cases.0) ∙ line-read c.args.bytes.now line is)

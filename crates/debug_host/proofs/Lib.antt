@@ -1,6 +1,0 @@
-pub mod LineLemmas
-pub mod PlayLemmas
-pub mod ReplayLemmas
-pub mod HeadlineLemmas
-pub mod ProgramLemmas
-pub mod AppliedLemmas

@@ -1,7 +1,0 @@
-use Rattle.std.proofs.Common.{◌≡◌, map, take, string_bytes}
-use Rattle.debug_host.specs.Output.{Out, output_text}
-use Rattle.debug_host.proofs.output.printed_lines.Given as goal
-
--- the lines of the integers so far
-abbrev pub invariant-loop-integer : goal.invariant-loop-integer
-invariant-loop-integer l = map string_bytes l.lines.items ≡ map output_text (map Out (take l.integer-index l.integers))

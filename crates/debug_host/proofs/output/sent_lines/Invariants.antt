@@ -1,7 +1,0 @@
-use Rattle.std.proofs.Common.{◌≡◌, map, take, string_bytes}
-use Rattle.debug_host.specs.Output.{To, output_text}
-use Rattle.debug_host.proofs.output.sent_lines.Given as goal
-
--- the lines of the texts so far
-abbrev pub invariant-loop-text : goal.invariant-loop-text
-invariant-loop-text l = map string_bytes l.lines.items ≡ map output_text (map (To l.session) (map string_bytes (take l.text-index l.texts)))

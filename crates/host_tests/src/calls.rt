@@ -1,0 +1,641 @@
+// Calls of the program: its words, files, faults, output and status.
+ghost use Rattle.std.specs.Prelude.{Some};
+
+use cdp_edge::{MemShelf, MemSink, Sink, SinkFault};
+use command_line::debug_main;
+use std::alloc::{AllocError, Global};
+use std::process::Abort;
+use std::test::Fail;
+
+const USAGE: &str = "usage: debug_host run/replay/serve/send/drill\n";
+
+const TWO_LINES: &[u8] = b"console.log(7);
+console.log(8);
+";
+
+// A pause is asked for before the run, and the run goes on to its end.
+const PAUSE: &[u8] = br#"attach
+tell 1 {"id":1,"method":"Debugger.enable"}
+tell 1 {"id":2,"method":"Debugger.pause"}
+run 100 0
+tell 1 {"id":3,"method":"Debugger.resume"}
+run 100 0
+take 1
+"#;
+
+const PAUSE_OUTPUT: &str = r#"attached 1
+ran 1 paused
+out 7
+out 8
+ran 8 ended
+to 1 {"id":1,"result":{"debuggerId":"1"}}
+to 1 {"id":2,"result":{}}
+to 1 {"method":"Debugger.paused","params":{"callFrames":[],"hitBreakpoints":[],"reason":"other"}}
+to 1 {"id":3,"result":{}}
+to 1 {"method":"Debugger.resumed","params":{}}
+"#;
+
+// A second pause stops before the call of the first line. One that is asked for while paused stops nothing.
+const TWO_PAUSES: &[u8] = br#"attach
+tell 1 {"id":1,"method":"Debugger.enable"}
+tell 1 {"id":2,"method":"Debugger.pause"}
+run 100 0
+take 1
+tell 1 {"id":3,"method":"Debugger.resume"}
+tell 1 {"id":4,"method":"Debugger.pause"}
+run 100 0
+take 1
+tell 1 {"id":5,"method":"Debugger.pause"}
+tell 1 {"id":6,"method":"Debugger.resume"}
+run 100 0
+take 1
+take 1"#;
+
+const TWO_PAUSES_OUTPUT: &str = r#"attached 1
+ran 1 paused
+to 1 {"id":1,"result":{"debuggerId":"1"}}
+to 1 {"id":2,"result":{}}
+to 1 {"method":"Debugger.paused","params":{"callFrames":[],"hitBreakpoints":[],"reason":"other"}}
+ran 3 paused
+to 1 {"id":3,"result":{}}
+to 1 {"method":"Debugger.resumed","params":{}}
+to 1 {"id":4,"result":{}}
+to 1 {"method":"Debugger.paused","params":{"callFrames":[],"hitBreakpoints":[],"reason":"other"}}
+out 7
+out 8
+ran 5 ended
+to 1 {"id":5,"result":{}}
+to 1 {"id":6,"result":{}}
+to 1 {"method":"Debugger.resumed","params":{}}
+"#;
+
+// Each refusal of a command.
+const REFUSALS: &[u8] = br#"attach
+tell 1 {"id":0,"method":"X.y"}
+tell 1 {"id":2,"method":"Debugger.pause"}
+tell 1 {"id":3,"method":"Debugger.resume"}
+tell 1 {"id":4,"method":"Debugger.enable"}
+tell 1 {"id":5,"method":"Debugger.resume"}
+tell 1 {"id":9007199254740991,"method":"debugger.enable"}
+tell 1 {"id":7,"method":"Debugger.enable"}
+take 1
+run 1 0
+"#;
+
+const REFUSALS_OUTPUT: &str = r#"attached 1
+to 1 {"error":{"code":-32601,"message":"'X.y' wasn't found"},"id":0}
+to 1 {"error":{"code":-32000,"message":"Debugger agent is not enabled"},"id":2}
+to 1 {"error":{"code":-32000,"message":"Debugger agent is not enabled"},"id":3}
+to 1 {"id":4,"result":{"debuggerId":"1"}}
+to 1 {"error":{"code":-32000,"message":"Can only perform operation while paused."},"id":5}
+to 1 {"error":{"code":-32601,"message":"'debugger.enable' wasn't found"},"id":9007199254740991}
+to 1 {"id":7,"result":{"debuggerId":"1"}}
+ran 1 ready
+"#;
+
+const RAN_ELEVEN: &str = "ran 0 ready
+ran 0 ready
+ran 0 ready
+ran 0 ready
+ran 0 ready
+ran 0 ready
+ran 0 ready
+ran 0 ready
+ran 0 ready
+ran 0 ready
+ran 0 ready
+";
+
+const RUNS_OUTPUT: &str = "ran 4 ready\nout 1\nran 1 ended\nran 0 ended\n";
+
+const UNWRITTEN: &str = "debug_host: cannot write\n";
+
+// The files that every call has.
+const FILES: [(&str, &[u8]); 23] = [
+    ("j", b"attach\nrun 1 0\n"),
+    ("none", b""),
+    ("take", b"take 1\n"),
+    (
+        "tell",
+        b"tell 1 {\"id\":1,\"method\":\"Debugger.enable\"}\n",
+    ),
+    (
+        "twelve",
+        b"run 0 0\nrun 0 0\nrun 0 0\nrun 0 0\nrun 0 0\nrun 0 0\nrun 0 0\nrun 0 0\nrun 0 0\nrun 0 0\nrun 0 0\n\xff",
+    ),
+    ("silent", b"attach\ntake 1\nrun 1 0\n"),
+    ("runs", b"run 4 0\nrun 4 0\nrun 4 0\n"),
+    ("pause", PAUSE),
+    ("pauses", TWO_PAUSES),
+    ("refusals", REFUSALS),
+    ("attach", b"attach"),
+    ("moments", b"run 0 0\nrun 1 1\nrun 0 0"),
+    ("most", b"run 4294967295 9007199254740991"),
+    ("late", b"run 1 0\nattach\ntake 1\nrun 9 0\ntake 1\n"),
+    ("a.js", b""),
+    ("b.js", b"1;\n"),
+    ("one.js", b"console.log(1);"),
+    ("two.js", TWO_LINES),
+    ("wide.js", b"console.log(9007199254740992);"),
+    (
+        "most.js",
+        b"console.log(0);\nconsole.log(9007199254740991);",
+    ),
+    ("blank.js", b"console.log(1);\n\n"),
+    ("cr.js", b"console.log(1);\r\n"),
+    ("late.js", b""),
+];
+
+// The words, with a space between them (`~` for no words), the numbers of the writes of output, of the writes of errors
+// and of the reads that fail, as digits, and then the status, the output and what is said of errors.
+const CALLS: [(&str, &str, &str, &str, u8, &str, &str); 60] = [
+    (
+        "replay silent a.js",
+        "",
+        "",
+        "",
+        0,
+        "attached 1\nran 1 ended\n",
+        "",
+    ),
+    ("replay runs one.js", "", "", "", 0, RUNS_OUTPUT, ""),
+    ("replay pause two.js", "", "", "", 0, PAUSE_OUTPUT, ""),
+    ("replay pauses two.js", "", "", "", 0, TWO_PAUSES_OUTPUT, ""),
+    ("replay refusals two.js", "", "", "", 0, REFUSALS_OUTPUT, ""),
+    ("replay none one.js", "", "", "", 0, "", ""),
+    ("replay attach one.js", "", "", "", 0, "attached 1\n", ""),
+    (
+        "replay moments one.js",
+        "",
+        "",
+        "",
+        0,
+        "ran 0 ready\nran 1 ready\nran 0 ready\n",
+        "",
+    ),
+    (
+        "replay most most.js",
+        "",
+        "",
+        "",
+        0,
+        "out 0\nout 9007199254740991\nran 9 ended\n",
+        "",
+    ),
+    (
+        "replay late late.js",
+        "",
+        "",
+        "",
+        0,
+        "ran 1 ended\nattached 1\nran 0 ended\n",
+        "",
+    ),
+    (
+        "replay j a.js",
+        "",
+        "",
+        "",
+        0,
+        "attached 1\nran 1 ended\n",
+        "",
+    ),
+    ("replay a.js a.js", "", "", "", 0, "", ""),
+    ("replay none a.js", "", "", "", 0, "", ""),
+    ("~", "", "", "", 2, "", USAGE),
+    ("", "", "", "", 2, "", USAGE),
+    ("replay", "", "", "", 2, "", USAGE),
+    ("replay j", "", "", "", 2, "", USAGE),
+    ("replay j a.js a.js", "", "", "", 2, "", USAGE),
+    ("replay -x a.js", "", "", "", 2, "", USAGE),
+    ("replay j -", "", "", "", 2, "", USAGE),
+    ("replay - a.js", "", "", "", 2, "", USAGE),
+    ("replay --wait j a.js", "", "", "", 2, "", USAGE),
+    ("replay --help", "", "", "", 2, "", USAGE),
+    ("--help", "", "", "", 2, "", USAGE),
+    ("--version", "", "", "", 2, "", USAGE),
+    ("run a.js", "", "", "", 2, "", USAGE),
+    ("run j a.js", "", "", "", 2, "", USAGE),
+    ("Replay j a.js", "", "", "", 2, "", USAGE),
+    ("replays j a.js", "", "", "", 2, "", USAGE),
+    (
+        "replay x a.js",
+        "",
+        "",
+        "",
+        4,
+        "",
+        "debug_host: cannot read x\n",
+    ),
+    (
+        "replay  a.js",
+        "",
+        "",
+        "",
+        4,
+        "",
+        "debug_host: cannot read \n",
+    ),
+    (
+        "replay x y",
+        "",
+        "",
+        "",
+        4,
+        "",
+        "debug_host: cannot read x\n",
+    ),
+    (
+        "replay x b.js",
+        "",
+        "",
+        "",
+        4,
+        "",
+        "debug_host: cannot read x\n",
+    ),
+    (
+        "replay j y-",
+        "",
+        "",
+        "",
+        4,
+        "",
+        "debug_host: cannot read y-\n",
+    ),
+    (
+        "replay take y",
+        "",
+        "",
+        "",
+        4,
+        "",
+        "debug_host: cannot read y\n",
+    ),
+    (
+        "replay j b.js",
+        "",
+        "",
+        "",
+        3,
+        "",
+        "debug_host: b.js: form not built\n",
+    ),
+    (
+        "replay take b.js",
+        "",
+        "",
+        "",
+        3,
+        "",
+        "debug_host: b.js: form not built\n",
+    ),
+    (
+        "replay none blank.js",
+        "",
+        "",
+        "",
+        3,
+        "",
+        "debug_host: blank.js: form not built\n",
+    ),
+    (
+        "replay none cr.js",
+        "",
+        "",
+        "",
+        3,
+        "",
+        "debug_host: cr.js: form not built\n",
+    ),
+    (
+        "replay none wide.js",
+        "",
+        "",
+        "",
+        3,
+        "",
+        "debug_host: wide.js: form not built\n",
+    ),
+    (
+        "replay b.js j",
+        "",
+        "",
+        "",
+        3,
+        "",
+        "debug_host: j: form not built\n",
+    ),
+    (
+        "replay take a.js",
+        "",
+        "",
+        "",
+        6,
+        "",
+        "debug_host: line 1 refused\n",
+    ),
+    (
+        "replay tell a.js",
+        "",
+        "",
+        "",
+        6,
+        "",
+        "debug_host: line 1 refused\n",
+    ),
+    (
+        "replay twelve a.js",
+        "",
+        "",
+        "",
+        6,
+        RAN_ELEVEN,
+        "debug_host: line 12 refused\n",
+    ),
+    (
+        "replay runs one.js",
+        "3",
+        "",
+        "",
+        5,
+        "ran 4 ready\nout 1\n",
+        UNWRITTEN,
+    ),
+    ("replay runs one.js", "1", "", "", 5, "", UNWRITTEN),
+    (
+        "replay runs one.js",
+        "4",
+        "",
+        "",
+        5,
+        "ran 4 ready\nout 1\nran 1 ended\n",
+        UNWRITTEN,
+    ),
+    (
+        "replay runs one.js",
+        "23",
+        "",
+        "",
+        5,
+        "ran 4 ready\n",
+        UNWRITTEN,
+    ),
+    ("replay runs one.js", "5", "", "", 0, RUNS_OUTPUT, ""),
+    ("replay runs one.js", "", "1", "", 0, RUNS_OUTPUT, ""),
+    (
+        "replay runs one.js",
+        "3",
+        "1",
+        "",
+        5,
+        "ran 4 ready\nout 1\n",
+        "",
+    ),
+    (
+        "replay runs one.js",
+        "1",
+        "",
+        "1",
+        4,
+        "",
+        "debug_host: cannot read runs\n",
+    ),
+    (
+        "replay runs one.js",
+        "1",
+        "",
+        "2",
+        4,
+        "",
+        "debug_host: cannot read one.js\n",
+    ),
+    (
+        "replay runs one.js",
+        "",
+        "",
+        "12",
+        4,
+        "",
+        "debug_host: cannot read runs\n",
+    ),
+    ("replay runs one.js", "", "1", "2", 4, "", ""),
+    ("replay runs one.js", "", "", "3", 0, RUNS_OUTPUT, ""),
+    (
+        "replay take one.js",
+        "1",
+        "",
+        "",
+        6,
+        "",
+        "debug_host: line 1 refused\n",
+    ),
+    ("replay take one.js", "", "1", "", 6, "", ""),
+    ("replay runs b.js", "1", "1", "", 3, "", ""),
+    ("replay", "1", "1", "1", 2, "", ""),
+];
+
+// The words of a text.
+fn words_of(alloc: Global, text: &str) -> Result<Vec<String>, AllocError> {
+    let mut words = Vec::new(alloc);
+    if text != "~" {
+        for word in text.split(' ') {
+            words.push(String::from_str(alloc, word)?)?;
+        }
+    }
+    Ok(words)
+}
+
+// The numbers that are digits of a text.
+fn digits_of(alloc: Global, text: &str) -> Result<Vec<u64>, AllocError> {
+    let mut numbers = Vec::new(alloc);
+    for digit in text.bytes() {
+        numbers.push(u64::from(digit.saturating_sub(b'0')))?;
+    }
+    Ok(numbers)
+}
+
+// A shelf of these files and one more.
+fn shelf_of(
+    alloc: Global,
+    files: &[(&str, &[u8])],
+    journal: &[u8],
+    fails: &str,
+) -> Result<MemShelf, AllocError> {
+    let mut all = Vec::new(alloc);
+    for (name, bytes) in files {
+        all.push((String::from_str(alloc, name)?, bytes.to_vec(alloc)?))?;
+    }
+    all.push((String::from_str(alloc, "refused")?, journal.to_vec(alloc)?))?;
+    Ok(MemShelf::new(all, digits_of(alloc, fails)?))
+}
+
+// Each call comes to its end, over these files and a journal of the name `refused`.
+fn each_call(
+    rt: &(impl Abort + AllocGlobal),
+    journal: &[u8],
+    calls: &[(&str, &str, &str, &str, u8, &str, &str)],
+) -> Result<(), Fail> {
+    for (words, out_fails, err_fails, reads_fail, status, taken, said) in calls {
+        let list = words_of(rt.alloc(), words)?;
+        let mut shelf = shelf_of(rt.alloc(), &FILES, journal, reads_fail)?;
+        let mut out = MemSink::new(digits_of(rt.alloc(), out_fails)?);
+        let mut err = MemSink::new(digits_of(rt.alloc(), err_fails)?);
+        let ended = debug_main(rt.alloc(), &list, &mut shelf, &mut out, &mut err);
+        assert_eq!(rt; ended, *status, "of {words}");
+        assert_eq!(rt; out.taken(), taken.as_bytes(), "of {words}");
+        assert_eq!(rt; err.taken(), said.as_bytes(), "of {words}");
+    }
+    Ok(())
+}
+
+#[test]
+fn calls_come_to_their_ends(rt: HostRuntime) -> Result<(), Fail> {
+    each_call(&rt, b"", &CALLS)
+}
+
+// Each of these lines is refused behind `attach` and a run.
+const REFUSED: [&[u8]; 47] = [
+    b"",
+    b" ",
+    b"attach",
+    b"attach ",
+    b" attach",
+    b"Attach",
+    b"attach 1",
+    b"attach\r",
+    b"attach\xff",
+    b"\xc3",
+    b"detach 1",
+    b"shut",
+    b"memory",
+    b"take",
+    b"take ",
+    b"take 0",
+    b"take 2",
+    b"take 01",
+    b"take 1 ",
+    b"take 1\r",
+    b"take 18446744073709551617",
+    b"take  1",
+    b"run",
+    b"run 1",
+    b"run 1 ",
+    b"run  0",
+    b"run 01 0",
+    b"run 1 00",
+    b"run +1 0",
+    b"run -1 0",
+    b"run 1 0 0",
+    b"run 1 0\r",
+    b"run 4294967296 0",
+    b"run 1 9007199254740992",
+    b"tell 1",
+    b"tell 1 ",
+    b"tell 1 {}",
+    b"tell 0 {\"id\":1,\"method\":\"Debugger.enable\"}",
+    b"tell 2 {\"id\":1,\"method\":\"Debugger.enable\"}",
+    b"tell 01 {\"id\":1,\"method\":\"Debugger.enable\"}",
+    b"tell 1 {\"id\":01,\"method\":\"Debugger.enable\"}",
+    b"tell 1 {\"id\":9007199254740992,\"method\":\"Debugger.enable\"}",
+    b"tell 1 {\"id\":1,\"method\":\"\"}",
+    b"tell 1 {\"id\":1,\"method\":\"Debugger.\xc3\xa9\"}",
+    b"tell 1 {\"id\":1, \"method\":\"Debugger.enable\"}",
+    b"tell 1 {\"id\":1,\"method\":\"Debugger.enable\"} ",
+    b"tell 1 {\"id\":1,\"method\":\"Debugger.enable\",\"params\":{}}",
+];
+
+// What such a journal comes to.
+const REFUSED_CALL: [(&str, &str, &str, &str, u8, &str, &str); 1] = [(
+    "replay refused one.js",
+    "",
+    "",
+    "",
+    6,
+    "attached 1\nran 2 ready\n",
+    "debug_host: line 3 refused\n",
+)];
+
+fn each_refused(rt: &(impl Abort + AllocGlobal), lines: &[&[u8]]) -> Result<(), Fail> {
+    for line in lines {
+        let mut journal = b"attach\nrun 2 0\n".to_vec(rt.alloc())?;
+        journal.extend_from_slice(line)?;
+        journal.extend_from_slice(b"\nrun 3 0\n")?;
+        each_call(rt, &journal, &REFUSED_CALL)?;
+    }
+    Ok(())
+}
+
+#[test]
+fn lines_are_refused(rt: HostRuntime) -> Result<(), Fail> {
+    each_refused(&rt, &REFUSED)
+}
+
+// Takes at most so many bytes at each write, and counts the writes and the pieces that end with LF.
+#[derive(Drop)]
+struct PieceSink {
+    most: usize,
+    taken: Vec<u8>,
+    writes: u64,
+    lines: u64,
+}
+
+impl Sink for PieceSink {
+    ghost faults = { λ _. 0 };
+
+    ghost content = { λ sink. Some sink.taken.items };
+
+    fn write(&mut self, piece: &[u8]) -> Result<usize, SinkFault> {
+        let taken = piece.len().min(self.most).max(1).min(piece.len());
+        match self.taken.extend_from_slice(&piece[..taken]) {
+            Ok(()) => {
+                self.writes = self.writes.saturating_add(1);
+                if piece.last() == Some(&b'\n') {
+                    self.lines = self.lines.saturating_add(1);
+                }
+                Ok(taken)
+            }
+            Err(_) => Err(SinkFault::Memory),
+        }
+    }
+}
+
+#[test]
+fn a_line_is_offered_in_one_write(rt: HostRuntime) -> Result<(), Fail> {
+    let words = words_of(rt.alloc(), "replay pause two.js")?;
+    let bytes = PAUSE_OUTPUT.len() as u64;
+    for (most, writes) in [(1000, 10), (1, bytes)] {
+        let mut shelf = shelf_of(rt.alloc(), &FILES, b"", "")?;
+        let mut err = MemSink::new(Vec::new(rt.alloc()));
+        let mut out = PieceSink {
+            most,
+            taken: Vec::new(rt.alloc()),
+            writes: 0,
+            lines: 0,
+        };
+        let status = debug_main(rt.alloc(), &words, &mut shelf, &mut out, &mut err);
+        assert_eq!(rt; status, 0);
+        assert_eq!(rt; out.taken.as_slice(), PAUSE_OUTPUT.as_bytes());
+        assert!(rt; out.writes == writes && out.lines == writes);
+    }
+    Ok(())
+}
+
+// At want of memory, which a trial makes, the status is 1, and a first part of the output stands.
+#[test]
+fn want_of_memory_cuts_the_output(rt: HostRuntime) -> Result<(), Fail> {
+    let words = words_of(rt.alloc(), "replay pauses two.js")?;
+    let mut shelf = shelf_of(rt.alloc(), &FILES, b"", "")?;
+    let mut out = MemSink::new(Vec::new(rt.alloc()));
+    let mut err = MemSink::new(Vec::new(rt.alloc()));
+    let status = debug_main(rt.alloc(), &words, &mut shelf, &mut out, &mut err);
+    let whole = TWO_PAUSES_OUTPUT.as_bytes();
+    if status == 0 {
+        assert_eq!(rt; out.taken(), whole);
+        assert_eq!(rt; err.taken(), b"".as_slice());
+    } else {
+        assert_eq!(rt; status, 1);
+        assert!(rt; whole.starts_with(out.taken()));
+    }
+    Ok(())
+}

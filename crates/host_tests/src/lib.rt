@@ -1,0 +1,11 @@
+//! Tests of the crates of the host, from texts to the command line. It holds nothing else.
+#![tactic(auto)]
+
+#[cfg(test)]
+mod calls;
+#[cfg(test)]
+mod commands;
+#[cfg(test)]
+mod edges;
+#[cfg(test)]
+mod texts;
