@@ -53,7 +53,7 @@ walk_values p scope (v ∷ vs) s = ap (with_value v) (walk_values p scope vs s)
 
 next_redex : (p : Program) (scope : Addr) (r : Redex) (s : State) → next p scope (redex_view r) s ≡ reduced p scope r s
 unfolding performed
-next_redex p scope (Ready f vs later) s = ap (around p scope f (terms_view later) s) (walk_values p (scope_in f scope) vs.items s)
+next_redex p scope (Ready f vs later) s = ap (around p scope f.value (terms_view later) s) (walk_values p (scope_in f.value scope) vs.items s)
 next_redex p scope (Stands v place) s = refl
 
 redex_goes : (r : Redex) → is_done (redex_view r) ≡ false
