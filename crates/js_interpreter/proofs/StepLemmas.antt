@@ -27,15 +27,15 @@ walk_at p scope s [] (standing v place) ts h = refl
 walk_at p scope s [] (part f now later) ts h = refl
 walk_at p scope s (u ∷ vs) t ts h = ap (with_value u) (walk_at p scope s vs t ts h) ∙ inside_more u (λ x. joined (dones vs) (more x ts)) (next p scope t s)
 
-around_risen : (p : Program) (scope : Addr) (g : Gap) (s : State) (m : Move Term) → around p scope g.form (terms_view g.later) s (moved (inside (gap_parts g) m)) ≡ risen scope g m
+around_risen : (p : Program) (scope : Addr) (g : Gap) (s : State) (m : Move Term) → around p scope g.form.value (terms_view g.later) s (moved (inside (gap_parts g) m)) ≡ risen scope g m
 unfolding performed
 around_risen p scope g s (goes t u told) = refl
 around_risen p scope g s (travels c u) = refl
 around_risen p scope g s (has_effect u) = refl
 around_risen p scope g s (is_full what u) = refl
 
-next_filled : (p : Program) (scope : Addr) (g : Gap) (t : Term) (s : State) → is_done t ≡ false → next p scope (filled g t) s ≡ risen scope g (next p (scope_in g.form scope) t s)
-next_filled p scope g t s h = ap (around p scope g.form (terms_view g.later) s) (walk_at p (scope_in g.form scope) s g.before.items t (terms_view g.after) h) ∙ around_risen p scope g s (next p (scope_in g.form scope) t s)
+next_filled : (p : Program) (scope : Addr) (g : Gap) (t : Term) (s : State) → is_done t ≡ false → next p scope (filled g t) s ≡ risen scope g (next p (scope_in g.form.value scope) t s)
+next_filled p scope g t s h = ap (around p scope g.form.value (terms_view g.later) s) (walk_at p (scope_in g.form.value scope) s g.before.items t (terms_view g.after) h) ∙ around_risen p scope g s (next p (scope_in g.form.value scope) t s)
 
 -- ---- all levels
 
@@ -45,7 +45,7 @@ plugged_goes (g ∷ gs) t h = refl
 
 pub next_plugged : (p : Program) (scope : Addr) (gs : List Gap) (t : Term) (s : State) → is_done t ≡ false → next p scope (plugged gs t) s ≡ all_risen scope gs (next p (scope_at scope gs) t s)
 next_plugged p scope [] t s h = refl
-next_plugged p scope (g ∷ gs) t s h = next_filled p scope g (plugged gs t) s (plugged_goes gs t h) ∙ ap (risen scope g) (next_plugged p (scope_in g.form scope) gs t s h)
+next_plugged p scope (g ∷ gs) t s h = next_filled p scope g (plugged gs t) s (plugged_goes gs t h) ∙ ap (risen scope g) (next_plugged p (scope_in g.form.value scope) gs t s h)
 
 walk_values : (p : Program) (scope : Addr) (vs : List Value) (s : State) → walk p scope (dones vs) s ≡ all_values vs
 walk_values p scope [] s = refl
@@ -53,7 +53,7 @@ walk_values p scope (v ∷ vs) s = ap (with_value v) (walk_values p scope vs s)
 
 next_redex : (p : Program) (scope : Addr) (r : Redex) (s : State) → next p scope (redex_view r) s ≡ reduced p scope r s
 unfolding performed
-next_redex p scope (Ready f vs later) s = ap (around p scope f (terms_view later) s) (walk_values p (scope_in f scope) vs.items s)
+next_redex p scope (Ready f vs later) s = ap (around p scope f.value (terms_view later) s) (walk_values p (scope_in f.value scope) vs.items s)
 next_redex p scope (Stands v place) s = refl
 
 redex_goes : (r : Redex) → is_done (redex_view r) ≡ false
@@ -67,7 +67,7 @@ next_opened p scope gs r s = next_plugged p scope gs (redex_view r) s (redex_goe
 
 pub all_risen-push : (scope : Addr) (gs : List Gap) (g : Gap) (m : Move Term) → all_risen scope (gs ++ g ∷ []) m ≡ all_risen scope gs (risen (scope_at scope gs) g m)
 all_risen-push scope [] g m = refl
-all_risen-push scope (h ∷ gs) g m = ap (risen scope h) (all_risen-push (scope_in h.form scope) gs g m)
+all_risen-push scope (h ∷ gs) g m = ap (risen scope h) (all_risen-push (scope_in h.form.value scope) gs g m)
 
 pub ruleset rising_rules = (all_risen-push)
 

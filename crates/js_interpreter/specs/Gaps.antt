@@ -25,7 +25,7 @@ use Rattle.js_interpreter.specs.declared.gap.Sorted.TheVariants.{Value as a_valu
 -- a term that is no value
 abbrev pub reducible_view : Reducible → Term
 reducible_view (Standing v place) = standing v place
-reducible_view (Part f now later) = part f (terms_view now) (terms_view later)
+reducible_view (Part f now later) = part f.value (terms_view now) (terms_view later)
 
 -- a value or a term that is none
 abbrev pub sorted_view : Sorted → Term
@@ -34,7 +34,7 @@ sorted_view (another r) = reducible_view r
 
 -- what is about to be reduced: a form whose parts have their values, or a throw that stands
 abbrev pub redex_view : Redex → Term
-redex_view (Ready f vs later) = part f (dones vs.items) (terms_view later)
+redex_view (Ready f vs later) = part f.value (dones vs.items) (terms_view later)
 redex_view (Stands v place) = standing v place
 
 -- parts: all of them values, or with the first that is none
@@ -50,7 +50,7 @@ gap_parts g t = joined (dones g.before.items) (more t (terms_view g.after))
 
 -- a form with a part in its gap
 abbrev pub filled : Gap → Term → Term
-filled g t = part g.form (gap_parts g t) (terms_view g.later)
+filled g t = part g.form.value (gap_parts g t) (terms_view g.later)
 
 -- forms around a part, from the outermost one
 abbrev pub plugged : List Gap → Term → Term
@@ -67,22 +67,22 @@ opened_view o = plugged o.gaps.items (redex_view o.redex)
 -- the scope in the innermost gap
 abbrev pub scope_at : Addr → List Gap → Addr
 scope_at scope [] = scope
-scope_at scope (g ∷ gs) = scope_at (scope_in g.form scope) gs
+scope_at scope (g ∷ gs) = scope_at (scope_in g.form.value scope) gs
 
 -- ---- what becomes of a form after a step of the part in its gap
 
 abbrev pub risen : Addr → Gap → Move Term → Move Term
-risen scope g (goes t s told) = goes (settled g.form (gap_parts g t) (terms_view g.later)) s told
-risen scope g (travels c s) = performed (taken scope g.form c (terms_view g.later)) s
+risen scope g (goes t s told) = goes (settled g.form.value (gap_parts g t) (terms_view g.later)) s told
+risen scope g (travels c s) = performed (taken scope g.form.value c (terms_view g.later)) s
 risen scope g (has_effect s) = has_effect s
 risen scope g (is_full what s) = is_full what s
 
 abbrev pub all_risen : Addr → List Gap → Move Term → Move Term
 all_risen scope [] m = m
-all_risen scope (g ∷ gs) m = risen scope g (all_risen (scope_in g.form scope) gs m)
+all_risen scope (g ∷ gs) m = risen scope g (all_risen (scope_in g.form.value scope) gs m)
 
 -- ---- the step of what is about to be reduced
 
 abbrev pub reduced : Program → Addr → Redex → State → Move Term
-reduced p scope (Ready f vs later) s = performed (row p s scope f vs.items (terms_view later)) s
+reduced p scope (Ready f vs later) s = performed (row p s scope f.value vs.items (terms_view later)) s
 reduced p scope (Stands v place) s = travels (throws v place) s

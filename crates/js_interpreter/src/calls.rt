@@ -87,7 +87,8 @@ fn frame_entered(
     let frame = Frame::new(Some(function), source, receiver, own, Mark::Start(node));
     state.push_frame(frame)?;
     let body = one(alloc, settle(alloc, body)?)?;
-    Ok(went(part(Form::Frame(node, own), body, end(alloc))))
+    let frame = part(alloc, Form::Frame(node, own), body, end(alloc))?;
+    Ok(went(frame))
 }
 
 /// Enters a function: its scope, the functions that it declares, then its frame (ECMA-262, 10.2.1, 10.2.11).

@@ -119,7 +119,7 @@ pub fn comma_row(alloc: Global, state: &mut State, later: Terms) -> Result<Moved
     };
     let first = one(alloc, parts.first)?;
     let others = joined(one(alloc, rest.first)?, rest.others)?;
-    Ok(went(part(Form::Comma, first, others)))
+    Ok(went(part(alloc, Form::Comma, first, others)?))
 }
 
 /// A function expression, an arrow or a method (15.2.5, 15.3.4, 15.4.4).
@@ -175,10 +175,10 @@ pub fn compound_row(
     };
     let old = state.get(alloc, scope, &reference, values)?;
     let operands = two(alloc, done(old), parts.first)?;
-    let new = part(Form::Binary(operator), operands, end(alloc));
+    let new = part(alloc, Form::Binary(operator), operands, end(alloc))?;
     let target = values_as_parts(alloc, values)?;
     let written = joined(target, one(alloc, new)?)?;
-    Ok(went(part(Form::Assign(reference), written, end(alloc))))
+    Ok(went(part(alloc, Form::Assign(reference), written, end(alloc))?))
 }
 
 /// `delete` of a property (13.5.1.2).
@@ -221,5 +221,10 @@ pub fn callee_row(
     let callee = state.get(alloc, scope, reference, values)?;
     let this = callee_this(reference, values);
     let first = two(alloc, done(this), done(callee))?;
-    Ok(went(part(Form::Call(place, node), joined(first, later)?, end(alloc))))
+    Ok(went(part(
+        alloc,
+        Form::Call(place, node),
+        joined(first, later)?,
+        end(alloc),
+    )?))
 }

@@ -8,7 +8,7 @@ ghost use Rattle.js_interpreter.specs.Gaps.{reducible_view, sorted_view, split_v
 
 use js_heap::value::{Addr, Value};
 use js_semantics::form::{Form, Spot};
-use js_terms::settle::settled;
+use js_terms::settle::resettled;
 use js_terms::term::{Term, Terms, done, joined, one, terms_of};
 use std::alloc::{AllocError, Global};
 
@@ -16,7 +16,7 @@ use std::alloc::{AllocError, Global};
 #[derive(Drop)]
 pub enum Reducible {
     Standing(Value, Spot),
-    Part(Form, Terms, Terms),
+    Part(Box<Form>, Terms, Terms),
 }
 
 /// A value, or a term that is none.
@@ -36,14 +36,14 @@ pub enum Split {
 /// What is about to be reduced: a form whose parts have their values, or a throw that stands.
 #[derive(Drop)]
 pub enum Redex {
-    Ready(Form, Vec<Value>, Terms),
+    Ready(Box<Form>, Vec<Value>, Terms),
     Stands(Value, Spot),
 }
 
 /// A form with a gap in the place of its first part that is no value.
 #[derive(Drop)]
 pub struct Gap {
-    pub form: Form,
+    pub form: Box<Form>,
     pub before: Vec<Value>,
     pub after: Terms,
     pub later: Terms,
@@ -181,7 +181,7 @@ fn gap_parts(alloc: Global, before: &[Value], term: Term, after: Terms) -> Resul
 
 /// The form of a gap with a part in it, after a step in that part.
 pub fn close_gap(alloc: Global, gap: Gap, term: Term) -> Result<Term, AllocError>
-    ensures { IfOk result (λ t. term_view t ≡ settled gap.form (gap_parts gap (term_view term)) (terms_view gap.later)) }
+    ensures { IfOk result (λ t. term_view t ≡ settled gap.form.value (gap_parts gap (term_view term)) (terms_view gap.later)) }
 {
     let Gap {
         form,
@@ -190,5 +190,5 @@ pub fn close_gap(alloc: Global, gap: Gap, term: Term) -> Result<Term, AllocError
         later,
     } = gap;
     let parts = gap_parts(alloc, before.as_slice(), term, after)?;
-    settled(alloc, form, parts, later)
+    resettled(alloc, form, parts, later)
 }

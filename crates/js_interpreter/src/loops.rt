@@ -81,7 +81,7 @@ fn for_in(alloc: Global, constant: bool, scope: Addr, later: Terms) -> Result<Te
     if constant {
         let own = Form::Loop(Stage::First, None);
         let whole = settled(alloc, own, initialiser, parts.others)?;
-        return Ok(part(Form::Scoped(scope), one(alloc, whole)?, end(alloc)));
+        return part(alloc, Form::Scoped(scope), one(alloc, whole)?, end(alloc));
     }
     settled(
         alloc,
@@ -137,7 +137,7 @@ pub fn enter_for_of_row(
     let names = names_of_one(alloc, &binding)?;
     let own = nameless_scope(alloc, state, ScopeKind::Block, scope, names)?;
     let list = one(alloc, scoped(alloc, own, parts.first)?)?;
-    Ok(went(part(Form::ListOf(binding), list, parts.others)))
+    Ok(went(part(alloc, Form::ListOf(binding), list, parts.others)?))
 }
 
 /// Whether a cell is an array.
@@ -172,7 +172,7 @@ pub fn list_row(
 {
     if is_array(state.world(), value) {
         let kept = joined(one(alloc, done(value))?, later)?;
-        return Ok(went(part(Form::TurnOf(binding, 0), end(alloc), kept)));
+        return Ok(went(part(alloc, Form::TurnOf(binding, 0), end(alloc), kept)?));
     }
     Err(state.fail_with(alloc, ErrorClass::TypeError, b"Value is not an array"))
 }

@@ -38,7 +38,12 @@ fn method_row(
     let a = state.make(cell)?;
     let before = values_as_parts(alloc, values)?;
     let behind = joined(one(alloc, done(Value::Object(a)))?, now)?;
-    let whole = part(Form::Object(members), joined(before, behind)?, others);
+    let whole = part(
+        alloc,
+        Form::Object(members),
+        joined(before, behind)?,
+        others,
+    )?;
     Ok(went(whole))
 }
 
@@ -49,13 +54,13 @@ fn object_before(
     scope: Addr,
     members: Members,
     values: &[Value],
-    form: Form,
+    form: Box<Form>,
     now: Terms,
     others: Terms,
 ) -> Result<Moved, Stop>
-    ensures { Moves (object_row state.old.world scope members values.now (more (term_part form (terms_view now) no_terms) (terms_view others))) state.old result state.new }
+    ensures { Moves (object_row state.old.world scope members values.now (more (term_part form.value (terms_view now) no_terms) (terms_view others))) state.old result state.new }
 {
-    match form {
+    match Box::into_inner(form) {
         Form::Method(form) => {
             method_row(alloc, state, scope, members, values, &form, now, others)
         }

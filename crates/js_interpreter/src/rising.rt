@@ -39,12 +39,13 @@ fn take(
     alloc: Global,
     state: &mut State,
     scope: Addr,
-    form: Form,
+    form: Box<Form>,
     completion: Completion,
     later: Terms,
 ) -> Result<Moved, AllocError>
-    ensures { IfOk result (λ m. performed (taken scope form completion (terms_view later)) state.old ≡ moved_view m state.new) }
+    ensures { IfOk result (λ m. performed (taken scope form.value completion (terms_view later)) state.old ≡ moved_view m state.new) }
 {
+    let form = Box::into_inner(form);
     let made = take_row(alloc, state, scope, form, completion, later);
     move_of(state, made)
 }

@@ -61,14 +61,14 @@ fn row(
     state: &mut State,
     program: &Terms,
     scope: Addr,
-    form: Form,
+    form: Box<Form>,
     values: Vec<Value>,
     later: Terms,
 ) -> Result<Moved, Stop>
-    ensures { Moves (row (program_view program.now) state.old scope form values.items (terms_view later)) state.old result state.new }
+    ensures { Moves (row (program_view program.now) state.old scope form.value values.items (terms_view later)) state.old result state.new }
 {
     let parts = values.as_slice();
-    match form {
+    match Box::into_inner(form) {
         Form::Script(number, names) => script_row(alloc, state, number, names.slice(), later),
         Form::Enter(node) | Form::EnterDebugger(node) => enter_row(alloc, state, node, later),
         Form::EnterFor(node, constant, names) => {

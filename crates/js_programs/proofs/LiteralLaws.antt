@@ -1,6 +1,7 @@
 -- The literals of a part, by what its form is, and of parts one after another.
 use Rattle.std.proofs.Common.{◌≡◌, ℕ, ◌+◌, List, [], ◌∷◌, ◌++◌, length, Option, Some, None, map, refl, sym, ap, ◌∙◌, append_assoc, append-nil, length-append, add_assoc, drop, get_or, ◌<◌, ◌≤◌, Result, Ok, Err, OnOk}
 use Rattle.std.proofs.lemmas.List.{drop_all, drop_more, map-append}
+use Rattle.std.specs.Global.{Box}
 use Rattle.js_heap.specs.declared.value.Value.TheVariants as values
 use Rattle.js_heap.specs.declared.value.Addr.TheVariants.{Base}
 use Rattle.js_semantics.specs.declared.form.Form.{Form}
@@ -60,19 +61,19 @@ found_done found t v e = sym (ap (λ x. found ++ run.literals x) (ap term_view e
 pub found_standing : (found : List (List ℕ)) (t : Term) (v : Value) (s : Spot) → t ≡ Term.Standing v s → found ≡ found ++ run.literals (term_view t)
 found_standing found t v s e = sym (ap (λ x. found ++ run.literals x) (ap term_view e ∙ view_standing v s) ∙ append-nil found)
 
-pub found_parts : (found one two : List (List ℕ)) (t : Term) (f : Form) (now later : Terms) → t ≡ views.Part f now later → None ≡ literal_in f → one ≡ found ++ run.literals_of (terms_view now) → two ≡ one ++ run.literals_of (terms_view later) → two ≡ found ++ run.literals (term_view t)
+pub found_parts : (found one two : List (List ℕ)) (t : Term) (f : Box Form) (now later : Terms) → t ≡ views.Part f now later → None ≡ literal_in f.value → one ≡ found ++ run.literals_of (terms_view now) → two ≡ one ++ run.literals_of (terms_view later) → two ≡ found ++ run.literals (term_view t)
 found_parts found one two t f now later is other first second =
     second ∙ ap (λ us. us ++ run.literals_of (terms_view later)) first ∙ append_assoc found (run.literals_of (terms_view now)) (run.literals_of (terms_view later))
-    ∙ ap (λ us. found ++ us) (sym (ap run.literals (ap term_view is ∙ view_part f now later) ∙ literals_parts f (terms_view now) (terms_view later) other))
+    ∙ ap (λ us. found ++ us) (sym (ap run.literals (ap term_view is ∙ view_part f now later) ∙ literals_parts f.value (terms_view now) (terms_view later) other))
 
-pub counted_literal : (n m : ℕ) (t : Term) (f : Form) (now later : Terms) (us : List ℕ) → t ≡ views.Part f now later → Some us ≡ literal_in f → m ≡ n + 1 → m ≡ n + length (run.literals (term_view t))
-counted_literal n m t f now later us is literal e = e ∙ ap (λ xs. n + length xs) (sym (ap run.literals (ap term_view is ∙ view_part f now later) ∙ literals_literal f (terms_view now) (terms_view later) us literal))
+pub counted_literal : (n m : ℕ) (t : Term) (f : Box Form) (now later : Terms) (us : List ℕ) → t ≡ views.Part f now later → Some us ≡ literal_in f.value → m ≡ n + 1 → m ≡ n + length (run.literals (term_view t))
+counted_literal n m t f now later us is literal e = e ∙ ap (λ xs. n + length xs) (sym (ap run.literals (ap term_view is ∙ view_part f now later) ∙ literals_literal f.value (terms_view now) (terms_view later) us literal))
 
-pub counted_parts : (n one two : ℕ) (t : Term) (f : Form) (now later : Terms) → t ≡ views.Part f now later → None ≡ literal_in f → one ≡ n + length (run.literals_of (terms_view now)) → two ≡ one + length (run.literals_of (terms_view later)) → two ≡ n + length (run.literals (term_view t))
+pub counted_parts : (n one two : ℕ) (t : Term) (f : Box Form) (now later : Terms) → t ≡ views.Part f now later → None ≡ literal_in f.value → one ≡ n + length (run.literals_of (terms_view now)) → two ≡ one + length (run.literals_of (terms_view later)) → two ≡ n + length (run.literals (term_view t))
 counted_parts n one two t f now later is other first second =
     second ∙ ap (λ k. k + length (run.literals_of (terms_view later))) first ∙ add_assoc n (length (run.literals_of (terms_view now))) (length (run.literals_of (terms_view later)))
     ∙ ap (λ k. n + k) (sym (length-append (run.literals_of (terms_view now)) (run.literals_of (terms_view later))))
-    ∙ ap (λ us. n + length us) (sym (ap run.literals (ap term_view is ∙ view_part f now later) ∙ literals_parts f (terms_view now) (terms_view later) other))
+    ∙ ap (λ us. n + length us) (sym (ap run.literals (ap term_view is ∙ view_part f now later) ∙ literals_parts f.value (terms_view now) (terms_view later) other))
 
 pub ruleset literal_laws = (literals_literal, placed_literal, literals_parts, placed_parts, counted_literal, counted_parts)
 

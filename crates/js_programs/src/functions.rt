@@ -112,14 +112,19 @@ pub fn entered(alloc: Global, node: u32, term: Term) -> Result<Term, AllocError>
     ensures { IfOk result (λ t. term_view t ≡ semantics.part (forms.Enter node) semantics.end (semantics.one (term_view term))) }
 {
     let later = one(alloc, term)?;
-    Ok(part(Form::Enter(node), end(alloc), later))
+    part(alloc, Form::Enter(node), end(alloc), later)
 }
 
 /// A loop before its first turn.
-pub fn loop_term(stage: Stage, first: Terms, parts: Terms) -> Term
-    ensures { term_view result ≡ semantics.part (forms.Loop stage None) (terms_view first) (terms_view parts) }
+pub fn loop_term(
+    alloc: Global,
+    stage: Stage,
+    first: Terms,
+    parts: Terms,
+) -> Result<Term, AllocError>
+    ensures { IfOk result (λ t. term_view t ≡ semantics.part (forms.Loop stage None) (terms_view first) (terms_view parts)) }
 {
-    part(Form::Loop(stage, None), first, parts)
+    part(alloc, Form::Loop(stage, None), first, parts)
 }
 
 /// The parts of a loop.

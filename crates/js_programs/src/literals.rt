@@ -99,7 +99,7 @@ fn term_placed(alloc: Global, term: &Term, next: &mut u32) -> Result<Term, Alloc
                 let form = form_copy(alloc, form)?;
                 let now = terms_placed(alloc, now, next)?;
                 let later = terms_placed(alloc, later, next)?;
-                Ok(part(form, now, later))
+                part(alloc, form, now, later)
             }
         },
     }

@@ -64,7 +64,7 @@ pub fn name_read(alloc: Global, name: &Units) -> Result<Term, AllocError>
     ensures { IfOk result (λ t. term_view t ≡ semantics.part (forms.Read (references.Name name.now)) semantics.end semantics.end) }
 {
     let name = name.clone()?;
-    Ok(leaf(alloc, Form::Read(Reference::Name(name))))
+    leaf(alloc, Form::Read(Reference::Name(name)))
 }
 
 /// The number that a numeric literal stands for.

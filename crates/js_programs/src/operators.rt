@@ -20,7 +20,7 @@ pub fn unary_term(alloc: Global, operator: UnaryOperator, operand: Term) -> Resu
 {
     match operator {
         UnaryOperator::Typeof => Ok(type_of(alloc, operand)?),
-        UnaryOperator::Delete => Ok(deleted(alloc, operand)),
+        UnaryOperator::Delete => Ok(deleted(alloc, operand)?),
         UnaryOperator::Void => Ok(plain_unary(alloc, UnaryOperator::Void, operand)?),
         UnaryOperator::Plus => Ok(plain_unary(alloc, UnaryOperator::Plus, operand)?),
         UnaryOperator::Minus => Ok(plain_unary(alloc, UnaryOperator::Minus, operand)?),
@@ -33,7 +33,7 @@ fn plain_unary(alloc: Global, operator: UnaryOperator, operand: Term) -> Result<
     ensures { IfOk result (λ t. term_view t ≡ semantics.part (forms.Unary operator) (semantics.one (term_view operand)) semantics.end) }
 {
     let operands = one(alloc, operand)?;
-    Ok(part(Form::Unary(operator), operands, end(alloc)))
+    part(alloc, Form::Unary(operator), operands, end(alloc))
 }
 
 /// An operator on two values.
@@ -68,7 +68,7 @@ fn deciding(alloc: Global, form: Form, left: Term, right: Term) -> Result<Term, 
 {
     let now = one(alloc, left)?;
     let later = one(alloc, right)?;
-    Ok(part(form, now, later))
+    part(alloc, form, now, later)
 }
 
 fn plain_binary(
@@ -80,7 +80,7 @@ fn plain_binary(
     ensures { IfOk result (λ t. term_view t ≡ semantics.part (forms.Binary operator) (semantics.more (term_view left) (semantics.one (term_view right))) semantics.end) }
 {
     let operands = two(alloc, left, right)?;
-    Ok(part(Form::Binary(operator), operands, end(alloc)))
+    part(alloc, Form::Binary(operator), operands, end(alloc))
 }
 
 /// `if` and `? :`.
@@ -94,7 +94,7 @@ pub fn choice(
 {
     let now = one(alloc, test)?;
     let later = two(alloc, consequent, alternate)?;
-    Ok(part(Form::Choose, now, later))
+    part(alloc, Form::Choose, now, later)
 }
 
 /// `a, b`
@@ -111,5 +111,10 @@ fn comma_of(alloc: Global, mut expressions: Vec<Term>) -> Result<Term, AllocErro
         return Ok(done(Value::Undefined));
     }
     let first = expressions.remove(0);
-    Ok(part(Form::Comma, one(alloc, first)?, terms_of(expressions)))
+    part(
+        alloc,
+        Form::Comma,
+        one(alloc, first)?,
+        terms_of(expressions),
+    )
 }

@@ -24,22 +24,22 @@ pub enum Target {
 
 /// A term taken apart where it is read.
 #[tactic(auto, using(js_terms::proofs::TermLaws::term_laws))]
-pub fn target_of(term: Term) -> Target
-    ensures { IsTarget (term_view term) result }
+pub fn target_of(alloc: Global, term: Term) -> Result<Target, AllocError>
+    ensures { IfOk result (λ target. IsTarget (term_view term) target) }
 {
     match term {
-        Term::Part { form, now, later } => read_target(form, now, later),
-        Term::Done(value) => Target::Other(done(value)),
-        Term::Standing(value, spot) => Target::Other(standing(value, spot)),
+        Term::Part { form, now, later } => read_target(alloc, Box::into_inner(form), now, later),
+        Term::Done(value) => Ok(Target::Other(done(value))),
+        Term::Standing(value, spot) => Ok(Target::Other(standing(value, spot))),
     }
 }
 
-fn read_target(form: Form, now: Terms, later: Terms) -> Target
-    ensures { IsTarget (semantics.part form (terms_view now) (terms_view later)) result }
+fn read_target(alloc: Global, form: Form, now: Terms, later: Terms) -> Result<Target, AllocError>
+    ensures { IfOk result (λ target. IsTarget (semantics.part form (terms_view now) (terms_view later)) target) }
 {
     match form {
-        Form::Read(reference) => Target::Reference(reference, now, later),
-        other => Target::Other(part(other, now, later)),
+        Form::Read(reference) => Ok(Target::Reference(reference, now, later)),
+        other => Ok(Target::Other(part(alloc, other, now, later)?)),
     }
 }
 
@@ -48,10 +48,10 @@ fn read_target(form: Form, now: Terms, later: Terms) -> Target
 pub fn assigned_to(alloc: Global, target: Term, value: Term) -> Result<Term, AllocError>
     ensures { IfOk result (λ t. term_view t ≡ makers.assigned_to (term_view target) (term_view value)) }
 {
-    match target_of(target) {
+    match target_of(alloc, target)? {
         Target::Reference(reference, now, _) => {
             let now = joined(now, one(alloc, value)?)?;
-            Ok(part(Form::Assign(reference), now, end(alloc)))
+            part(alloc, Form::Assign(reference), now, end(alloc))
         }
         Target::Other(other) => Ok(other),
     }
@@ -67,10 +67,10 @@ pub fn compounded(
 ) -> Result<Term, AllocError>
     ensures { IfOk result (λ t. term_view t ≡ makers.compounded operator (term_view target) (term_view value)) }
 {
-    match target_of(target) {
+    match target_of(alloc, target)? {
         Target::Reference(reference, now, _) => {
             let later = one(alloc, value)?;
-            Ok(part(Form::Compound(operator, reference), now, later))
+            part(alloc, Form::Compound(operator, reference), now, later)
         }
         Target::Other(other) => Ok(other),
     }
@@ -78,25 +78,37 @@ pub fn compounded(
 
 /// `++` and `--`, and whether it stands in front.
 #[tactic(auto, using(crate::proofs::TargetLaws::updated_laws))]
-pub fn updated(alloc: Global, operator: UpdateOperator, prefix: bool, target: Term) -> Term
-    ensures { term_view result ≡ makers.updated operator prefix (term_view target) }
+pub fn updated(
+    alloc: Global,
+    operator: UpdateOperator,
+    prefix: bool,
+    target: Term,
+) -> Result<Term, AllocError>
+    ensures { IfOk result (λ t. term_view t ≡ makers.updated operator prefix (term_view target)) }
 {
-    match target_of(target) {
+    match target_of(alloc, target)? {
         Target::Reference(reference, now, _) => {
-            part(Form::Update(operator, prefix, reference), now, end(alloc))
+            part(
+                alloc,
+                Form::Update(operator, prefix, reference),
+                now,
+                end(alloc),
+            )
         }
-        Target::Other(other) => other,
+        Target::Other(other) => Ok(other),
     }
 }
 
 /// `delete target`.
 #[tactic(auto, using(crate::proofs::TargetLaws::deleted_laws))]
-pub fn deleted(alloc: Global, target: Term) -> Term
-    ensures { term_view result ≡ makers.deleted (term_view target) }
+pub fn deleted(alloc: Global, target: Term) -> Result<Term, AllocError>
+    ensures { IfOk result (λ t. term_view t ≡ makers.deleted (term_view target)) }
 {
-    match target_of(target) {
-        Target::Reference(reference, now, _) => part(Form::Delete(reference), now, end(alloc)),
-        Target::Other(other) => other,
+    match target_of(alloc, target)? {
+        Target::Reference(reference, now, _) => {
+            part(alloc, Form::Delete(reference), now, end(alloc))
+        }
+        Target::Other(other) => Ok(other),
     }
 }
 
@@ -105,7 +117,7 @@ pub fn deleted(alloc: Global, target: Term) -> Term
 pub fn type_of(alloc: Global, operand: Term) -> Result<Term, AllocError>
     ensures { IfOk result (λ t. term_view t ≡ makers.type_of (term_view operand)) }
 {
-    match target_of(operand) {
+    match target_of(alloc, operand)? {
         Target::Reference(reference, now, later) => Ok(type_of_read(alloc, reference, now, later)?),
         Target::Other(other) => Ok(type_of_value(alloc, other)?),
     }
@@ -120,13 +132,13 @@ fn type_of_read(
     ensures { IfOk result (λ t. term_view t ≡ makers.type_of (semantics.part (forms.Read reference) (terms_view now) (terms_view later))) }
 {
     match reference {
-        Reference::Name(name) => Ok(leaf(alloc, Form::TypeofName(name))),
+        Reference::Name(name) => leaf(alloc, Form::TypeofName(name)),
         Reference::Member(key) => {
-            let read = part(Form::Read(Reference::Member(key)), now, later);
+            let read = part(alloc, Form::Read(Reference::Member(key)), now, later)?;
             Ok(type_of_value(alloc, read)?)
         }
         Reference::Index => {
-            let read = part(Form::Read(Reference::Index), now, later);
+            let read = part(alloc, Form::Read(Reference::Index), now, later)?;
             Ok(type_of_value(alloc, read)?)
         }
     }
@@ -136,7 +148,12 @@ fn type_of_value(alloc: Global, operand: Term) -> Result<Term, AllocError>
     ensures { IfOk result (λ t. term_view t ≡ semantics.part (forms.Unary unaries.Typeof) (semantics.one (term_view operand)) semantics.end) }
 {
     let operands = one(alloc, operand)?;
-    Ok(part(Form::Unary(UnaryOperator::Typeof), operands, end(alloc)))
+    part(
+        alloc,
+        Form::Unary(UnaryOperator::Typeof),
+        operands,
+        end(alloc),
+    )
 }
 
 /// The operator of an assignment, where it has one.
@@ -196,9 +213,9 @@ pub fn call_term(
 ) -> Result<Term, AllocError>
     ensures { IfOk result (λ t. term_view t ≡ makers.call_term place node (term_view callee) (terms_view arguments)) }
 {
-    match target_of(callee) {
+    match target_of(alloc, callee)? {
         Target::Reference(reference, now, _) => {
-            Ok(part(Form::CallOf(reference, place, node), now, arguments))
+            part(alloc, Form::CallOf(reference, place, node), now, arguments)
         }
         Target::Other(other) => Ok(plain_call(alloc, place, node, other, arguments)?),
     }
@@ -219,5 +236,5 @@ fn plain_call(
     parts.push(done(Value::Undefined))?;
     parts.push(callee)?;
     let now = joined(terms_of(parts), arguments)?;
-    Ok(part(Form::Call(place, node), now, end(alloc)))
+    part(alloc, Form::Call(place, node), now, end(alloc))
 }

@@ -41,7 +41,7 @@ fn block_of(
 {
     let names = names_of(alloc, body)?;
     let later = body_parts(alloc, statements, functions)?;
-    Ok(part(Form::Block(names), end(alloc), later))
+    part(alloc, Form::Block(names), end(alloc), later)
 }
 
 // a block with what catches its errors
@@ -75,7 +75,7 @@ fn catching(
 {
     let name = optional_name(name)?;
     let later = one(alloc, block)?;
-    Ok(part(Form::Catching(name), one(alloc, term)?, later))
+    part(alloc, Form::Catching(name), one(alloc, term)?, later)
 }
 
 fn optional_name(name: &Option<Units>) -> Result<Option<Units>, AllocError>
@@ -111,5 +111,5 @@ fn finishing(alloc: Global, term: Term, block: Term) -> Result<Term, AllocError>
     ensures { IfOk result (λ t. term_view t ≡ semantics.part forms.Finishing (semantics.one (term_view term)) (semantics.one (term_view block))) }
 {
     let later = one(alloc, block)?;
-    Ok(part(Form::Finishing, one(alloc, term)?, later))
+    part(alloc, Form::Finishing, one(alloc, term)?, later)
 }

@@ -28,7 +28,7 @@ pub fn declarators_term<'a>(
     ensures { IfOk result (λ t. term_view t ≡ makers.declarators_term (declarators_source ds.now) (context_of place.entry)) }
 {
     let terms = terms_of(declarator_items(alloc, &ds.items, place)?);
-    Ok(part(Form::Sequence, terms, end(alloc)))
+    part(alloc, Form::Sequence, terms, end(alloc))
 }
 
 #[cycle(source)]
@@ -59,7 +59,7 @@ fn declarator<'a>(alloc: Global, d: &Declarator, place: Place<'a>) -> Result<Ter
 fn initialize(alloc: Global, name: &Units, value: Terms) -> Result<Term, AllocError>
     ensures { IfOk result (λ t. term_view t ≡ semantics.part (forms.Initialize name.now) (terms_view value) semantics.end) }
 {
-    Ok(part(Form::Initialize(name.clone()?), value, end(alloc)))
+    part(alloc, Form::Initialize(name.clone()?), value, end(alloc))
 }
 
 // a value that may be absent, where a part gives a name

@@ -30,15 +30,15 @@ pub fn expression_term<'a>(alloc: Global, e: &Expr, place: Place<'a>) -> Result<
     ensures { IfOk result (λ t. term_view t ≡ (expression_source e.now).term (context_of place.entry)) }
 {
     match e {
-        Expr::This { .. } => Ok(leaf(alloc, Form::This)),
+        Expr::This { .. } => leaf(alloc, Form::This),
         Expr::Name { name, .. } => name_read(alloc, name),
         Expr::Number { value, .. } => Ok(done(Value::Number(number_of(*value)))),
-        Expr::String { value, .. } => Ok(leaf(alloc, Form::Literal(value.clone()?))),
+        Expr::String { value, .. } => leaf(alloc, Form::Literal(value.clone()?)),
         Expr::Boolean { value, .. } => Ok(done(Value::Bool(*value))),
         Expr::Null { .. } => Ok(done(Value::Null)),
         Expr::Array { elements, .. } => {
             let elements = parts_terms(alloc, elements, place)?;
-            Ok(part(Form::Array, elements, end(alloc)))
+            array_term(alloc, elements)
         }
         Expr::Object { properties, .. } => object_term(alloc, properties, place),
         Expr::Function {
@@ -100,7 +100,7 @@ pub fn expression_term<'a>(alloc: Global, e: &Expr, place: Place<'a>) -> Result<
             ..
         } => {
             let operand = part_term(alloc, operand, place)?;
-            Ok(updated(alloc, *operator, false, operand))
+            updated(alloc, *operator, false, operand)
         }
         Expr::Prefix {
             operator,
@@ -108,7 +108,7 @@ pub fn expression_term<'a>(alloc: Global, e: &Expr, place: Place<'a>) -> Result<
             ..
         } => {
             let operand = part_term(alloc, operand, place)?;
-            Ok(updated(alloc, *operator, true, operand))
+            updated(alloc, *operator, true, operand)
         }
         Expr::Unary {
             operator,
@@ -156,12 +156,24 @@ pub fn expression_term<'a>(alloc: Global, e: &Expr, place: Place<'a>) -> Result<
     }
 }
 
+// an array literal
+fn array_term(alloc: Global, elements: Terms) -> Result<Term, AllocError>
+    ensures { IfOk result (λ t. term_view t ≡ semantics.part forms.Array (terms_view elements) semantics.end) }
+{
+    part(alloc, Form::Array, elements, end(alloc))
+}
+
 // a property with a fixed key
 fn member_term(alloc: Global, object: Term, name: &Units) -> Result<Term, AllocError>
     ensures { IfOk result (λ t. term_view t ≡ semantics.part (forms.Read (references.Member name.now)) (semantics.one (term_view object)) semantics.end) }
 {
     let reference = Reference::Member(name.clone()?);
-    Ok(part(Form::Read(reference), one(alloc, object)?, end(alloc)))
+    part(
+        alloc,
+        Form::Read(reference),
+        one(alloc, object)?,
+        end(alloc),
+    )
 }
 
 // a property with a computed key
@@ -169,7 +181,7 @@ fn index_term(alloc: Global, object: Term, key: Term) -> Result<Term, AllocError
     ensures { IfOk result (λ t. term_view t ≡ semantics.part (forms.Read references.Index) (semantics.more (term_view object) (semantics.one (term_view key))) semantics.end) }
 {
     let parts = two(alloc, object, key)?;
-    Ok(part(Form::Read(Reference::Index), parts, end(alloc)))
+    part(alloc, Form::Read(Reference::Index), parts, end(alloc))
 }
 
 // a part of an expression or a statement, which gives no name

@@ -36,7 +36,7 @@ pub fn function_term<'a>(
     ensures { IfOk result (λ t. term_view t ≡ semantics.part (forms.Function (own_form node name.now parameters.now (statements_source body.now).names (context_of place.entry))) semantics.end (terms_view later)) }
 {
     let form = own_function(alloc, node, name, parameters, body, place)?;
-    Ok(part(Form::Function(form), end(alloc), later))
+    part(alloc, Form::Function(form), end(alloc), later)
 }
 
 // an arrow whose body declares these names
@@ -51,7 +51,7 @@ pub fn arrow_term<'a>(
     ensures { IfOk result (λ t. term_view t ≡ semantics.part (forms.Function (makers.form_of node (context_of place.entry).source (context_of place.entry).name (parameter_names (parameters_view parameters.now)) names true false)) semantics.end (terms_view later)) }
 {
     let form = arrow_function(alloc, node, parameters, names, place)?;
-    Ok(part(Form::Function(form), end(alloc), later))
+    part(alloc, Form::Function(form), end(alloc), later)
 }
 
 // an arrow with a block as its body
@@ -82,7 +82,7 @@ fn named_term(
     ensures { IfOk result (λ t. term_view t ≡ semantics.part (forms.Function (makers.form_of node source name.now parameters.now (statements_source body.now).names false false)) semantics.end (terms_view later)) }
 {
     let form = named_function(alloc, node, name, parameters, body, source)?;
-    Ok(part(Form::Function(form), end(alloc), later))
+    part(alloc, Form::Function(form), end(alloc), later)
 }
 
 // a body before the functions that it declares
@@ -91,7 +91,7 @@ pub fn body_parts(alloc: Global, statements: Terms, functions: Terms) -> Result<
 {
     with_front(
         alloc,
-        part(Form::Sequence, statements, end(alloc)),
+        part(alloc, Form::Sequence, statements, end(alloc))?,
         functions,
     )
 }
@@ -100,9 +100,9 @@ pub fn body_parts(alloc: Global, statements: Terms, functions: Terms) -> Result<
 fn returned(alloc: Global, node: u32, value: Term) -> Result<Terms, AllocError>
     ensures { IfOk result (λ ts. terms_view ts ≡ semantics.one (semantics.part forms.Sequence (semantics.one (semantics.part (forms.Enter node) semantics.end (semantics.one (semantics.part forms.Return (semantics.one (term_view value)) semantics.end)))) semantics.end)) }
 {
-    let returned = part(Form::Return, one(alloc, value)?, end(alloc));
+    let returned = part(alloc, Form::Return, one(alloc, value)?, end(alloc))?;
     let statement = entered(alloc, node, returned)?;
-    let body = part(Form::Sequence, one(alloc, statement)?, end(alloc));
+    let body = part(alloc, Form::Sequence, one(alloc, statement)?, end(alloc))?;
     one(alloc, body)
 }
 

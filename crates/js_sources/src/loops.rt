@@ -29,7 +29,7 @@ pub fn simple_loop(
     ensures { IfOk result (λ t. term_view t ≡ semantics.part (forms.Enter node) semantics.end (semantics.one (semantics.part (forms.Loop stage None) semantics.end (makers.loop_parts (term_view test) makers.nothing (term_view body))))) }
 {
     let parts = loop_parts(alloc, test, done(Value::Undefined), body)?;
-    entered(alloc, node, loop_term(stage, end(alloc), parts))
+    entered(alloc, node, loop_term(alloc, stage, end(alloc), parts)?)
 }
 
 // a `for` without names
@@ -44,7 +44,7 @@ pub fn for_term(
     ensures { IfOk result (λ t. term_view t ≡ semantics.part (forms.Enter node) semantics.end (semantics.one (semantics.part (forms.Loop stages.First None) (terms_view first) (makers.loop_parts (term_view test) (term_view update) (term_view body))))) }
 {
     let parts = loop_parts(alloc, test, update, body)?;
-    entered(alloc, node, loop_term(Stage::First, first, parts))
+    entered(alloc, node, loop_term(alloc, Stage::First, first, parts)?)
 }
 
 // a `for` with names
@@ -60,7 +60,12 @@ pub fn for_lexical_term(
 {
     let names = declarators_names(alloc, constant, declarators)?;
     let later = with_front(alloc, first, parts)?;
-    Ok(part(Form::EnterFor(node, constant, names), end(alloc), later))
+    part(
+        alloc,
+        Form::EnterFor(node, constant, names),
+        end(alloc),
+        later,
+    )
 }
 
 // a `for .. of`
@@ -76,5 +81,5 @@ pub fn for_of_term(
 {
     let name = declared(name, constant)?;
     let later = two(alloc, list, body)?;
-    Ok(part(Form::EnterForOf(node, name), end(alloc), later))
+    part(alloc, Form::EnterForOf(node, name), end(alloc), later)
 }

@@ -43,7 +43,7 @@ fn object_of(
     ensures { IfOk result (λ t. term_view t ≡ makers.object_term (properties_source properties.now) (parts_view parts)) }
 {
     let members = members_of(alloc, properties)?;
-    Ok(part(Form::Object(members), parts.now, parts.later))
+    part(alloc, Form::Object(members), parts.now, parts.later)
 }
 
 // the parts of the members
@@ -197,6 +197,6 @@ fn computed_method(
     ensures { IfOk result (λ p. parts_view p ≡ record { now = semantics.one (term_view key); later = semantics.more (semantics.part (forms.Method (makers.form_of node source [] parameters.now (statements_source body.now).names false false)) (terms_view parts.now) (terms_view later)) (terms_view parts.later) }) }
 {
     let form = named_function(alloc, node, &[], parameters, body, source)?;
-    let method = part(Form::Method(form), parts.now, later);
+    let method = part(alloc, Form::Method(form), parts.now, later)?;
     after_key(alloc, key, method, parts.later)
 }

@@ -26,5 +26,5 @@ pub fn term_of_script(alloc: Global, script: &Script) -> Result<Term, AllocError
     let statements = statements_terms(alloc, &script.body, place)?;
     let functions = functions_terms(alloc, &script.body, place)?;
     let later = body_parts(alloc, statements, functions)?;
-    Ok(part(Form::Script(script.number, names), end(alloc), later))
+    part(alloc, Form::Script(script.number, names), end(alloc), later)
 }

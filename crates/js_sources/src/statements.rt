@@ -193,11 +193,11 @@ fn statement_term<'a>(alloc: Global, s: &Stmt, place: Place<'a>) -> Result<Term,
             let body = statement_term(alloc, body, inner)?;
             for_of_term(alloc, node.0, *constant, name, list, body)
         }
-        Stmt::Continue { node } => entered(alloc, node.0, leaf(alloc, Form::Continue)),
-        Stmt::Break { node } => entered(alloc, node.0, leaf(alloc, Form::Break)),
+        Stmt::Continue { node } => plain_statement(alloc, node.0, Form::Continue),
+        Stmt::Break { node } => plain_statement(alloc, node.0, Form::Break),
         Stmt::Return { node, value } => {
             let value = optional_terms(alloc, value, within(node.0, place))?;
-            entered(alloc, node.0, part(Form::Return, value, end(alloc)))
+            return_term(alloc, node.0, value)
         }
         Stmt::Throw { node, value } => {
             let value = part_term(alloc, value, within(node.0, place))?;
@@ -234,11 +234,27 @@ fn if_term(
     entered(alloc, node, term)
 }
 
+// a statement without parts
+fn plain_statement(alloc: Global, node: u32, form: Form) -> Result<Term, AllocError>
+    ensures { IfOk result (λ t. term_view t ≡ semantics.part (forms.Enter node) semantics.end (semantics.one (semantics.part form semantics.end semantics.end))) }
+{
+    let term = leaf(alloc, form)?;
+    entered(alloc, node, term)
+}
+
+// a `return`
+fn return_term(alloc: Global, node: u32, value: Terms) -> Result<Term, AllocError>
+    ensures { IfOk result (λ t. term_view t ≡ semantics.part (forms.Enter node) semantics.end (semantics.one (semantics.part forms.Return (terms_view value) semantics.end))) }
+{
+    let returned = part(alloc, Form::Return, value, end(alloc))?;
+    entered(alloc, node, returned)
+}
+
 // a `throw`
 fn throw_term(alloc: Global, node: u32, value: Term) -> Result<Term, AllocError>
     ensures { IfOk result (λ t. term_view t ≡ semantics.part (forms.Enter node) semantics.end (semantics.one (semantics.part (forms.Throw node) (semantics.one (term_view value)) semantics.end))) }
 {
-    let thrown = part(Form::Throw(node), one(alloc, value)?, end(alloc));
+    let thrown = part(alloc, Form::Throw(node), one(alloc, value)?, end(alloc))?;
     entered(alloc, node, thrown)
 }
 
@@ -247,7 +263,7 @@ fn debugger_term(alloc: Global, node: u32) -> Result<Term, AllocError>
     ensures { IfOk result (λ t. term_view t ≡ semantics.part (forms.EnterDebugger node) semantics.end (semantics.one makers.nothing)) }
 {
     let later = one(alloc, done(Value::Undefined))?;
-    Ok(part(Form::EnterDebugger(node), end(alloc), later))
+    part(alloc, Form::EnterDebugger(node), end(alloc), later)
 }
 
 // the second branch of an `if`, where it has one

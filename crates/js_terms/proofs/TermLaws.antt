@@ -1,7 +1,7 @@
 -- What a term of each kind looks like.
 use Rattle.std.proofs.Common.{◌≡◌, List, [], ◌∷◌, ◌++◌, map, refl, sym, ap, ◌∙◌}
 use Rattle.std.proofs.lemmas.List.{map-append}
-use Rattle.std.specs.Global.{Vec}
+use Rattle.std.specs.Global.{Vec, Box}
 use Rattle.js_heap.specs.declared.value.Value.{Value}
 use Rattle.js_semantics.specs.Terms as semantics
 use Rattle.js_semantics.specs.declared.form.Spot.{Spot}
@@ -22,7 +22,7 @@ pub view_standing : (v : Value) (s : Spot) → term_view (Term.Standing v s) ≡
 unfolding term_view terms_view
 view_standing v s = ap term_view (sym (rolls-Standing v s)) ∙ fold-roll-Term semantics.Term semantics.Terms term_layer terms_layer (Term-F.Standing v s)
 
-pub view_part : (f : Form) (now later : Terms) → term_view (views.Part f now later) ≡ semantics.part f (terms_view now) (terms_view later)
+pub view_part : (f : Box Form) (now later : Terms) → term_view (views.Part f now later) ≡ semantics.part f.value (terms_view now) (terms_view later)
 unfolding term_view terms_view
 view_part f now later = ap term_view (sym (rolls-Part f now later)) ∙ fold-roll-Term semantics.Term semantics.Terms term_layer terms_layer (Term-F.Part f now later)
 

@@ -15,7 +15,7 @@ listed (t ∷ ts) = semantics.more t (listed ts)
 abbrev pub term_layer : Term-F semantics.Term semantics.Terms → semantics.Term
 term_layer (Term-F.Done v) = semantics.done v
 term_layer (Term-F.Standing v s) = semantics.standing v s
-term_layer (Term-F.Part f now later) = semantics.part f now later
+term_layer (Term-F.Part f now later) = semantics.part f.value now later
 
 abbrev pub terms_layer : Terms-F semantics.Term semantics.Terms → semantics.Terms
 terms_layer ts = listed ts.items.items

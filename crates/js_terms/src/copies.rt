@@ -3,7 +3,7 @@
 ghost use Rattle.std.specs.Prelude.{◌≡◌, IfOk, map};
 ghost use Rattle.js_terms.specs.Views.{term_view, terms_view};
 
-use crate::term::{Term, Terms, terms_of};
+use crate::term::{Term, Terms, part, terms_of};
 use js_heap::cell::{Binding, Names as ScopeNames};
 use js_semantics::form::{Form, FunctionForm, Member, Members, Reference};
 use js_tree::names::Names;
@@ -163,11 +163,11 @@ pub fn term_copy(alloc: Global, term: &Term) -> Result<Term, AllocError>
     match term {
         Term::Done(value) => Ok(Term::Done(*value)),
         Term::Standing(value, spot) => Ok(Term::Standing(*value, *spot)),
-        Term::Part { form, now, later } => Ok(Term::Part {
-            form: form_copy(alloc, form)?,
-            now: terms_copy(alloc, now)?,
-            later: terms_copy(alloc, later)?,
-        }),
+        Term::Part { form, now, later } => {
+            let now = terms_copy(alloc, now)?;
+            let later = terms_copy(alloc, later)?;
+            part(alloc, form_copy(alloc, form)?, now, later)
+        }
     }
 }
 

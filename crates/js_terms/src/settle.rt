@@ -66,7 +66,7 @@ pub fn at_test(alloc: Global, scope: Option<Addr>, later: Terms) -> Result<Term,
     ensures { IfOk result (λ t. term_view t ≡ semantics.at_test scope (terms_view later)) }
 {
     let test = one(alloc, test_of(alloc, &later)?)?;
-    Ok(part(Form::Loop(Stage::Testing, scope), test, later))
+    part(alloc, Form::Loop(Stage::Testing, scope), test, later)
 }
 
 /// A loop at its update; one that is a value or absent is finished.
@@ -78,7 +78,7 @@ pub fn at_update(alloc: Global, scope: Option<Addr>, later: Terms) -> Result<Ter
         return at_test(alloc, scope, later);
     }
     let update = one(alloc, update)?;
-    Ok(part(Form::Loop(Stage::Updating, scope), update, later))
+    part(alloc, Form::Loop(Stage::Updating, scope), update, later)
 }
 
 /// A loop behind its body; the scope of a `for` with `let` is to be copied first.
@@ -87,7 +87,7 @@ pub fn behind_body(alloc: Global, scope: Option<Addr>, later: Terms) -> Result<T
 {
     match scope {
         None => at_update(alloc, None, later),
-        Some(at) => Ok(part(Form::Loop(Stage::Body, Some(at)), end(alloc), later)),
+        Some(at) => part(alloc, Form::Loop(Stage::Body, Some(at)), end(alloc), later),
     }
 }
 
@@ -100,7 +100,7 @@ pub fn at_body(alloc: Global, scope: Option<Addr>, later: Terms) -> Result<Term,
         return behind_body(alloc, scope, later);
     }
     let body = one(alloc, body)?;
-    Ok(part(Form::Loop(Stage::Body, scope), body, later))
+    part(alloc, Form::Loop(Stage::Body, scope), body, later)
 }
 
 /// A loop behind its initialiser.
@@ -109,7 +109,7 @@ pub fn behind_first(alloc: Global, scope: Option<Addr>, later: Terms) -> Result<
 {
     match scope {
         None => at_test(alloc, None, later),
-        Some(at) => Ok(part(Form::Loop(Stage::First, Some(at)), end(alloc), later)),
+        Some(at) => part(alloc, Form::Loop(Stage::First, Some(at)), end(alloc), later),
     }
 }
 
@@ -123,9 +123,14 @@ pub fn finished(alloc: Global, form: Form, now: Terms, later: Terms) -> Result<T
         )),
         Form::Scoped(_) => Ok(done(last_value(Value::Undefined, &now))),
         Form::Loop(stage, scope) => finished_loop(alloc, stage, scope, now, later),
-        Form::BodyOf(binding, index) => Ok(part(Form::TurnOf(binding, index), end(alloc), later)),
-        Form::Finishing => Ok(part(Form::Ending(None), later, end(alloc))),
-        waiting => Ok(part(waiting, now, later)),
+        Form::BodyOf(binding, index) => part(
+            alloc,
+            Form::TurnOf(binding, index),
+            end(alloc),
+            later,
+        ),
+        Form::Finishing => part(alloc, Form::Ending(None), later, end(alloc)),
+        waiting => part(alloc, waiting, now, later),
     }
 }
 
@@ -144,18 +149,31 @@ fn finished_loop(
         Stage::Doing => at_body(alloc, scope, later),
         Stage::Body => behind_body(alloc, scope, later),
         Stage::Updating => at_test(alloc, scope, later),
-        Stage::Testing => Ok(part(Form::Loop(Stage::Testing, scope), now, later)),
+        Stage::Testing => part(alloc, Form::Loop(Stage::Testing, scope), now, later),
     }
 }
 
-/// A form with its parts after a step in one of them.
+/// A form with its parts, the first of which a step has come to.
 pub fn settled(alloc: Global, form: Form, now: Terms, later: Terms) -> Result<Term, AllocError>
     ensures { IfOk result (λ t. term_view t ≡ semantics.settled form (terms_view now) (terms_view later)) }
 {
+    resettled(alloc, Box::new(alloc, form)?, now, later)
+}
+
+/// A form with its parts after a step in one of them, in the memory that the form has.
+#[tactic(auto, using(crate::proofs::TermLaws::term_laws))]
+pub fn resettled(
+    alloc: Global,
+    form: Box<Form>,
+    now: Terms,
+    later: Terms,
+) -> Result<Term, AllocError>
+    ensures { IfOk result (λ t. term_view t ≡ semantics.settled form.value (terms_view now) (terms_view later)) }
+{
     if all_done(&now) {
-        return finished(alloc, form, now, later);
+        return finished(alloc, Box::into_inner(form), now, later);
     }
-    Ok(part(form, now, later))
+    Ok(Term::Part { form, now, later })
 }
 
 /// A part of a tree as it is where it is about to be reduced.
@@ -164,7 +182,7 @@ pub fn settle(alloc: Global, term: Term) -> Result<Term, AllocError>
     ensures { IfOk result (λ t. term_view t ≡ semantics.settle (term_view term)) }
 {
     match term {
-        Term::Part { form, now, later } => settled(alloc, form, now, later),
+        Term::Part { form, now, later } => resettled(alloc, form, now, later),
         Term::Done(value) => Ok(Term::Done(value)),
         Term::Standing(value, spot) => Ok(Term::Standing(value, spot)),
     }

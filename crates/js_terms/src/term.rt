@@ -20,7 +20,7 @@ pub enum Term {
     Standing(Value, Spot),
     /// A form with the parts that are reduced from left to right and those that are kept for later.
     Part {
-        form: Form,
+        form: Box<Form>,
         now: Terms,
         later: Terms,
     },
@@ -51,17 +51,18 @@ pub fn standing(value: Value, spot: Spot) -> Term
 
 /// A form with its parts.
 #[tactic(auto, using(crate::proofs::TermLaws::term_laws))]
-pub fn part(form: Form, now: Terms, later: Terms) -> Term
-    ensures { term_view result ≡ semantics.part form (terms_view now) (terms_view later) }
+pub fn part(alloc: Global, form: Form, now: Terms, later: Terms) -> Result<Term, AllocError>
+    ensures { IfOk result (λ t. term_view t ≡ semantics.part form (terms_view now) (terms_view later)) }
 {
-    Term::Part { form, now, later }
+    let form = Box::new(alloc, form)?;
+    Ok(Term::Part { form, now, later })
 }
 
 /// A form without parts.
-pub fn leaf(alloc: Global, form: Form) -> Term
-    ensures { term_view result ≡ semantics.part form semantics.end semantics.end }
+pub fn leaf(alloc: Global, form: Form) -> Result<Term, AllocError>
+    ensures { IfOk result (λ t. term_view t ≡ semantics.part form semantics.end semantics.end) }
 {
-    part(form, end(alloc), end(alloc))
+    part(alloc, form, end(alloc), end(alloc))
 }
 
 /// No parts.

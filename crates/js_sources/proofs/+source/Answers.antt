@@ -18,7 +18,7 @@ use Rattle.js_semantics.specs.declared.form.Stage.TheVariants as stages
 use Rattle.js_programs.specs.Sources.{context_of, statement_source, block_source, catch_source, declarators_source, own_form}
 use Rattle.js_programs.proofs.SourceLaws.{function_own, source_this, source_name, source_number, source_string, source_boolean, source_null, source_array, source_object, source_function, source_arrow, source_arrow_block, source_parenthesized, source_member, source_index, source_call, source_postfix, source_prefix, source_unary, source_binary, source_conditional, source_assign, source_comma}
 use Rattle.js_programs.proofs.SourceLaws.{source_block, source_lexical, source_empty, source_expression, source_if, source_do_while, source_while, source_for, source_for_lexical, source_for_of, source_continue, source_break, source_return, source_throw, source_try, source_debugger, source_function_declaration}
-use Rattle.js_sources.proofs.SourceSteps.{functions_step, functions_all, made_term, made_tail, item_term, item_tail, item_functions, functions_tail, functions_of, of_part, of_two, of_three, of_four, part_so, loop_so, try_so, body_so, plain_so}
+use Rattle.js_sources.proofs.SourceSteps.{functions_step, functions_all, made_term, made_tail, item_term, item_tail, item_functions, functions_tail, functions_of, of_part, of_two, of_three, of_four, loop_so, try_so, body_so, plain_so}
 use Rattle.js_sources.proofs.+source.Goals as goal
 
 pub statements::statement_functions-returns-in-Block : goal.statements::statement_functions-returns-in-Block
@@ -106,13 +106,13 @@ pub statements::statement_term-returns-in_ok-body-in-ForOf : goal.statements::st
 statements::statement_term-returns-in_ok-body-in-ForOf t c = item_tail c.args.s.now _ (context_of c.args.place) _ (ap statement_source c.in-ForOf.is ∙ source_for_of c.in-ForOf.node c.in-ForOf.constant c.in-ForOf.name c.in-ForOf.list c.in-ForOf.body) (of_two (λ (l b : semantics.Term). semantics.part (forms.EnterForOf c.in-ForOf.node.0 (declared c.in-ForOf.name c.in-ForOf.constant)) semantics.end (semantics.more l (semantics.one b))) _ _ (c.in_ok-list-in-ForOf.ensures ∙ ap (λ (y : Context). makers.plain (expression_source c.in-ForOf.list) y) c.within-inner-in-ForOf.ensures) _ _ (body_so _ _ c.deref-in-ForOf.ensures _ _ c.within-inner-in-ForOf.ensures _ c.in_ok-body-in-ForOf.ensures) _ c.for_of_term.ensures)
 
 pub statements::statement_term-returns-in-Continue : goal.statements::statement_term-returns-in-Continue
-statements::statement_term-returns-in-Continue t c = item_tail c.args.s.now _ (context_of c.args.place) _ (ap statement_source c.in-Continue.is ∙ source_continue c.in-Continue.node) (of_part (λ (t : semantics.Term). semantics.part (forms.Enter c.in-Continue.node.0) semantics.end (semantics.one (t))) _ _ c.leaf.ensures _ c.entered-in-Continue.ensures)
+statements::statement_term-returns-in-Continue t c = item_tail c.args.s.now _ (context_of c.args.place) _ (ap statement_source c.in-Continue.is ∙ source_continue c.in-Continue.node) c.plain_statement.ensures
 
 pub statements::statement_term-returns-in-Break : goal.statements::statement_term-returns-in-Break
-statements::statement_term-returns-in-Break t c = item_tail c.args.s.now _ (context_of c.args.place) _ (ap statement_source c.in-Break.is ∙ source_break c.in-Break.node) (of_part (λ (t : semantics.Term). semantics.part (forms.Enter c.in-Break.node.0) semantics.end (semantics.one (t))) _ _ c.leaf-in-Break.ensures _ c.entered-in-Break.ensures)
+statements::statement_term-returns-in-Break t c = item_tail c.args.s.now _ (context_of c.args.place) _ (ap statement_source c.in-Break.is ∙ source_break c.in-Break.node) c.plain_statement-in-Break.ensures
 
 pub statements::statement_term-returns-in_ok-value-in-Return : goal.statements::statement_term-returns-in_ok-value-in-Return
-statements::statement_term-returns-in_ok-value-in-Return t c = item_tail c.args.s.now _ (context_of c.args.place) _ (ap statement_source c.in-Return.is ∙ source_return c.in-Return.node c.in-Return.value) (of_part (λ (t : semantics.Term). semantics.part (forms.Enter c.in-Return.node.0) semantics.end (semantics.one (t))) _ _ (c.part.ensures ∙ part_so forms.Return _ _ (c.in_ok-value-in-Return.ensures ∙ ap (λ (y : Context). makers.optional_terms (option_map expression_source c.in-Return.value) y) c.within-in-Return.ensures) _ _ c.end.ensures) _ c.entered-in-Return.ensures)
+statements::statement_term-returns-in_ok-value-in-Return t c = item_tail c.args.s.now _ (context_of c.args.place) _ (ap statement_source c.in-Return.is ∙ source_return c.in-Return.node c.in-Return.value) (of_part (λ (v : semantics.Terms). semantics.part (forms.Enter c.in-Return.node.0) semantics.end (semantics.one (semantics.part forms.Return v semantics.end))) _ _ (c.in_ok-value-in-Return.ensures ∙ ap (λ (y : Context). makers.optional_terms (option_map expression_source c.in-Return.value) y) c.within-in-Return.ensures) _ c.return_term.ensures)
 
 pub statements::statement_term-returns-in_ok-value-in-Throw : goal.statements::statement_term-returns-in_ok-value-in-Throw
 statements::statement_term-returns-in_ok-value-in-Throw t c = item_tail c.args.s.now _ (context_of c.args.place) _ (ap statement_source c.in-Throw.is ∙ source_throw c.in-Throw.node c.in-Throw.value) (of_part (λ (t : semantics.Term). semantics.part (forms.Enter c.in-Throw.node.0) semantics.end (semantics.one (semantics.part (forms.Throw c.in-Throw.node.0) (semantics.one t) semantics.end))) _ _ (c.in_ok-value-in-Throw.ensures ∙ ap (λ (y : Context). makers.plain (expression_source c.in-Throw.value) y) c.within-in-Throw.ensures) _ c.throw_term.ensures)
@@ -130,7 +130,7 @@ pub statements::function_items-returns : goal.statements::function_items-returns
 statements::function_items-returns t c = functions_all c.deref-item-items.result.now c.loop-item.item-index (context_of c.args.place) _ c.loop-item-test.false c.loop-item.invariant ∙ ap (λ xs. (makers.items_of (map statement_source xs)).functions (context_of c.args.place)) c.deref-item-items.ensures.value
 
 pub expressions::expression_term-returns-in-This : goal.expressions::expression_term-returns-in-This
-expressions::expression_term-returns-in-This t c = made_term c.args.e.now _ (context_of c.args.place) _ (ap expression_source c.in-This.is ∙ source_this c.in-This.node) c.leaf.ensures
+expressions::expression_term-returns-in-This t c = made_tail c.args.e.now _ (context_of c.args.place) _ (ap expression_source c.in-This.is ∙ source_this c.in-This.node) c.leaf.ensures
 
 pub expressions::expression_term-returns-in-Name : goal.expressions::expression_term-returns-in-Name
 expressions::expression_term-returns-in-Name t c = made_tail c.args.e.now _ (context_of c.args.place) _ (ap expression_source c.in-Name.is ∙ source_name c.in-Name.node c.in-Name.name) c.name_read.ensures
@@ -148,7 +148,7 @@ pub expressions::expression_term-returns-in-Null : goal.expressions::expression_
 expressions::expression_term-returns-in-Null t c = made_term c.args.e.now _ (context_of c.args.place) _ (ap expression_source c.in-Null.is ∙ source_null c.in-Null.node) c.done-in-Null.ensures
 
 pub expressions::expression_term-returns-in_ok-elements-in-Array : goal.expressions::expression_term-returns-in_ok-elements-in-Array
-expressions::expression_term-returns-in_ok-elements-in-Array t c = made_term c.args.e.now _ (context_of c.args.place) _ (ap expression_source c.in-Array.is ∙ source_array c.in-Array.node c.in-Array.elements) (c.part.ensures ∙ part_so forms.Array _ _ c.in_ok-elements-in-Array.ensures _ _ c.end.ensures)
+expressions::expression_term-returns-in_ok-elements-in-Array t c = made_tail c.args.e.now _ (context_of c.args.place) _ (ap expression_source c.in-Array.is ∙ source_array c.in-Array.node c.in-Array.elements) (of_part (λ (es : semantics.Terms). semantics.part forms.Array es semantics.end) _ _ c.in_ok-elements-in-Array.ensures _ c.array_term.ensures)
 
 pub expressions::expression_term-returns-in-Object : goal.expressions::expression_term-returns-in-Object
 expressions::expression_term-returns-in-Object t c = made_tail c.args.e.now _ (context_of c.args.place) _ (ap expression_source c.in-Object.is ∙ source_object c.in-Object.node c.in-Object.properties) c.object_term.ensures
@@ -175,10 +175,10 @@ pub expressions::expression_term-returns-in_ok-arguments-in-Call : goal.expressi
 expressions::expression_term-returns-in_ok-arguments-in-Call t c = made_tail c.args.e.now _ (context_of c.args.place) _ (ap expression_source c.in-Call.is ∙ source_call c.in-Call.node c.in-Call.callee c.in-Call.parentheses c.in-Call.arguments) (of_three (λ (m : Mark) (f : semantics.Term) (a : semantics.Terms). makers.call_term m (context_of c.args.place).statement f a) _ _ (c.place_or-mark.ensures ∙ ap (λ w. makers.place_or w c.in-Call.parentheses.0) (c.last_word.ensures ∙ ap (λ (a : Expr). (expression_source a).last_word) c.deref-in-Call.ensures)) _ _ (plain_so _ _ c.deref-in-Call-2.ensures (context_of c.args.place) _ c.in_ok-callee-in-Call.ensures) _ _ c.in_ok-arguments-in-Call.ensures _ c.call_term.ensures)
 
 pub expressions::expression_term-returns-in_ok-operand-in-Postfix : goal.expressions::expression_term-returns-in_ok-operand-in-Postfix
-expressions::expression_term-returns-in_ok-operand-in-Postfix t c = made_term c.args.e.now _ (context_of c.args.place) _ (ap expression_source c.in-Postfix.is ∙ source_postfix c.in-Postfix.node c.in-Postfix.operator c.in-Postfix.operand) (c.updated.ensures ∙ ap (λ (t : semantics.Term). makers.updated c.in-Postfix.operator false t) (plain_so _ _ c.deref-in-Postfix.ensures (context_of c.args.place) _ c.in_ok-operand-in-Postfix.ensures))
+expressions::expression_term-returns-in_ok-operand-in-Postfix t c = made_tail c.args.e.now _ (context_of c.args.place) _ (ap expression_source c.in-Postfix.is ∙ source_postfix c.in-Postfix.node c.in-Postfix.operator c.in-Postfix.operand) (of_part (λ (t : semantics.Term). makers.updated c.in-Postfix.operator false t) _ _ (plain_so _ _ c.deref-in-Postfix.ensures (context_of c.args.place) _ c.in_ok-operand-in-Postfix.ensures) _ c.updated.ensures)
 
 pub expressions::expression_term-returns-in_ok-operand-in-Prefix : goal.expressions::expression_term-returns-in_ok-operand-in-Prefix
-expressions::expression_term-returns-in_ok-operand-in-Prefix t c = made_term c.args.e.now _ (context_of c.args.place) _ (ap expression_source c.in-Prefix.is ∙ source_prefix c.in-Prefix.node c.in-Prefix.operator c.in-Prefix.operand) (c.updated-in-Prefix.ensures ∙ ap (λ (t : semantics.Term). makers.updated c.in-Prefix.operator true t) (plain_so _ _ c.deref-in-Prefix.ensures (context_of c.args.place) _ c.in_ok-operand-in-Prefix.ensures))
+expressions::expression_term-returns-in_ok-operand-in-Prefix t c = made_tail c.args.e.now _ (context_of c.args.place) _ (ap expression_source c.in-Prefix.is ∙ source_prefix c.in-Prefix.node c.in-Prefix.operator c.in-Prefix.operand) (of_part (λ (t : semantics.Term). makers.updated c.in-Prefix.operator true t) _ _ (plain_so _ _ c.deref-in-Prefix.ensures (context_of c.args.place) _ c.in_ok-operand-in-Prefix.ensures) _ c.updated-in-Prefix.ensures)
 
 pub expressions::expression_term-returns-in_ok-operand-in-Unary : goal.expressions::expression_term-returns-in_ok-operand-in-Unary
 expressions::expression_term-returns-in_ok-operand-in-Unary t c = made_tail c.args.e.now _ (context_of c.args.place) _ (ap expression_source c.in-Unary.is ∙ source_unary c.in-Unary.node c.in-Unary.operator c.in-Unary.operand) (of_part (λ (t : semantics.Term). makers.unary_term c.in-Unary.operator t) _ _ (plain_so _ _ c.deref-in-Unary.ensures (context_of c.args.place) _ c.in_ok-operand-in-Unary.ensures) _ c.unary_term.ensures)

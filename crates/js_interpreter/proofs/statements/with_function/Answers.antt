@@ -4,4 +4,4 @@ use Rattle.js_interpreter.proofs.statements.with_function.Goals as goal
 
 pub returns-in-Part : goal.returns-in-Part
 returns-in-Part c =
-    rw (c.in-Part.is, view_part c.in-Part.form c.in-Part.now c.in-Part.later) (c.with_form.ensures (terms_view c.in-Part.now) (terms_view c.in-Part.later))
+    rw (c.in-Part.is, view_part c.in-Part.form c.in-Part.now c.in-Part.later) (rw c.deref.ensures at (c.with_form.ensures (terms_view c.in-Part.now) (terms_view c.in-Part.later)))

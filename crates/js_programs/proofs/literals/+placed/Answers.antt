@@ -2,6 +2,7 @@ use Rattle.std.proofs.Common.{ap, sym, ◌∙◌}
 use Rattle.js_heap.specs.declared.value.Addr.TheVariants.{Base}
 use Rattle.js_semantics.specs.Run as run
 use Rattle.js_terms.specs.Views.{listed_view}
+use Rattle.js_programs.specs.Literals.{literal_in}
 use Rattle.js_programs.proofs.LiteralLaws.{always_ok, counted_literal, counted_parts, placed_step, counted_step, placed_all}
 use Rattle.js_programs.proofs.literals.+placed.Goals as goal
 use Rattle.js_programs.proofs.literals.+placed.Goals.{term_placed-in-Some+in_ok-literal_placed-in-Some, term_placed-in-None+in_ok-form-in-None+in_ok-now-in-None+in_ok-later-in-None}
@@ -22,6 +23,6 @@ items_placed-returns-clause-term t c =
 
 pub term_placed-returns-after-branch-2-clause-next : goal.term_placed-returns-after-branch-2-clause-next
 term_placed-returns-after-branch-2-clause-next t c = always_ok c.match-branch-2.result (elim c.match-branch-2.branch [
-  | term_placed-in-Some+in_ok-literal_placed-in-Some w ↦ w.next-is ∙ counted_literal c.args.next.now w.literal_placed.new.next c.args.term.now c.in-Part.form c.in-Part.now c.in-Part.later _ c.in-Part.is (sym w.in-Some.is ∙ c.in_ok-literal_in-in-Part.ensures) w.in_ok-literal_placed-in-Some.ensures.next
-  | term_placed-in-None+in_ok-form-in-None+in_ok-now-in-None+in_ok-later-in-None w ↦ w.next-is ∙ counted_parts c.args.next.now w.terms_placed.new.next w.terms_placed-in-None.new.next c.args.term.now c.in-Part.form c.in-Part.now c.in-Part.later c.in-Part.is (sym w.in-None.is ∙ c.in_ok-literal_in-in-Part.ensures) w.in_ok-now-in-None.ensures.next w.in_ok-later-in-None.ensures.next
+  | term_placed-in-Some+in_ok-literal_placed-in-Some w ↦ w.next-is ∙ counted_literal c.args.next.now w.literal_placed.new.next c.args.term.now c.in-Part.form c.in-Part.now c.in-Part.later _ c.in-Part.is (sym w.in-Some.is ∙ c.in_ok-literal_in-in-Part.ensures ∙ ap literal_in c.deref.ensures) w.in_ok-literal_placed-in-Some.ensures.next
+  | term_placed-in-None+in_ok-form-in-None+in_ok-now-in-None+in_ok-later-in-None w ↦ w.next-is ∙ counted_parts c.args.next.now w.terms_placed.new.next w.terms_placed-in-None.new.next c.args.term.now c.in-Part.form c.in-Part.now c.in-Part.later c.in-Part.is (sym w.in-None.is ∙ c.in_ok-literal_in-in-Part.ensures ∙ ap literal_in c.deref.ensures) w.in_ok-now-in-None.ensures.next w.in_ok-later-in-None.ensures.next
 ])
