@@ -3,5 +3,3 @@
 
 pub mod run;
 pub mod scripts;
-#[cfg(test)]
-mod tests;

@@ -1,0 +1,77 @@
+//! That texts are answered as the rows of a table have it.
+
+use crate::{heap, lexer, parser, runs};
+use cdp_text::units::units_of;
+use std::alloc::{AllocError, Global};
+use std::process::Abort;
+use std::test::Fail;
+
+/// What a text is given to.
+#[derive(Clone, Copy)]
+pub(crate) enum Question {
+    /// Keys, and an object's order of them.
+    Keys,
+    /// A source, and its tokens.
+    Tokens,
+    /// A number or a string, and its value.
+    Value,
+    /// A script, and what it is parsed as.
+    Script,
+    /// The same behind scripts that declare `a` and `c`.
+    Later,
+    /// The same of a text that stands many times.
+    Repeated,
+    /// An expression, and what it is parsed as.
+    Expression,
+    /// A function, and what it is parsed as.
+    Function,
+    /// A script, and what its run comes to.
+    Run,
+    /// The same within so many steps.
+    RunWithin,
+    /// The same with lines of input.
+    RunWithInput,
+    /// The same of two scripts.
+    RunInOrder,
+}
+
+/// What a source is answered.
+fn of_source(alloc: Global, question: Question, text: &str) -> Result<String, AllocError> {
+    let units = units_of(alloc, text)?;
+    let source = units.as_slice();
+    match question {
+        Question::Tokens => lexer::tokens_of(alloc, source),
+        Question::Value => lexer::value_of(alloc, source),
+        Question::Later => parser::later_of(alloc, source),
+        Question::Expression => parser::expression_of(alloc, source),
+        Question::Function => parser::function_of(alloc, source),
+        _ => parser::script_of(alloc, source),
+    }
+}
+
+/// What a text is answered.
+fn answer(alloc: Global, question: Question, text: &str) -> Result<String, Fail> {
+    match question {
+        Question::Keys => Ok(heap::keys_of(alloc, text)?),
+        Question::Repeated => Ok(parser::repeated_of(alloc, text)?),
+        Question::Run => runs::run_of(alloc, text),
+        Question::RunWithin => runs::run_within(alloc, text),
+        Question::RunWithInput => runs::run_with_input(alloc, text),
+        Question::RunInOrder => runs::run_in_order(alloc, text),
+        _ => Ok(of_source(alloc, question, text)?),
+    }
+}
+
+/// That the rows' first texts are answered as their second ones have it.
+pub(crate) fn answers(
+    rt: &impl Abort,
+    alloc: Global,
+    question: Question,
+    rows: &[(&str, &str)],
+) -> Result<(), Fail> {
+    for (text, want) in rows {
+        let found = answer(alloc, question, text)?;
+        assert_eq!(rt; found.as_str(), *want, "at {text:?}");
+    }
+    Ok(())
+}

@@ -1,0 +1,130 @@
+//! Runs of scripts as they are written, against ECMA-262 and this project's own rules: the steps that they take, how
+//! they end, and what they print.
+
+mod arithmetic;
+mod bounds;
+mod built_ins;
+mod errors;
+mod finally;
+mod functions;
+mod input;
+mod limits;
+mod loops;
+mod order;
+mod steps;
+mod throws;
+mod whole_scripts;
+
+use cdp_text::decimal::read_decimal;
+use cdp_text::units::{Units, text_of, units_of};
+use js_interpreter::run::{Finish, Progress};
+use js_parser::parse::parse_script;
+use js_run::run::Outcome;
+use js_run::scripts::run_scripts;
+use js_state::shown::shown;
+use js_state::state::State;
+use js_tree::script::Script;
+use std::alloc::{AllocError, Global};
+use std::collections::VecDeque;
+use std::test::Fail;
+
+// ---- what a run came to
+
+/// How a run ended, as a program tells it.
+fn end_of(alloc: Global, outcome: &Outcome) -> Result<String, AllocError> {
+    let value = match outcome.progress {
+        Progress::Running(_) => return String::from_str(alloc, "running"),
+        Progress::Over(Finish::Ended(_)) => return String::from_str(alloc, "ended"),
+        Progress::Over(Finish::Threw(value, _)) => value,
+    };
+    let units = shown(alloc, outcome.state.world(), value)?;
+    format!(in alloc; "Uncaught {}", text_of(alloc, units.as_slice())?)
+}
+
+/// The lines that a run printed.
+pub(crate) fn printed_by(alloc: Global, state: &State) -> Result<String, AllocError> {
+    let mut lines = String::new(alloc);
+    for units in state.printed() {
+        lines.push_str(&text_of(alloc, units.as_slice())?)?;
+        lines.push('\n')?;
+    }
+    Ok(lines)
+}
+
+/// How many steps a run took and how it ended, and in further lines what it printed.
+fn told(alloc: Global, outcome: &Outcome) -> Result<String, AllocError> {
+    let end = end_of(alloc, outcome)?;
+    let printed = printed_by(alloc, &outcome.state)?;
+    format!(in alloc; "{} {end}\n{printed}", outcome.steps)
+}
+
+// ---- runs
+
+/// A script of this number, behind others that declare these names.
+fn parsed(alloc: Global, source: &str, number: u32, declared: &[Units]) -> Result<Script, Fail> {
+    let units = units_of(alloc, source)?;
+    match parse_script(alloc, units.as_slice(), "", number, declared) {
+        Ok(script) => Ok(script),
+        Err(_) => Err("no script".into()),
+    }
+}
+
+/// The texts between separators.
+fn texts(alloc: Global, text: &str, separator: char) -> Result<Vec<Units>, AllocError> {
+    let mut all = Vec::new(alloc);
+    for part in text.split(separator) {
+        all.push(units_of(alloc, part)?)?;
+    }
+    Ok(all)
+}
+
+/// More steps than any script here takes that ends.
+const MOST: u64 = 10_000;
+
+/// A run of scripts.
+fn run_all(
+    alloc: Global,
+    scripts: &[Script],
+    input: Vec<Units>,
+    most: u64,
+) -> Result<String, Fail> {
+    let outcome = run_scripts(alloc, scripts, VecDeque::from(input), most)?;
+    Ok(told(alloc, &outcome)?)
+}
+
+/// A run of one script.
+fn run_one(alloc: Global, source: &str, input: Vec<Units>, most: u64) -> Result<String, Fail> {
+    let script = parsed(alloc, source, 1, &[])?;
+    run_all(alloc, &[script], input, most)
+}
+
+pub(crate) fn run_of(alloc: Global, source: &str) -> Result<String, Fail> {
+    run_one(alloc, source, Vec::new(alloc), MOST)
+}
+
+/// A run of a script behind the most steps that it may take.
+pub(crate) fn run_within(alloc: Global, text: &str) -> Result<String, Fail> {
+    let (most, source) = text.split_once('#').unwrap_or((text, ""));
+    run_one(
+        alloc,
+        source,
+        Vec::new(alloc),
+        read_decimal(most).unwrap_or(0),
+    )
+}
+
+/// A run of a script behind its lines of input.
+pub(crate) fn run_with_input(alloc: Global, text: &str) -> Result<String, Fail> {
+    let (input, source) = text.split_once('#').unwrap_or((text, ""));
+    run_one(alloc, source, texts(alloc, input, '\n')?, MOST)
+}
+
+/// A run of two scripts behind the names that the first of them declares.
+pub(crate) fn run_in_order(alloc: Global, text: &str) -> Result<String, Fail> {
+    let (names, sources) = text.split_once('#').unwrap_or((text, ""));
+    let (first, second) = sources.split_once('#').unwrap_or((sources, ""));
+    let declared = texts(alloc, names, ' ')?;
+    let first = parsed(alloc, first, 1, &[])?;
+    let second = parsed(alloc, second, 2, declared.as_slice())?;
+    run_all(alloc, &[first, second], Vec::new(alloc), MOST)
+}
