@@ -40,24 +40,6 @@ pub GainsPrefix-behind : (old now new : Option (List ℕ)) (done bytes more all 
 GainsPrefix-behind old now new done bytes more all is parts (part, rest, e, g) =
     (done ++ part, rest ++ more, parts ∙ grind (arith, common_steps, e), g ∙ ap (λ o. gains o part) is ∙ gains-append old done part)
 
--- the same where a call answered a fault
-pub OnErr-GainsPrefix-behind : {T E : Type 0} (r : Result T E) (old now new : Option (List ℕ)) (done bytes more all : List ℕ)
-    → now ≡ gains old done → all ≡ done ++ bytes ++ more → GainsPrefix now new bytes → OnErr r (GainsPrefix old new all)
-OnErr-GainsPrefix-behind (Ok value) old now new done bytes more all is parts part = tt
-OnErr-GainsPrefix-behind (Err fault) old now new done bytes more all is parts part =
-    GainsPrefix-behind old now new done bytes more all is parts part
-
--- a first part is one of anything longer
-pub GainsPrefix-append : (old new : Option (List ℕ)) (bytes more : List ℕ) → GainsPrefix old new bytes → GainsPrefix old new (bytes ++ more)
-GainsPrefix-append old new bytes more =
-    GainsPrefix-behind old old new [] bytes more (bytes ++ more) (sym (gains-nil old)) (grind (arith, common_steps))
-
--- the same where the first of several calls answered a fault
-pub OnErr-GainsPrefix-append : {T E : Type 0} (r : Result T E) (old new : Option (List ℕ)) (bytes more : List ℕ)
-    → GainsPrefix old new bytes → OnErr r (GainsPrefix old new (bytes ++ more))
-OnErr-GainsPrefix-append (Ok value) old new bytes more part = tt
-OnErr-GainsPrefix-append (Err fault) old new bytes more part = GainsPrefix-append old new bytes more part
-
 -- the first i and then n of what is behind them
 take-plus : (xs : List ℕ) (i n : ℕ) → take (i + n) xs ≡ take i xs ++ take n (drop i xs)
 take-plus xs zero n = grind (arith, common_steps)
@@ -85,10 +67,6 @@ some-append : (xs ys : List ℕ) → xs ≢ [] → xs ++ ys ≢ []
 some-append [] ys some = λ none. some refl
 some-append (x ∷ xs) ys some = λ none. cc
 
--- what lacks some bytes is a first part
-pub GainsLess-part : (old new : Option (List ℕ)) (bytes : List ℕ) → GainsLess old new bytes → GainsPrefix old new bytes
-GainsLess-part old new bytes less = (less.0, less.1, less.3, less.4)
-
 -- not all of what comes next is not all of it and more
 pub GainsLess-behind : (old now new : Option (List ℕ)) (done bytes more all : List ℕ)
     → now ≡ gains old done → all ≡ done ++ bytes ++ more → GainsLess now new bytes → GainsLess old new all
@@ -104,6 +82,3 @@ OnErr-GainsLess-behind (Err fault) old now new done bytes more all is parts less
 
 -- for a loop that offers a slice from a place on
 pub ruleset slices = (gains-append, gains-nil, gains-step, OnErr-GainsLess-take)
-
--- for calls in turn, each of which offers a part
-pub ruleset parts = (gains-append, gains-nil, OnErr-GainsPrefix-append)

@@ -17,14 +17,10 @@ use Rattle.command_line.specs.Journal.{entry_at, entry_of, entries, refused}
 use Rattle.command_line.specs.Lines.{Line, Attach, Tell, Take, Run, line_of}
 use Rattle.command_line.specs.Status.{Given, end_for, end_over, verdict}
 use Rattle.command_line.specs.Words.{Request}
-use Rattle.command_line.proofs.LineLemmas.{line-read, line-some}
+use Rattle.command_line.proofs.LineLemmas.{choice-some, line-read, line-some}
 use Rattle.command_line.proofs.ProgramLemmas.{integers_of, given-all}
 
 -- ---- one line
-
-chosen : (b : Bool) (entry other : Entry) → (if b then Some entry else None) ≡ Some other → (b ≡ true) × (other ≡ entry)
-chosen true entry other is = (refl, sym (same_Some entry other is))
-chosen false entry other is = absurd (none-some other is)
 
 unchosen : (b : Bool) (entry : Entry) → (if b then Some entry else None) ≡ None → b ≡ false
 unchosen true entry is = absurd (none-some entry (sym is))
@@ -32,9 +28,9 @@ unchosen false entry is = refl
 
 -- the entry of a line is one with which it may stand there
 may-stand : (m : Meaning) (line : Line) (entry : Entry) → entry_at m line ≡ Some entry → MayStand m line entry
-may-stand m Attach entry is = let choice = chosen (m.attached == 0) Attached entry is in (eqb-true m.attached 0 choice.0, choice.1)
-may-stand m (Tell s text) entry is = chosen (is_attached m s) (Told s text) entry is
-may-stand m (Take s) entry is = chosen (is_attached m s) (Taken s) entry is
+may-stand m Attach entry is = let choice = choice-some (m.attached == 0) Attached entry is in (eqb-true m.attached 0 choice.0, sym choice.1)
+may-stand m (Tell s text) entry is = let choice = choice-some (is_attached m s) (Told s text) entry is in (choice.0, sym choice.1)
+may-stand m (Take s) entry is = let choice = choice-some (is_attached m s) (Taken s) entry is in (choice.0, sym choice.1)
 may-stand m (Run most moment) entry is = (longest most m, longest-is most m, sym (same_Some (Ran (longest most m)) entry is))
 
 -- and where it has none, it may stand with none

@@ -3,7 +3,7 @@ use Rattle.std.proofs.Common.{◌≡◌, ℕ, zero, suc, ◌+◌, ◌-◌, ◌/�
 use Rattle.std.specs.List.{fold}
 use Rattle.std.specs.Option.{option_map, option_map_or, option_and_then}
 use Rattle.std.proofs.lemmas.Bool.{and_parts, eqb-true}
-use Rattle.std.proofs.lemmas.Option.{none-some, same_Some}
+use Rattle.std.proofs.lemmas.Option.{same_Some}
 use Rattle.std.proofs.Math.Seq.{drop-append_seam}
 use Rattle.js_machine.specs.Plain.{plain, prints, next, is_finished}
 use Rattle.js_machine.proofs.PlainRun.{plain-prefix, plain-ended, plain-all}
@@ -23,6 +23,7 @@ use Rattle.command_line.specs.Lines.{line_of}
 use Rattle.command_line.specs.Journal.{entry_at, entry_of, entries}
 use Rattle.command_line.specs.Output.{Output, Attached, To, Out, RanTo, state_name, printed_in, output_at, output_of, output_bytes}
 use Rattle.command_line.specs.Headline.{behind_each, to_front, is_stopped, ran_state, ran_at, ran_texts, waiting, texts_to, lines_in, Headline}
+use Rattle.command_line.proofs.LineLemmas.{choice-some}
 use Rattle.command_line.proofs.ShownLemmas.{out_integers, to_texts, to_of, ran_of, shown, lines-one, out-each, ran-each, to-each, to-own, to-others, to_of-append, to-integers_of, ran-append, ran-integers, ran-sent}
 
 -- ---- what was printed
@@ -162,20 +163,16 @@ take-fits : (m : Meaning) (s : ℕ) → IsBefore m → IsBefore (apply m (Take s
 take-fits m s before =
     before-next m (apply m (Take s)) before (choice-attached (is_attached m s) (record m { session = option_map emptied m.session }) m refl) (λ none. rw none refl)
 
-chosen-fits : (b : Bool) (m : Meaning) (entry other : Entry) → (if b then Some entry else None) ≡ Some other → (b ≡ true) × (entry ≡ other)
-chosen-fits true m entry other is = (refl, same_Some entry other is)
-chosen-fits false m entry other is = absurd (none-some other is)
-
 entry-fits : (m : Meaning) (line : lines.Line) (entry : Entry) → IsBefore m → entry_at m line ≡ Some entry → FitsEntry m entry × IsBefore (apply m entry)
 entry-fits m lines.Attach entry before is =
-    let chosen = chosen-fits (m.attached == 0) m Attach entry is in
+    let chosen = choice-some (m.attached == 0) Attach entry is in
     let first = eqb-true m.attached 0 chosen.0 in
     rw (sym chosen.1) ((first, before.none first), record { none = λ zero. absurd (omega (arith, zero)) })
 entry-fits m (lines.Tell s text) entry before is =
-    let chosen = chosen-fits (is_attached m s) m (Tell s text) entry is in
+    let chosen = choice-some (is_attached m s) (Tell s text) entry is in
     rw (sym chosen.1) (tt, tell-fits m s text before)
 entry-fits m (lines.Take s) entry before is =
-    let chosen = chosen-fits (is_attached m s) m (Take s) entry is in
+    let chosen = choice-some (is_attached m s) (Take s) entry is in
     rw (sym chosen.1) (tt, take-fits m s before)
 entry-fits m (lines.Run most moment) entry before is =
     rw (sym (same_Some (Ran (longest most m)) entry is))
@@ -289,9 +286,9 @@ emptied-some : (o : Option Session) → is_some (option_map emptied o) ≡ is_so
 emptied-some None = refl
 emptied-some (Some x) = refl
 
-choice-some : (b : Bool) (k m : Meaning) → is_some k.session ≡ is_some m.session → is_some (if b then k else m).session ≡ is_some m.session
-choice-some true k m is = is
-choice-some false k m is = refl
+choice-is_some : (b : Bool) (k m : Meaning) → is_some k.session ≡ is_some m.session → is_some (if b then k else m).session ≡ is_some m.session
+choice-is_some true k m is = is
+choice-is_some false k m is = refl
 
 same-attached : (m k : Meaning) (s : ℕ) → is_some k.session ≡ is_some m.session → k.attached ≡ m.attached → is_attached k s ≡ is_attached m s
 same-attached m k s some same = rw (some, same) refl
@@ -310,12 +307,12 @@ goes script made m entry s is fits same =
 
 tell-same : (m : Meaning) (n s : ℕ) (text : List ℕ) → is_attached (apply m (Tell n text)) s ≡ is_attached m s
 tell-same m n s text =
-    same-attached m (apply m (Tell n text)) s (choice-some (is_attached m n) _ m (tell-some m (command_of text)))
+    same-attached m (apply m (Tell n text)) s (choice-is_some (is_attached m n) _ m (tell-some m (command_of text)))
     (choice-attached (is_attached m n) _ m (tell-attached m (command_of text)))
 
 take-same : (m : Meaning) (n s : ℕ) → is_attached (apply m (Take n)) s ≡ is_attached m s
 take-same m n s =
-    same-attached m (apply m (Take n)) s (choice-some (is_attached m n) (record m { session = option_map emptied m.session }) m (emptied-some m.session))
+    same-attached m (apply m (Take n)) s (choice-is_some (is_attached m n) (record m { session = option_map emptied m.session }) m (emptied-some m.session))
     (choice-attached (is_attached m n) (record m { session = option_map emptied m.session }) m refl)
 
 ran-same : (m : Meaning) (n s : ℕ) → is_attached (apply m (Ran n)) s ≡ is_attached m s

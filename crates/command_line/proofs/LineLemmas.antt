@@ -1,5 +1,5 @@
 -- A journal's line is read as what it asks for, and no other text is.
-use Rattle.std.proofs.Common.{◌≡◌, ◌⊎◌, ◌<◌, ◌^◌, ℕ, List, ◌∷◌, ◌++◌, Bool, true, false, ◌&&◌, nat_lt, is_some, Option, Some, None, IfSome, IfNone, refl, ap, sym, ◌∙◌, inl, inr, arith, codes, decimal, bytes_eq, if◌then◌else◌}
+use Rattle.std.proofs.Common.{◌≡◌, ◌⊎◌, ◌<◌, ◌^◌, ℕ, List, ◌∷◌, ◌++◌, Bool, true, false, ◌&&◌, nat_lt, is_some, Option, Some, None, IfSome, refl, ap, sym, ◌∙◌, inl, inr, arith, codes, decimal, bytes_eq, if◌then◌else◌}
 use Rattle.std.specs.Option.{option_map, option_and_then}
 use Rattle.std.specs.Str.{IsUtf8, is_utf8}
 use Rattle.std.proofs.lemmas.Str.{is_utf8-from_IsUtf8, IsUtf8-from_is_utf8}
@@ -50,7 +50,7 @@ line-read bytes line is =
 
 -- ---- and no other text is
 
-choice-some : {A : Type 0} → (b : Bool) (x y : A) → (if b then Some x else None) ≡ Some y → (b ≡ true) × (x ≡ y)
+pub choice-some : {A : Type 0} → (b : Bool) (x y : A) → (if b then Some x else None) ≡ Some y → (b ≡ true) × (x ≡ y)
 choice-some true x y is = (refl, same_Some x y is)
 choice-some false x y is = absurd (none-some y is)
 

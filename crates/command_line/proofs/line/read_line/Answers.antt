@@ -1,5 +1,4 @@
 use Rattle.std.proofs.Common.{ap, sym, ◌∙◌}
-use Rattle.std.proofs.lemmas.Option.{none-some}
 use Rattle.command_line.specs.Lines.{line_of_text}
 use Rattle.command_line.proofs.LineLemmas.{held-is, held-one, line-read, line_of-utf8, line_of-other}
 use Rattle.command_line.proofs.line.read_line.Goals as goal
