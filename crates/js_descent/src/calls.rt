@@ -173,8 +173,8 @@ fn called_at<'t, 's>(
         TokenKind::RightParenthesis,
         rest,
     )?;
-    let node = nodes.add(start, rest)?;
     let parentheses = nodes.add(tokens, rest)?;
+    let node = nodes.add(start, rest)?;
     let tree = call(nodes.alloc(), node, object, parentheses, arguments)?;
     Ok((tree, deeper(object_height, height) + 1, rest))
 }
