@@ -22,15 +22,15 @@ use crate::blocks::braces_at;
 use crate::expressions::assignment_below;
 use crate::parsed::Parsed;
 use cdp_text::units::Units;
+use js_language::expressions::{arrow, arrow_block};
 use js_lexer::token::{Token, TokenKind};
-use js_syntax::context::Context;
-use js_syntax::words::{expect_near, name_at, names_before, names_of};
 use js_syntax::classes::arrows::take_fresh;
+use js_syntax::context::Context;
 use js_syntax::fault::ParseError;
 use js_syntax::name_set::NameSet;
 use js_syntax::nodes::Nodes;
 use js_syntax::token::{expect, is_next};
-use js_language::expressions::{arrow, arrow_block};
+use js_syntax::words::{expect_near, name_at, names_before, names_of};
 use js_tree::tree::ArrowParameters;
 
 // An arrow function of one name without parentheses.
@@ -38,9 +38,9 @@ use js_tree::tree::ArrowParameters;
 #[tactic(auto, unfolding(js_syntax::specs::Parsing::arrow_of_one))]
 pub fn arrow_of_one<'t, 's>(nodes: &mut Nodes, room: u32, tokens: &'t [Token<'s>]) -> Parsed<'t, 's>
     requires { room < 203 }
-    ensures gives { Gives (λ x. (expression_view x.0, tokens_view x.2.now)) result (reading.arrow_of_one (below room) (tokens_view tokens.now)) }
-    ensures deep { IfOk result (λ x. (x.1 ≡ height (expression_view x.0)) × (x.1 ≤ room + 1)) }
-    ensures placed { IfOk result (λ x. Placed true nodes.old nodes.new (expression_places x.0) (tokens_view tokens.now) (tokens_view x.2.now)) }
+    ensures gives { Gives (λ x. (expression_view x.0.value, tokens_view x.2.now)) result (reading.arrow_of_one (below room) (tokens_view tokens.now)) }
+    ensures deep { IfOk result (λ x. (x.1 ≡ height (expression_view x.0.value)) × (x.1 ≤ room + 1)) }
+    ensures placed { IfOk result (λ x. Placed true nodes.old nodes.new (expression_places x.0.value) (tokens_view tokens.now) (tokens_view x.2.now)) }
 {
     let (text, rest) = name_at(tokens)?;
     let mut taken = NameSet::new(nodes.alloc());
@@ -59,9 +59,9 @@ pub fn arrow_of_list<'t, 's>(
     tokens: &'t [Token<'s>],
 ) -> Parsed<'t, 's>
     requires { room < 203 }
-    ensures gives { Gives (λ x. (expression_view x.0, tokens_view x.2.now)) result (reading.arrow_of_list (below room) only (tokens_view tokens.now)) }
-    ensures deep { IfOk result (λ x. (x.1 ≡ height (expression_view x.0)) × (x.1 ≤ room + 1)) }
-    ensures placed { IfOk result (λ x. Placed true nodes.old nodes.new (expression_places x.0) (tokens_view tokens.now) (tokens_view x.2.now)) }
+    ensures gives { Gives (λ x. (expression_view x.0.value, tokens_view x.2.now)) result (reading.arrow_of_list (below room) only (tokens_view tokens.now)) }
+    ensures deep { IfOk result (λ x. (x.1 ≡ height (expression_view x.0.value)) × (x.1 ≤ room + 1)) }
+    ensures placed { IfOk result (λ x. Placed true nodes.old nodes.new (expression_places x.0.value) (tokens_view tokens.now) (tokens_view x.2.now)) }
 {
     let rest = expect(TokenKind::LeftParenthesis, tokens)?;
     let (names, rest) = names_before(nodes.alloc(), rest)?;
@@ -87,9 +87,9 @@ fn arrow_of_names<'t, 's>(
     tokens: &'t [Token<'s>],
 ) -> Parsed<'t, 's>
     requires { room < 203 }
-    ensures gives { Gives (λ x. (expression_view x.0, tokens_view x.2.now)) result (reading.arrow_of_names (below room) only (texts names.now) (tokens_view tokens.now)) }
-    ensures deep { IfOk result (λ x. (x.1 ≡ height (expression_view x.0)) × (x.1 ≤ room + 1)) }
-    ensures placed { (old : List Span) → Placed true old nodes.old (plain (flat_parameters (texts names.now))) (tokens_view start.now) (tokens_view tokens.now) → IfOk result (λ x. Placed true old nodes.new (expression_places x.0) (tokens_view start.now) (tokens_view x.2.now)) }
+    ensures gives { Gives (λ x. (expression_view x.0.value, tokens_view x.2.now)) result (reading.arrow_of_names (below room) only (texts names.now) (tokens_view tokens.now)) }
+    ensures deep { IfOk result (λ x. (x.1 ≡ height (expression_view x.0.value)) × (x.1 ≤ room + 1)) }
+    ensures placed { (old : List Span) → Placed true old nodes.old (plain (flat_parameters (texts names.now))) (tokens_view start.now) (tokens_view tokens.now) → IfOk result (λ x. Placed true old nodes.new (expression_places x.0.value) (tokens_view start.now) (tokens_view x.2.now)) }
 {
     let mut taken = NameSet::new(nodes.alloc());
     if !take_fresh(&mut taken, names)? {
@@ -113,9 +113,9 @@ pub fn arrow_rest<'t, 's>(
 ) -> Parsed<'t, 's>
     requires room { room < 203 }
     requires taken { taken ≡ with_names [] (names_of_parameters (parameters_view parameters)) }
-    ensures gives { Gives (λ x. (expression_view x.0, tokens_view x.2.now)) result (reading.arrow_rest (below room) (parameters_view parameters) (names_of_parameters (parameters_view parameters)) (tokens_view tokens.now)) }
-    ensures deep { IfOk result (λ x. (x.1 ≡ height (expression_view x.0)) × (x.1 ≤ room + 1)) }
-    ensures placed { (old : List Span) → Placed true old nodes.old (plain (flat_arrow_parameters (parameters_view parameters))) (tokens_view start.now) (tokens_view tokens.now) → IfOk result (λ x. Placed true old nodes.new (expression_places x.0) (tokens_view start.now) (tokens_view x.2.now)) }
+    ensures gives { Gives (λ x. (expression_view x.0.value, tokens_view x.2.now)) result (reading.arrow_rest (below room) (parameters_view parameters) (names_of_parameters (parameters_view parameters)) (tokens_view tokens.now)) }
+    ensures deep { IfOk result (λ x. (x.1 ≡ height (expression_view x.0.value)) × (x.1 ≤ room + 1)) }
+    ensures placed { (old : List Span) → Placed true old nodes.old (plain (flat_arrow_parameters (parameters_view parameters))) (tokens_view start.now) (tokens_view tokens.now) → IfOk result (λ x. Placed true old nodes.new (expression_places x.0.value) (tokens_view start.now) (tokens_view x.2.now)) }
 {
     let rest = expect_near(TokenKind::Arrow, tokens)?;
     if is_next(TokenKind::LeftBrace, rest) {
@@ -140,11 +140,12 @@ fn arrow_block_at<'t, 's>(
 ) -> Parsed<'t, 's>
     requires room { room < 203 }
     requires taken { taken ≡ with_names [] (names_of_parameters (parameters_view parameters)) }
-    ensures gives { Gives (λ x. (expression_view x.0, tokens_view x.2.now)) result (reading.arrow_body_by (below room) (parameters_view parameters) (names_of_parameters (parameters_view parameters)) true (tokens_view tokens.now)) }
-    ensures deep { IfOk result (λ x. (x.1 ≡ height (expression_view x.0)) × (x.1 ≤ room + 1)) }
-    ensures placed { (old : List Span) → Placed true old nodes.old (in_turn (plain (flat_arrow_parameters (parameters_view parameters)) ∷ plain (a kinds.Arrow) ∷ [])) (tokens_view start.now) (tokens_view tokens.now) → IfOk result (λ x. Placed true old nodes.new (expression_places x.0) (tokens_view start.now) (tokens_view x.2.now)) }
+    ensures gives { Gives (λ x. (expression_view x.0.value, tokens_view x.2.now)) result (reading.arrow_body_by (below room) (parameters_view parameters) (names_of_parameters (parameters_view parameters)) true (tokens_view tokens.now)) }
+    ensures deep { IfOk result (λ x. (x.1 ≡ height (expression_view x.0.value)) × (x.1 ≤ room + 1)) }
+    ensures placed { (old : List Span) → Placed true old nodes.old (in_turn (plain (flat_arrow_parameters (parameters_view parameters)) ∷ plain (a kinds.Arrow) ∷ [])) (tokens_view start.now) (tokens_view tokens.now) → IfOk result (λ x. Placed true old nodes.new (expression_places x.0.value) (tokens_view start.now) (tokens_view x.2.now)) }
 {
     let (body, height, rest) = braces_at(nodes, room, Context::function_body(), taken, tokens)?;
     let node = nodes.add(start, rest)?;
-    Ok((arrow_block(node, parameters, body), height + 1, rest))
+    let tree = arrow_block(nodes.alloc(), node, parameters, body)?;
+    Ok((tree, height + 1, rest))
 }

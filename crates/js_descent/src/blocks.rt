@@ -15,15 +15,15 @@ ghost use Rattle.js_language.specs.Flat.{flat_parameters};
 
 use crate::declarations::item_below;
 use crate::parsed::{FunctionParts, ParsedBlock, ParsedFunction, ParsedStatements, deeper};
+use js_language::parts::{block, statements_of};
 use js_lexer::token::{Token, TokenKind};
-use js_syntax::context::Context;
-use js_syntax::names::parameters_at;
 use js_syntax::classes::lists::ends_list;
+use js_syntax::context::Context;
 use js_syntax::fault::ParseError;
 use js_syntax::name_set::NameSet;
+use js_syntax::names::parameters_at;
 use js_syntax::nodes::Nodes;
 use js_syntax::token::expect;
-use js_language::parts::{block, statements_of};
 
 // Statements in braces that declare other names than these, at most `room` high with the braces.
 #[cycle(parser)]

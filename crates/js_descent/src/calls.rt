@@ -20,13 +20,13 @@ use crate::lists::arguments_before;
 use crate::parsed::{Parsed, deeper};
 use crate::primaries::primary_at;
 use cdp_text::units::Units;
+use js_language::expressions::{boxed, call, index, member};
 use js_lexer::token::{Token, TokenKind};
-use js_syntax::words::word_at;
 use js_syntax::classes::expressions::{Link, link_of};
 use js_syntax::fault::ParseError;
 use js_syntax::nodes::Nodes;
 use js_syntax::token::{expect, tail};
-use js_language::expressions::{call, index, member};
+use js_syntax::words::word_at;
 use js_tree::tree::Expr;
 
 // A CallExpression or a MemberExpression, at most `room` high.
@@ -34,9 +34,9 @@ use js_tree::tree::Expr;
 #[tactic(auto, unfolding(js_syntax::specs::Parsing::below))]
 pub fn call_below<'t, 's>(nodes: &mut Nodes, room: u32, tokens: &'t [Token<'s>]) -> Parsed<'t, 's>
     requires { room ≤ 203 }
-    ensures gives { Gives (λ x. (expression_view x.0, tokens_view x.2.now)) result ((below room).call (tokens_view tokens.now)) }
-    ensures deep { IfOk result (λ x. (x.1 ≡ height (expression_view x.0)) × (x.1 ≤ room)) }
-    ensures placed { IfOk result (λ x. Placed true nodes.old nodes.new (expression_places x.0) (tokens_view tokens.now) (tokens_view x.2.now)) }
+    ensures gives { Gives (λ x. (expression_view x.0.value, tokens_view x.2.now)) result ((below room).call (tokens_view tokens.now)) }
+    ensures deep { IfOk result (λ x. (x.1 ≡ height (expression_view x.0.value)) × (x.1 ≤ room)) }
+    ensures placed { IfOk result (λ x. Placed true nodes.old nodes.new (expression_places x.0.value) (tokens_view tokens.now) (tokens_view x.2.now)) }
 {
     if room == 0 {
         return Err(ParseError::TooDeep { left: tokens.len() });
@@ -49,11 +49,12 @@ pub fn call_below<'t, 's>(nodes: &mut Nodes, room: u32, tokens: &'t [Token<'s>])
 #[tactic(auto, unfolding(js_syntax::specs::Parsing::call))]
 pub fn call_at<'t, 's>(nodes: &mut Nodes, room: u32, tokens: &'t [Token<'s>]) -> Parsed<'t, 's>
     requires { room < 203 }
-    ensures gives { Gives (λ x. (expression_view x.0, tokens_view x.2.now)) result (reading.call (below room) room (tokens_view tokens.now)) }
-    ensures deep { IfOk result (λ x. (x.1 ≡ height (expression_view x.0)) × (x.1 ≤ room + 1)) }
-    ensures placed { IfOk result (λ x. Placed true nodes.old nodes.new (expression_places x.0) (tokens_view tokens.now) (tokens_view x.2.now)) }
+    ensures gives { Gives (λ x. (expression_view x.0.value, tokens_view x.2.now)) result (reading.call (below room) room (tokens_view tokens.now)) }
+    ensures deep { IfOk result (λ x. (x.1 ≡ height (expression_view x.0.value)) × (x.1 ≤ room + 1)) }
+    ensures placed { IfOk result (λ x. Placed true nodes.old nodes.new (expression_places x.0.value) (tokens_view tokens.now) (tokens_view x.2.now)) }
 {
     let (callee, height, rest) = primary_at(nodes, room, tokens)?;
+    let callee = boxed(nodes.alloc(), callee)?;
     links_at(nodes, room, room + 1, callee, height, tokens, rest)
 }
 
@@ -64,18 +65,18 @@ fn links_at<'t, 's>(
     nodes: &mut Nodes,
     room: u32,
     turns: u32,
-    object: Expr,
+    object: Box<Expr>,
     object_height: u32,
     start: &[Token<'s>],
     tokens: &'t [Token<'s>],
 ) -> Parsed<'t, 's>
     requires room { room < 203 }
     requires few { turns ≤ room + 1 }
-    requires deep { object_height ≡ height (expression_view object) }
+    requires deep { object_height ≡ height (expression_view object.value) }
     requires low { object_height ≤ room + 1 }
-    ensures gives { Gives (λ x. (expression_view x.0, tokens_view x.2.now)) result (reading.links (below room) room turns (expression_view object) (tokens_view tokens.now)) }
-    ensures deep { IfOk result (λ x. (x.1 ≡ height (expression_view x.0)) × (x.1 ≤ room + 1)) }
-    ensures placed { (old : List Span) → Placed true old nodes.old (expression_places object) (tokens_view start.now) (tokens_view tokens.now) → IfOk result (λ x. Placed true old nodes.new (expression_places x.0) (tokens_view start.now) (tokens_view x.2.now)) }
+    ensures gives { Gives (λ x. (expression_view x.0.value, tokens_view x.2.now)) result (reading.links (below room) room turns (expression_view object.value) (tokens_view tokens.now)) }
+    ensures deep { IfOk result (λ x. (x.1 ≡ height (expression_view x.0.value)) × (x.1 ≤ room + 1)) }
+    ensures placed { (old : List Span) → Placed true old nodes.old (expression_places object.value) (tokens_view start.now) (tokens_view tokens.now) → IfOk result (λ x. Placed true old nodes.new (expression_places x.0.value) (tokens_view start.now) (tokens_view x.2.now)) }
 {
     if turns == 0 {
         return Err(ParseError::TooDeep { left: tokens.len() });
@@ -98,17 +99,17 @@ fn linked_at<'t, 's>(
     nodes: &mut Nodes,
     room: u32,
     link: Link,
-    object: Expr,
+    object: Box<Expr>,
     object_height: u32,
     start: &[Token<'s>],
     tokens: &'t [Token<'s>],
 ) -> Parsed<'t, 's>
     requires room { room < 203 }
-    requires deep { object_height ≡ height (expression_view object) }
+    requires deep { object_height ≡ height (expression_view object.value) }
     requires low { object_height ≤ room }
-    ensures gives { Gives (λ x. (expression_view x.0, tokens_view x.2.now)) result (reading.linked_by (below room) (expression_view object) (link_view (Some link)) (tokens_view tokens.now)) }
-    ensures deep { IfOk result (λ x. (x.1 ≡ height (expression_view x.0)) × (x.1 ≤ room + 1)) }
-    ensures placed { (old : List Span) → link_view (Some link) ≡ classes.link (head_of (tokens_view tokens.now)) → Placed true old nodes.old (expression_places object) (tokens_view start.now) (tokens_view tokens.now) → IfOk result (λ x. Placed true old nodes.new (expression_places x.0) (tokens_view start.now) (tokens_view x.2.now)) }
+    ensures gives { Gives (λ x. (expression_view x.0.value, tokens_view x.2.now)) result (reading.linked_by (below room) (expression_view object.value) (link_view (Some link)) (tokens_view tokens.now)) }
+    ensures deep { IfOk result (λ x. (x.1 ≡ height (expression_view x.0.value)) × (x.1 ≤ room + 1)) }
+    ensures placed { (old : List Span) → link_view (Some link) ≡ classes.link (head_of (tokens_view tokens.now)) → Placed true old nodes.old (expression_places object.value) (tokens_view start.now) (tokens_view tokens.now) → IfOk result (λ x. Placed true old nodes.new (expression_places x.0.value) (tokens_view start.now) (tokens_view x.2.now)) }
 {
     match link {
         Link::Dot => {
@@ -128,17 +129,17 @@ fn linked_at<'t, 's>(
 fn indexed_at<'t, 's>(
     nodes: &mut Nodes,
     room: u32,
-    object: Expr,
+    object: Box<Expr>,
     object_height: u32,
     start: &[Token<'s>],
     tokens: &'t [Token<'s>],
 ) -> Parsed<'t, 's>
     requires room { room < 203 }
-    requires deep { object_height ≡ height (expression_view object) }
+    requires deep { object_height ≡ height (expression_view object.value) }
     requires low { object_height ≤ room }
-    ensures gives { Gives (λ x. (expression_view x.0, tokens_view x.2.now)) result (reading.linked_by (below room) (expression_view object) key (tokens_view tokens.now)) }
-    ensures deep { IfOk result (λ x. (x.1 ≡ height (expression_view x.0)) × (x.1 ≤ room + 1)) }
-    ensures placed { (old : List Span) → Placed true old nodes.old (expression_places object) (tokens_view start.now) (tokens_view tokens.now) → IfOk result (λ x. Placed true old nodes.new (expression_places x.0) (tokens_view start.now) (tokens_view x.2.now)) }
+    ensures gives { Gives (λ x. (expression_view x.0.value, tokens_view x.2.now)) result (reading.linked_by (below room) (expression_view object.value) key (tokens_view tokens.now)) }
+    ensures deep { IfOk result (λ x. (x.1 ≡ height (expression_view x.0.value)) × (x.1 ≤ room + 1)) }
+    ensures placed { (old : List Span) → Placed true old nodes.old (expression_places object.value) (tokens_view start.now) (tokens_view tokens.now) → IfOk result (λ x. Placed true old nodes.new (expression_places x.0.value) (tokens_view start.now) (tokens_view x.2.now)) }
 {
     let rest = expect(TokenKind::LeftBracket, tokens)?;
     let (key, key_height, rest) = expression_below(nodes, room, rest)?;
@@ -153,17 +154,17 @@ fn indexed_at<'t, 's>(
 fn called_at<'t, 's>(
     nodes: &mut Nodes,
     room: u32,
-    object: Expr,
+    object: Box<Expr>,
     object_height: u32,
     start: &[Token<'s>],
     tokens: &'t [Token<'s>],
 ) -> Parsed<'t, 's>
     requires room { room < 203 }
-    requires deep { object_height ≡ height (expression_view object) }
+    requires deep { object_height ≡ height (expression_view object.value) }
     requires low { object_height ≤ room }
-    ensures gives { Gives (λ x. (expression_view x.0, tokens_view x.2.now)) result (reading.linked_by (below room) (expression_view object) classes.arguments (tokens_view tokens.now)) }
-    ensures deep { IfOk result (λ x. (x.1 ≡ height (expression_view x.0)) × (x.1 ≤ room + 1)) }
-    ensures placed { (old : List Span) → Placed true old nodes.old (expression_places object) (tokens_view start.now) (tokens_view tokens.now) → IfOk result (λ x. Placed true old nodes.new (expression_places x.0) (tokens_view start.now) (tokens_view x.2.now)) }
+    ensures gives { Gives (λ x. (expression_view x.0.value, tokens_view x.2.now)) result (reading.linked_by (below room) (expression_view object.value) classes.arguments (tokens_view tokens.now)) }
+    ensures deep { IfOk result (λ x. (x.1 ≡ height (expression_view x.0.value)) × (x.1 ≤ room + 1)) }
+    ensures placed { (old : List Span) → Placed true old nodes.old (expression_places object.value) (tokens_view start.now) (tokens_view tokens.now) → IfOk result (λ x. Placed true old nodes.new (expression_places x.0.value) (tokens_view start.now) (tokens_view x.2.now)) }
 {
     let rest = expect(TokenKind::LeftParenthesis, tokens)?;
     let (arguments, height, rest) = arguments_before(
@@ -172,8 +173,8 @@ fn called_at<'t, 's>(
         TokenKind::RightParenthesis,
         rest,
     )?;
-    let node = nodes.add(start, rest)?;
     let parentheses = nodes.add(tokens, rest)?;
+    let node = nodes.add(start, rest)?;
     let tree = call(nodes.alloc(), node, object, parentheses, arguments)?;
     Ok((tree, deeper(object_height, height) + 1, rest))
 }

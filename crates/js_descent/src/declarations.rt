@@ -22,17 +22,17 @@ use crate::expressions::assignment_below;
 use crate::parsed::{ParsedDeclarator, ParsedDeclarators, ParsedStatement, deeper};
 use crate::statements::statement_at;
 use cdp_text::units::Units;
-use js_lexer::token::{Token, TokenKind};
-use js_syntax::context::Context;
-use js_syntax::endings::{end_of, semicolon_at};
-use js_syntax::names::fresh_name;
-use js_syntax::classes::statements::{First, first_of};
-use js_syntax::fault::ParseError;
-use js_syntax::name_set::NameSet;
-use js_syntax::nodes::Nodes;
-use js_syntax::token::{is_next, tail};
 use js_language::parts::{declarator, declarators_of};
 use js_language::statements::{function_declaration, lexical_declaration};
+use js_lexer::token::{Token, TokenKind};
+use js_syntax::classes::statements::{First, first_of};
+use js_syntax::context::Context;
+use js_syntax::endings::{end_of, semicolon_at};
+use js_syntax::fault::ParseError;
+use js_syntax::name_set::NameSet;
+use js_syntax::names::fresh_name;
+use js_syntax::nodes::Nodes;
+use js_syntax::token::{is_next, tail};
 
 // A statement or a declaration of other names than these, at most `room` high. Its names are taken.
 #[cycle(parser)]

@@ -19,15 +19,15 @@ ghost use Rattle.js_language.specs.Flat.{a};
 use crate::blocks::block_below;
 use crate::parsed::{ParsedCatch, ParsedFinalizer, ParsedHandler, ParsedStatement, deeper};
 use cdp_text::units::Units;
+use js_language::parts::catch_clause;
+use js_language::statements::try_statement;
 use js_lexer::token::{Token, TokenKind};
 use js_syntax::context::Context;
-use js_syntax::words::name_at;
 use js_syntax::fault::ParseError;
 use js_syntax::name_set::NameSet;
 use js_syntax::nodes::Nodes;
 use js_syntax::token::{expect, is_next, tail};
-use js_language::parts::catch_clause;
-use js_language::statements::try_statement;
+use js_syntax::words::name_at;
 use js_tree::tree::Catch;
 
 // `try` with its blocks.

@@ -18,16 +18,16 @@ use crate::arrows::{arrow_of_list, arrow_of_one};
 use crate::lists::more_assignments;
 use crate::operators::operation_at;
 use crate::parsed::{Parsed, deeper};
+use js_language::expressions::{assign, comma, conditional};
+use js_language::parts::expressions_of;
 use js_lexer::token::{Token, TokenKind};
-use js_syntax::targets::{assignment_kind, is_target};
 use js_syntax::classes::arrows::{Head, arrow_head};
 use js_syntax::classes::expressions::{Joint, joint_of};
 use js_syntax::fault::ParseError;
 use js_syntax::nodes::Nodes;
+use js_syntax::targets::{assignment_kind, is_target};
 use js_syntax::token::{expect, is_next, tail};
-use js_language::expressions::{assign, comma, conditional};
 use js_tree::operator::AssignmentOperator;
-use js_language::parts::expressions_of;
 use js_tree::tree::Expr;
 
 // An Expression, at most `room` high.
@@ -39,9 +39,9 @@ pub fn expression_below<'t, 's>(
     tokens: &'t [Token<'s>],
 ) -> Parsed<'t, 's>
     requires { room ≤ 203 }
-    ensures gives { Gives (λ x. (expression_view x.0, tokens_view x.2.now)) result ((below room).expression (tokens_view tokens.now)) }
-    ensures deep { IfOk result (λ x. (x.1 ≡ height (expression_view x.0)) × (x.1 ≤ room)) }
-    ensures placed { IfOk result (λ x. Placed true nodes.old nodes.new (expression_places x.0) (tokens_view tokens.now) (tokens_view x.2.now)) }
+    ensures gives { Gives (λ x. (expression_view x.0.value, tokens_view x.2.now)) result ((below room).expression (tokens_view tokens.now)) }
+    ensures deep { IfOk result (λ x. (x.1 ≡ height (expression_view x.0.value)) × (x.1 ≤ room)) }
+    ensures placed { IfOk result (λ x. Placed true nodes.old nodes.new (expression_places x.0.value) (tokens_view tokens.now) (tokens_view x.2.now)) }
 {
     if room == 0 {
         return Err(ParseError::TooDeep { left: tokens.len() });
@@ -58,9 +58,9 @@ pub fn assignment_below<'t, 's>(
     tokens: &'t [Token<'s>],
 ) -> Parsed<'t, 's>
     requires { room ≤ 203 }
-    ensures gives { Gives (λ x. (expression_view x.0, tokens_view x.2.now)) result ((below room).assignment (tokens_view tokens.now)) }
-    ensures deep { IfOk result (λ x. (x.1 ≡ height (expression_view x.0)) × (x.1 ≤ room)) }
-    ensures placed { IfOk result (λ x. Placed true nodes.old nodes.new (expression_places x.0) (tokens_view tokens.now) (tokens_view x.2.now)) }
+    ensures gives { Gives (λ x. (expression_view x.0.value, tokens_view x.2.now)) result ((below room).assignment (tokens_view tokens.now)) }
+    ensures deep { IfOk result (λ x. (x.1 ≡ height (expression_view x.0.value)) × (x.1 ≤ room)) }
+    ensures placed { IfOk result (λ x. Placed true nodes.old nodes.new (expression_places x.0.value) (tokens_view tokens.now) (tokens_view x.2.now)) }
 {
     if room == 0 {
         return Err(ParseError::TooDeep { left: tokens.len() });
@@ -77,9 +77,9 @@ pub fn expression_at<'t, 's>(
     tokens: &'t [Token<'s>],
 ) -> Parsed<'t, 's>
     requires { room < 203 }
-    ensures gives { Gives (λ x. (expression_view x.0, tokens_view x.2.now)) result (reading.expression (below room) room (tokens_view tokens.now)) }
-    ensures deep { IfOk result (λ x. (x.1 ≡ height (expression_view x.0)) × (x.1 ≤ room + 1)) }
-    ensures placed { IfOk result (λ x. Placed true nodes.old nodes.new (expression_places x.0) (tokens_view tokens.now) (tokens_view x.2.now)) }
+    ensures gives { Gives (λ x. (expression_view x.0.value, tokens_view x.2.now)) result (reading.expression (below room) room (tokens_view tokens.now)) }
+    ensures deep { IfOk result (λ x. (x.1 ≡ height (expression_view x.0.value)) × (x.1 ≤ room + 1)) }
+    ensures placed { IfOk result (λ x. Placed true nodes.old nodes.new (expression_places x.0.value) (tokens_view tokens.now) (tokens_view x.2.now)) }
 {
     let (first, height, rest) = assignment_at(nodes, room, tokens)?;
     if is_next(TokenKind::Comma, rest) {
@@ -95,17 +95,17 @@ pub fn expression_at<'t, 's>(
 fn comma_at<'t, 's>(
     nodes: &mut Nodes,
     room: u32,
-    first: Expr,
+    first: Box<Expr>,
     first_height: u32,
     start: &[Token<'s>],
     tokens: &'t [Token<'s>],
 ) -> Parsed<'t, 's>
     requires room { room < 203 }
-    requires deep { first_height ≡ height (expression_view first) }
+    requires deep { first_height ≡ height (expression_view first.value) }
     requires low { first_height ≤ room + 1 }
-    ensures gives { Gives (λ x. (expression_view x.0, tokens_view x.2.now)) result (reading.comma_by (below room) room (expression_view first) true (tokens_view tokens.now)) }
-    ensures deep { IfOk result (λ x. (x.1 ≡ height (expression_view x.0)) × (x.1 ≤ room + 1)) }
-    ensures placed { (old : List Span) → Placed true old nodes.old (expression_places first) (tokens_view start.now) (tokens_view tokens.now) → IfOk result (λ x. Placed true old nodes.new (expression_places x.0) (tokens_view start.now) (tokens_view x.2.now)) }
+    ensures gives { Gives (λ x. (expression_view x.0.value, tokens_view x.2.now)) result (reading.comma_by (below room) room (expression_view first.value) true (tokens_view tokens.now)) }
+    ensures deep { IfOk result (λ x. (x.1 ≡ height (expression_view x.0.value)) × (x.1 ≤ room + 1)) }
+    ensures placed { (old : List Span) → Placed true old nodes.old (expression_places first.value) (tokens_view start.now) (tokens_view tokens.now) → IfOk result (λ x. Placed true old nodes.new (expression_places x.0.value) (tokens_view start.now) (tokens_view x.2.now)) }
 {
     if first_height > room {
         return Err(ParseError::TooDeep {
@@ -113,9 +113,9 @@ fn comma_at<'t, 's>(
         });
     }
     let (mut items, height, rest) = more_assignments(nodes, room, tokens)?;
-    items.insert(0, first)?;
+    items.insert(0, Box::into_inner(first))?;
     let node = nodes.add(start, rest)?;
-    let tree = comma(node, expressions_of(items));
+    let tree = comma(nodes.alloc(), node, expressions_of(items))?;
     Ok((tree, deeper(first_height, height) + 1, rest))
 }
 
@@ -128,9 +128,9 @@ pub fn assignment_at<'t, 's>(
     tokens: &'t [Token<'s>],
 ) -> Parsed<'t, 's>
     requires { room < 203 }
-    ensures gives { Gives (λ x. (expression_view x.0, tokens_view x.2.now)) result (reading.assignment (below room) room (tokens_view tokens.now)) }
-    ensures deep { IfOk result (λ x. (x.1 ≡ height (expression_view x.0)) × (x.1 ≤ room + 1)) }
-    ensures placed { IfOk result (λ x. Placed true nodes.old nodes.new (expression_places x.0) (tokens_view tokens.now) (tokens_view x.2.now)) }
+    ensures gives { Gives (λ x. (expression_view x.0.value, tokens_view x.2.now)) result (reading.assignment (below room) room (tokens_view tokens.now)) }
+    ensures deep { IfOk result (λ x. (x.1 ≡ height (expression_view x.0.value)) × (x.1 ≤ room + 1)) }
+    ensures placed { IfOk result (λ x. Placed true nodes.old nodes.new (expression_places x.0.value) (tokens_view tokens.now) (tokens_view x.2.now)) }
 {
     match arrow_head(tokens) {
         Some(Head::Name) => arrow_of_one(nodes, room, tokens),
@@ -148,17 +148,17 @@ pub fn assignment_at<'t, 's>(
 fn joined_at<'t, 's>(
     nodes: &mut Nodes,
     room: u32,
-    first: Expr,
+    first: Box<Expr>,
     first_height: u32,
     start: &[Token<'s>],
     tokens: &'t [Token<'s>],
 ) -> Parsed<'t, 's>
     requires room { room < 203 }
-    requires deep { first_height ≡ height (expression_view first) }
+    requires deep { first_height ≡ height (expression_view first.value) }
     requires low { first_height ≤ room + 1 }
-    ensures gives { Gives (λ x. (expression_view x.0, tokens_view x.2.now)) result (reading.joined (below room) room (expression_view first) (tokens_view tokens.now)) }
-    ensures deep { IfOk result (λ x. (x.1 ≡ height (expression_view x.0)) × (x.1 ≤ room + 1)) }
-    ensures placed { (old : List Span) → Placed true old nodes.old (expression_places first) (tokens_view start.now) (tokens_view tokens.now) → IfOk result (λ x. Placed true old nodes.new (expression_places x.0) (tokens_view start.now) (tokens_view x.2.now)) }
+    ensures gives { Gives (λ x. (expression_view x.0.value, tokens_view x.2.now)) result (reading.joined (below room) room (expression_view first.value) (tokens_view tokens.now)) }
+    ensures deep { IfOk result (λ x. (x.1 ≡ height (expression_view x.0.value)) × (x.1 ≤ room + 1)) }
+    ensures placed { (old : List Span) → Placed true old nodes.old (expression_places first.value) (tokens_view start.now) (tokens_view tokens.now) → IfOk result (λ x. Placed true old nodes.new (expression_places x.0.value) (tokens_view start.now) (tokens_view x.2.now)) }
 {
     match joint_of(tokens) {
         Some(Joint::Question) => conditional_at(nodes, room, first, first_height, start, tokens),
@@ -174,17 +174,17 @@ fn joined_at<'t, 's>(
 fn conditional_at<'t, 's>(
     nodes: &mut Nodes,
     room: u32,
-    first: Expr,
+    first: Box<Expr>,
     first_height: u32,
     start: &[Token<'s>],
     tokens: &'t [Token<'s>],
 ) -> Parsed<'t, 's>
     requires room { room < 203 }
-    requires deep { first_height ≡ height (expression_view first) }
+    requires deep { first_height ≡ height (expression_view first.value) }
     requires low { first_height ≤ room + 1 }
-    ensures gives { Gives (λ x. (expression_view x.0, tokens_view x.2.now)) result (reading.joined_by (below room) room (expression_view first) question (tokens_view tokens.now)) }
-    ensures deep { IfOk result (λ x. (x.1 ≡ height (expression_view x.0)) × (x.1 ≤ room + 1)) }
-    ensures placed { (old : List Span) → Placed true old nodes.old (expression_places first) (tokens_view start.now) (tokens_view tokens.now) → IfOk result (λ x. Placed true old nodes.new (expression_places x.0) (tokens_view start.now) (tokens_view x.2.now)) }
+    ensures gives { Gives (λ x. (expression_view x.0.value, tokens_view x.2.now)) result (reading.joined_by (below room) room (expression_view first.value) question (tokens_view tokens.now)) }
+    ensures deep { IfOk result (λ x. (x.1 ≡ height (expression_view x.0.value)) × (x.1 ≤ room + 1)) }
+    ensures placed { (old : List Span) → Placed true old nodes.old (expression_places first.value) (tokens_view start.now) (tokens_view tokens.now) → IfOk result (λ x. Placed true old nodes.new (expression_places x.0.value) (tokens_view start.now) (tokens_view x.2.now)) }
 {
     if first_height > room {
         return Err(ParseError::TooDeep {
@@ -207,17 +207,17 @@ fn assigned_at<'t, 's>(
     nodes: &mut Nodes,
     room: u32,
     operator: AssignmentOperator,
-    first: Expr,
+    first: Box<Expr>,
     first_height: u32,
     start: &[Token<'s>],
     tokens: &'t [Token<'s>],
 ) -> Parsed<'t, 's>
     requires room { room < 203 }
-    requires deep { first_height ≡ height (expression_view first) }
+    requires deep { first_height ≡ height (expression_view first.value) }
     requires low { first_height ≤ room + 1 }
-    ensures gives { Gives (λ x. (expression_view x.0, tokens_view x.2.now)) result (reading.joined_by (below room) room (expression_view first) (assigns_by operator) (tokens_view tokens.now)) }
-    ensures deep { IfOk result (λ x. (x.1 ≡ height (expression_view x.0)) × (x.1 ≤ room + 1)) }
-    ensures placed { (old : List Span) → Placed true old nodes.old (expression_places first) (tokens_view start.now) (tokens_view tokens.now) → IfOk result (λ x. Placed true old nodes.new (expression_places x.0) (tokens_view start.now) (tokens_view x.2.now)) }
+    ensures gives { Gives (λ x. (expression_view x.0.value, tokens_view x.2.now)) result (reading.joined_by (below room) room (expression_view first.value) (assigns_by operator) (tokens_view tokens.now)) }
+    ensures deep { IfOk result (λ x. (x.1 ≡ height (expression_view x.0.value)) × (x.1 ≤ room + 1)) }
+    ensures placed { (old : List Span) → Placed true old nodes.old (expression_places first.value) (tokens_view start.now) (tokens_view tokens.now) → IfOk result (λ x. Placed true old nodes.new (expression_places x.0.value) (tokens_view start.now) (tokens_view x.2.now)) }
 {
     if !is_target(&first) {
         return Err(ParseError::Syntax { left: tokens.len() });

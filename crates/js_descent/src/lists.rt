@@ -20,12 +20,12 @@ ghost use Rattle.js_lexer.specs.declared.token.TokenKind.TheVariants as kinds;
 
 use crate::expressions::assignment_below;
 use crate::parsed::{ParsedExpressions, ParsedItems, deeper, nothing_read};
+use js_language::parts::expressions_of;
 use js_lexer::token::{Token, TokenKind};
 use js_syntax::classes::lists::{After, after_of};
 use js_syntax::fault::ParseError;
 use js_syntax::nodes::Nodes;
 use js_syntax::token::{is_next, tail};
-use js_language::parts::expressions_of;
 
 // Elements or arguments up to the token that ends them, before which a comma may stand.
 #[cycle(parser)]
@@ -66,7 +66,7 @@ fn elements_before<'t, 's>(
             return Ok((items, height, tail(rest)));
         }
         let (item, item_height, later) = assignment_below(nodes, room, rest)?;
-        items.push(item)?;
+        items.push(Box::into_inner(item))?;
         height = deeper(height, item_height);
         match after_of(closer, later) {
             Some(After::GoesOn) => rest = tail(later),
@@ -95,7 +95,7 @@ pub fn more_assignments<'t, 's>(
             return Ok((items, height, rest));
         }
         let (item, item_height, later) = assignment_below(nodes, room, tail(rest))?;
-        items.push(item)?;
+        items.push(Box::into_inner(item))?;
         height = deeper(height, item_height);
         rest = later;
     }

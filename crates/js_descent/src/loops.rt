@@ -17,20 +17,19 @@ use crate::expressions::{assignment_below, expression_below};
 use crate::parsed::{ParsedStatement, deeper};
 use crate::statements::{optional_before, statement_below};
 use cdp_text::units::Units;
+use js_language::statements::{
+    do_while_statement, for_lexical_statement, for_of_statement, for_statement, while_statement,
+};
 use js_lexer::token::{Token, TokenKind};
+use js_syntax::classes::statements::{End, ForHead, OF, for_head_of};
 use js_syntax::context::Context;
 use js_syntax::endings::semicolon_at;
-use js_syntax::names::expect_name;
-use js_syntax::words::name_at;
-use js_syntax::classes::statements::{End, ForHead, OF, for_head_of};
 use js_syntax::fault::ParseError;
 use js_syntax::name_set::NameSet;
+use js_syntax::names::expect_name;
 use js_syntax::nodes::Nodes;
 use js_syntax::token::{expect, tail};
-use js_language::statements::{
-    boxed, do_while_statement, for_lexical_statement, for_of_statement, for_statement,
-    while_statement,
-};
+use js_syntax::words::name_at;
 
 // `do` (14.7.2).
 #[cycle(parser)]
@@ -53,7 +52,7 @@ pub fn do_at<'t, 's>(
     let rest = expect(TokenKind::RightParenthesis, rest)?;
     let rest = semicolon_at(End::Do, rest)?;
     let node = nodes.add(tokens, rest)?;
-    let tree = do_while_statement(node, boxed(nodes.alloc(), body)?, test);
+    let tree = do_while_statement(node, body, test);
     Ok((tree, deeper(body_height, test_height) + 1, rest))
 }
 
@@ -76,7 +75,7 @@ pub fn while_at<'t, 's>(
     let rest = expect(TokenKind::RightParenthesis, rest)?;
     let (body, body_height, rest) = statement_below(nodes, room, context.loop_body(), rest)?;
     let node = nodes.add(tokens, rest)?;
-    let tree = while_statement(node, test, boxed(nodes.alloc(), body)?);
+    let tree = while_statement(node, test, body);
     Ok((tree, deeper(test_height, body_height) + 1, rest))
 }
 
@@ -138,7 +137,7 @@ fn for_of_at<'t, 's>(
     let (body, body_height, rest) = statement_below(nodes, room, context.loop_body(), rest)?;
     let node = nodes.add(tokens, rest)?;
     let name = Units::from_slice(nodes.alloc(), text)?;
-    let tree = for_of_statement(node, constant, name, list, boxed(nodes.alloc(), body)?);
+    let tree = for_of_statement(node, constant, name, list, body);
     Ok((tree, deeper(list_height, body_height) + 1, rest))
 }
 
@@ -166,7 +165,6 @@ fn for_lexical_at<'t, 's>(
     let (update, third, rest) = optional_before(nodes, room, TokenKind::RightParenthesis, rest)?;
     let (body, fourth, rest) = statement_below(nodes, room, context.loop_body(), rest)?;
     let node = nodes.add(tokens, rest)?;
-    let body = boxed(nodes.alloc(), body)?;
     let tree = for_lexical_statement(node, constant, declarators, test, update, body);
     Ok((
         tree,
@@ -195,7 +193,6 @@ fn for_plain_at<'t, 's>(
     let (update, third, rest) = optional_before(nodes, room, TokenKind::RightParenthesis, rest)?;
     let (body, fourth, rest) = statement_below(nodes, room, context.loop_body(), rest)?;
     let node = nodes.add(tokens, rest)?;
-    let body = boxed(nodes.alloc(), body)?;
     let tree = for_statement(node, initializer, test, update, body);
     Ok((
         tree,

@@ -23,18 +23,18 @@ use crate::blocks::function_below;
 use crate::expressions::assignment_below;
 use crate::parsed::{ParsedKey, ParsedMembers, ParsedProperties, ParsedProperty, deeper};
 use cdp_text::units::Units;
+use js_language::parts::{
+    boxed_key, computed_key, method, number_key, properties_of, property, shorthand_property,
+    string_key, word_key,
+};
 use js_lexer::strings::string_value;
 use js_lexer::token::{Token, TokenKind};
-use js_syntax::words::name_at;
 use js_syntax::classes::lists::{After, after_of};
 use js_syntax::classes::objects::{AfterKey, KeyStart, after_key_of, is_shorthand, key_start_of};
 use js_syntax::fault::ParseError;
 use js_syntax::nodes::Nodes;
 use js_syntax::token::{expect, is_next, tail};
-use js_language::parts::{
-    computed_key, method, number_key, properties_of, property, shorthand_property, string_key,
-    word_key,
-};
+use js_syntax::words::name_at;
 use js_tree::tree::PropertyName;
 
 // The members of an object literal up to the brace that ends it.
@@ -103,6 +103,7 @@ fn property_at<'t, 's>(
         return Ok((shorthand_property(name), 0, rest));
     }
     let (key, height, rest) = key_at(nodes, room, tokens)?;
+    let key = boxed_key(nodes.alloc(), key)?;
     match after_key_of(rest) {
         Some(AfterKey::Colon) => valued_at(nodes, room, key, height, rest),
         Some(AfterKey::Parameters) => method_at(nodes, room, key, height, tokens, rest),
@@ -115,16 +116,16 @@ fn property_at<'t, 's>(
 fn valued_at<'t, 's>(
     nodes: &mut Nodes,
     room: u32,
-    key: PropertyName,
+    key: Box<PropertyName>,
     key_height: u32,
     tokens: &'t [Token<'s>],
 ) -> ParsedProperty<'t, 's>
     requires room { room < 203 }
-    requires deep { key_height ≡ height_of_key (key_view key) }
+    requires deep { key_height ≡ height_of_key (key_view key.value) }
     requires low { key_height ≤ room }
-    ensures gives { Gives (λ x. (property_view x.0, tokens_view x.2.now)) result (reading.member_by (below room) room (key_view key) classes.colon (tokens_view tokens.now)) }
+    ensures gives { Gives (λ x. (property_view x.0, tokens_view x.2.now)) result (reading.member_by (below room) room (key_view key.value) classes.colon (tokens_view tokens.now)) }
     ensures deep { IfOk result (λ x. (x.1 ≡ height_of_property (property_view x.0)) × (x.1 ≤ room)) }
-    ensures placed { (old : List Span) (ts : _) → Placed true old nodes.old (key_places key) ts (tokens_view tokens.now) → IfOk result (λ x. Placed true old nodes.new (property_places x.0) ts (tokens_view x.2.now)) }
+    ensures placed { (old : List Span) (ts : _) → Placed true old nodes.old (key_places key.value) ts (tokens_view tokens.now) → IfOk result (λ x. Placed true old nodes.new (property_places x.0) ts (tokens_view x.2.now)) }
 {
     let rest = expect(TokenKind::Colon, tokens)?;
     let (value, value_height, rest) = assignment_below(nodes, room, rest)?;
@@ -136,17 +137,17 @@ fn valued_at<'t, 's>(
 fn method_at<'t, 's>(
     nodes: &mut Nodes,
     room: u32,
-    key: PropertyName,
+    key: Box<PropertyName>,
     key_height: u32,
     start: &[Token<'s>],
     tokens: &'t [Token<'s>],
 ) -> ParsedProperty<'t, 's>
     requires room { room < 203 }
-    requires deep { key_height ≡ height_of_key (key_view key) }
+    requires deep { key_height ≡ height_of_key (key_view key.value) }
     requires low { key_height ≤ room }
-    ensures gives { Gives (λ x. (property_view x.0, tokens_view x.2.now)) result (reading.member_by (below room) room (key_view key) classes.parameters (tokens_view tokens.now)) }
+    ensures gives { Gives (λ x. (property_view x.0, tokens_view x.2.now)) result (reading.member_by (below room) room (key_view key.value) classes.parameters (tokens_view tokens.now)) }
     ensures deep { IfOk result (λ x. (x.1 ≡ height_of_property (property_view x.0)) × (x.1 ≤ room)) }
-    ensures placed { (old : List Span) → Placed true old nodes.old (key_places key) (tokens_view start.now) (tokens_view tokens.now) → IfOk result (λ x. Placed true old nodes.new (property_places x.0) (tokens_view start.now) (tokens_view x.2.now)) }
+    ensures placed { (old : List Span) → Placed true old nodes.old (key_places key.value) (tokens_view start.now) (tokens_view tokens.now) → IfOk result (λ x. Placed true old nodes.new (property_places x.0) (tokens_view start.now) (tokens_view x.2.now)) }
 {
     if key_height >= room {
         return Err(ParseError::TooDeep {

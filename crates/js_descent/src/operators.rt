@@ -18,13 +18,13 @@ ghost use Rattle.js_lexer.specs.declared.token.TokenKind.TheVariants as kinds;
 
 use crate::calls::{call_at, call_below};
 use crate::parsed::{Parsed, deeper};
+use js_language::expressions::{binary, postfix, prefix, unary};
 use js_lexer::token::Token;
-use js_syntax::targets::{above, is_property, is_target, strength};
 use js_syntax::classes::expressions::{Prefix, operator_of, prefix_of, update_near};
 use js_syntax::fault::ParseError;
 use js_syntax::nodes::Nodes;
+use js_syntax::targets::{above, is_property, is_target, strength};
 use js_syntax::token::tail;
-use js_language::expressions::{binary, postfix, prefix, unary};
 use js_tree::operator::{BinaryOperator, UnaryOperator, UpdateOperator};
 use js_tree::tree::Expr;
 
@@ -38,9 +38,9 @@ pub fn operation_below<'t, 's>(
     tokens: &'t [Token<'s>],
 ) -> Parsed<'t, 's>
     requires { room ≤ 203 }
-    ensures gives { Gives (λ x. (expression_view x.0, tokens_view x.2.now)) result ((below room).operation least (tokens_view tokens.now)) }
-    ensures deep { IfOk result (λ x. (x.1 ≡ height (expression_view x.0)) × (x.1 ≤ room)) }
-    ensures placed { IfOk result (λ x. Placed true nodes.old nodes.new (expression_places x.0) (tokens_view tokens.now) (tokens_view x.2.now)) }
+    ensures gives { Gives (λ x. (expression_view x.0.value, tokens_view x.2.now)) result ((below room).operation least (tokens_view tokens.now)) }
+    ensures deep { IfOk result (λ x. (x.1 ≡ height (expression_view x.0.value)) × (x.1 ≤ room)) }
+    ensures placed { IfOk result (λ x. Placed true nodes.old nodes.new (expression_places x.0.value) (tokens_view tokens.now) (tokens_view x.2.now)) }
 {
     if room == 0 {
         return Err(ParseError::TooDeep { left: tokens.len() });
@@ -53,9 +53,9 @@ pub fn operation_below<'t, 's>(
 #[tactic(auto, unfolding(js_syntax::specs::Parsing::below))]
 pub fn unary_below<'t, 's>(nodes: &mut Nodes, room: u32, tokens: &'t [Token<'s>]) -> Parsed<'t, 's>
     requires { room ≤ 203 }
-    ensures gives { Gives (λ x. (expression_view x.0, tokens_view x.2.now)) result ((below room).unary (tokens_view tokens.now)) }
-    ensures deep { IfOk result (λ x. (x.1 ≡ height (expression_view x.0)) × (x.1 ≤ room)) }
-    ensures placed { IfOk result (λ x. Placed true nodes.old nodes.new (expression_places x.0) (tokens_view tokens.now) (tokens_view x.2.now)) }
+    ensures gives { Gives (λ x. (expression_view x.0.value, tokens_view x.2.now)) result ((below room).unary (tokens_view tokens.now)) }
+    ensures deep { IfOk result (λ x. (x.1 ≡ height (expression_view x.0.value)) × (x.1 ≤ room)) }
+    ensures placed { IfOk result (λ x. Placed true nodes.old nodes.new (expression_places x.0.value) (tokens_view tokens.now) (tokens_view x.2.now)) }
 {
     if room == 0 {
         return Err(ParseError::TooDeep { left: tokens.len() });
@@ -73,9 +73,9 @@ pub fn operation_at<'t, 's>(
     tokens: &'t [Token<'s>],
 ) -> Parsed<'t, 's>
     requires { room < 203 }
-    ensures gives { Gives (λ x. (expression_view x.0, tokens_view x.2.now)) result (reading.operation (below room) room least (tokens_view tokens.now)) }
-    ensures deep { IfOk result (λ x. (x.1 ≡ height (expression_view x.0)) × (x.1 ≤ room + 1)) }
-    ensures placed { IfOk result (λ x. Placed true nodes.old nodes.new (expression_places x.0) (tokens_view tokens.now) (tokens_view x.2.now)) }
+    ensures gives { Gives (λ x. (expression_view x.0.value, tokens_view x.2.now)) result (reading.operation (below room) room least (tokens_view tokens.now)) }
+    ensures deep { IfOk result (λ x. (x.1 ≡ height (expression_view x.0.value)) × (x.1 ≤ room + 1)) }
+    ensures placed { IfOk result (λ x. Placed true nodes.old nodes.new (expression_places x.0.value) (tokens_view tokens.now) (tokens_view x.2.now)) }
 {
     let (left, left_height, rest) = unary_at(nodes, room, tokens)?;
     chain_at(
@@ -110,18 +110,18 @@ fn chain_at<'t, 's>(
     room: u32,
     least: u32,
     turns: u32,
-    left: Expr,
+    left: Box<Expr>,
     left_height: u32,
     start: &[Token<'s>],
     tokens: &'t [Token<'s>],
 ) -> Parsed<'t, 's>
     requires room { room < 203 }
     requires few { turns ≤ room + 1 }
-    requires deep { left_height ≡ height (expression_view left) }
+    requires deep { left_height ≡ height (expression_view left.value) }
     requires low { left_height ≤ room + 1 }
-    ensures gives { Gives (λ x. (expression_view x.0, tokens_view x.2.now)) result (reading.chain (below room) room least turns (expression_view left) (tokens_view tokens.now)) }
-    ensures deep { IfOk result (λ x. (x.1 ≡ height (expression_view x.0)) × (x.1 ≤ room + 1)) }
-    ensures placed { (old : List Span) → Placed true old nodes.old (expression_places left) (tokens_view start.now) (tokens_view tokens.now) → IfOk result (λ x. Placed true old nodes.new (expression_places x.0) (tokens_view start.now) (tokens_view x.2.now)) }
+    ensures gives { Gives (λ x. (expression_view x.0.value, tokens_view x.2.now)) result (reading.chain (below room) room least turns (expression_view left.value) (tokens_view tokens.now)) }
+    ensures deep { IfOk result (λ x. (x.1 ≡ height (expression_view x.0.value)) × (x.1 ≤ room + 1)) }
+    ensures placed { (old : List Span) → Placed true old nodes.old (expression_places left.value) (tokens_view start.now) (tokens_view tokens.now) → IfOk result (λ x. Placed true old nodes.new (expression_places x.0.value) (tokens_view start.now) (tokens_view x.2.now)) }
 {
     if turns == 0 {
         return Err(ParseError::TooDeep { left: tokens.len() });
@@ -155,9 +155,9 @@ fn chain_at<'t, 's>(
 #[tactic(auto, unfolding(js_syntax::specs::Parsing::unary))]
 pub fn unary_at<'t, 's>(nodes: &mut Nodes, room: u32, tokens: &'t [Token<'s>]) -> Parsed<'t, 's>
     requires { room < 203 }
-    ensures gives { Gives (λ x. (expression_view x.0, tokens_view x.2.now)) result (reading.unary (below room) room (tokens_view tokens.now)) }
-    ensures deep { IfOk result (λ x. (x.1 ≡ height (expression_view x.0)) × (x.1 ≤ room + 1)) }
-    ensures placed { IfOk result (λ x. Placed true nodes.old nodes.new (expression_places x.0) (tokens_view tokens.now) (tokens_view x.2.now)) }
+    ensures gives { Gives (λ x. (expression_view x.0.value, tokens_view x.2.now)) result (reading.unary (below room) room (tokens_view tokens.now)) }
+    ensures deep { IfOk result (λ x. (x.1 ≡ height (expression_view x.0.value)) × (x.1 ≤ room + 1)) }
+    ensures placed { IfOk result (λ x. Placed true nodes.old nodes.new (expression_places x.0.value) (tokens_view tokens.now) (tokens_view x.2.now)) }
 {
     match prefix_of(tokens) {
         Some(Prefix::Delete) => deleted_at(nodes, room, tokens),
@@ -176,9 +176,9 @@ pub fn unary_at<'t, 's>(nodes: &mut Nodes, room: u32, tokens: &'t [Token<'s>]) -
 #[cycle(parser)]
 fn deleted_at<'t, 's>(nodes: &mut Nodes, room: u32, tokens: &'t [Token<'s>]) -> Parsed<'t, 's>
     requires { room < 203 }
-    ensures gives { Gives (λ x. (expression_view x.0, tokens_view x.2.now)) result (reading.unary_by (below room) room deletes (tokens_view tokens.now)) }
-    ensures deep { IfOk result (λ x. (x.1 ≡ height (expression_view x.0)) × (x.1 ≤ room + 1)) }
-    ensures placed { IsNext (fixed kinds.Delete) (head_of (tokens_view tokens.now)) → IfOk result (λ x. Placed true nodes.old nodes.new (expression_places x.0) (tokens_view tokens.now) (tokens_view x.2.now)) }
+    ensures gives { Gives (λ x. (expression_view x.0.value, tokens_view x.2.now)) result (reading.unary_by (below room) room deletes (tokens_view tokens.now)) }
+    ensures deep { IfOk result (λ x. (x.1 ≡ height (expression_view x.0.value)) × (x.1 ≤ room + 1)) }
+    ensures placed { IsNext (fixed kinds.Delete) (head_of (tokens_view tokens.now)) → IfOk result (λ x. Placed true nodes.old nodes.new (expression_places x.0.value) (tokens_view tokens.now) (tokens_view x.2.now)) }
 {
     let (operand, height, rest) = call_below(nodes, room, tail(tokens))?;
     if !is_property(&operand) {
@@ -198,9 +198,9 @@ fn updated_at<'t, 's>(
     tokens: &'t [Token<'s>],
 ) -> Parsed<'t, 's>
     requires { room < 203 }
-    ensures gives { Gives (λ x. (expression_view x.0, tokens_view x.2.now)) result (reading.unary_by (below room) room (an_update operator) (tokens_view tokens.now)) }
-    ensures deep { IfOk result (λ x. (x.1 ≡ height (expression_view x.0)) × (x.1 ≤ room + 1)) }
-    ensures placed { IsNext (fixed (update_kind operator)) (head_of (tokens_view tokens.now)) → IfOk result (λ x. Placed true nodes.old nodes.new (expression_places x.0) (tokens_view tokens.now) (tokens_view x.2.now)) }
+    ensures gives { Gives (λ x. (expression_view x.0.value, tokens_view x.2.now)) result (reading.unary_by (below room) room (an_update operator) (tokens_view tokens.now)) }
+    ensures deep { IfOk result (λ x. (x.1 ≡ height (expression_view x.0.value)) × (x.1 ≤ room + 1)) }
+    ensures placed { IsNext (fixed (update_kind operator)) (head_of (tokens_view tokens.now)) → IfOk result (λ x. Placed true nodes.old nodes.new (expression_places x.0.value) (tokens_view tokens.now) (tokens_view x.2.now)) }
 {
     let (operand, height, rest) = call_below(nodes, room, tail(tokens))?;
     if !is_target(&operand) {
@@ -216,9 +216,9 @@ fn updated_at<'t, 's>(
 #[tactic(auto, unfolding(js_syntax::specs::Parsing::postfix))]
 fn postfix_at<'t, 's>(nodes: &mut Nodes, room: u32, tokens: &'t [Token<'s>]) -> Parsed<'t, 's>
     requires { room < 203 }
-    ensures gives { Gives (λ x. (expression_view x.0, tokens_view x.2.now)) result (reading.postfix (below room) room (tokens_view tokens.now)) }
-    ensures deep { IfOk result (λ x. (x.1 ≡ height (expression_view x.0)) × (x.1 ≤ room + 1)) }
-    ensures placed { IfOk result (λ x. Placed true nodes.old nodes.new (expression_places x.0) (tokens_view tokens.now) (tokens_view x.2.now)) }
+    ensures gives { Gives (λ x. (expression_view x.0.value, tokens_view x.2.now)) result (reading.postfix (below room) room (tokens_view tokens.now)) }
+    ensures deep { IfOk result (λ x. (x.1 ≡ height (expression_view x.0.value)) × (x.1 ≤ room + 1)) }
+    ensures placed { IfOk result (λ x. Placed true nodes.old nodes.new (expression_places x.0.value) (tokens_view tokens.now) (tokens_view x.2.now)) }
 {
     let (operand, height, rest) = call_at(nodes, room, tokens)?;
     let Some(operator) = update_near(rest) else {

@@ -10,8 +10,12 @@ use js_tree::tree::{
     PropertyName, Stmt, Stmts,
 };
 
-/// An expression, its height, and the tokens after it.
-pub type Parsed<'t, 's> = Result<(Expr, u32, &'t [Token<'s>]), ParseError>;
+/// An expression, its height, and the tokens after it. It has memory of its own: what is held while reading goes on is
+/// small.
+pub type Parsed<'t, 's> = Result<(Box<Expr>, u32, &'t [Token<'s>]), ParseError>;
+
+/// A primary expression, its height, and the tokens after it.
+pub type ParsedPrimary<'t, 's> = Result<(Expr, u32, &'t [Token<'s>]), ParseError>;
 
 /// Expressions, the greatest of their heights, and the tokens after them.
 pub type ParsedExpressions<'t, 's> = Result<(Exprs, u32, &'t [Token<'s>]), ParseError>;
@@ -37,6 +41,9 @@ pub type ParsedMembers<'t, 's> = Result<
 /// A statement, its height, and the tokens after it.
 pub type ParsedStatement<'t, 's> = Result<(Stmt, u32, &'t [Token<'s>]), ParseError>;
 
+/// A statement within another one, its height, and the tokens after it. It has memory of its own.
+pub type ParsedSubstatement<'t, 's> = Result<(Box<Stmt>, u32, &'t [Token<'s>]), ParseError>;
+
 /// Statements, their height, and the tokens after them.
 pub type ParsedStatements<'t, 's> = Result<(Stmts, u32, &'t [Token<'s>]), ParseError>;
 
@@ -44,7 +51,7 @@ pub type ParsedStatements<'t, 's> = Result<(Stmts, u32, &'t [Token<'s>]), ParseE
 pub type ParsedBlock<'t, 's> = Result<(Block, u32, &'t [Token<'s>]), ParseError>;
 
 /// An expression that may be left out, its height, and the tokens after it.
-pub type ParsedOptional<'t, 's> = Result<(Option<Expr>, u32, &'t [Token<'s>]), ParseError>;
+pub type ParsedOptional<'t, 's> = Result<(Option<Box<Expr>>, u32, &'t [Token<'s>]), ParseError>;
 
 /// A declared name, its height, and the tokens after it.
 pub type ParsedDeclarator<'t, 's> = Result<(Declarator, u32, &'t [Token<'s>]), ParseError>;

@@ -7,7 +7,8 @@ ghost use Rattle.js_syntax.specs.Giving.{Gives};
 ghost use Rattle.js_syntax.specs.Parsing as reading;
 ghost use Rattle.js_syntax.specs.Parsing.{below};
 ghost use Rattle.js_syntax.specs.Views.{tokens_view};
-ghost use Rattle.js_syntax.specs.Classes.{bracket, brace, parenthesis, function_word};
+ghost use Rattle.js_syntax.specs.Classes.{bracket, brace, parenthesis, function_word, start};
+ghost use Rattle.js_descent.specs.Leaves.{leaf_by};
 ghost use Rattle.js_language.specs.Places.{expression_places, plain};
 ghost use Rattle.js_syntax.specs.Placed.{Placed};
 ghost use Rattle.js_language.specs.Tokens.{head_of, IsNext, fixed};
@@ -19,27 +20,49 @@ use crate::blocks::code_at;
 use crate::expressions::expression_below;
 use crate::lists::arguments_before;
 use crate::objects::properties_at;
-use crate::parsed::Parsed;
+use crate::parsed::ParsedPrimary;
 use cdp_text::units::Units;
+use js_language::expressions::{
+    array, boolean, function, name, null, number, object, parenthesized, string, this,
+};
 use js_lexer::strings::string_value;
 use js_lexer::token::{Token, TokenKind};
-use js_syntax::words::{name_at, single};
 use js_syntax::classes::expressions::{Start, start_of};
 use js_syntax::classes::lists::is_name_next;
 use js_syntax::fault::ParseError;
 use js_syntax::nodes::Nodes;
 use js_syntax::token::{expect, tail};
-use js_language::expressions::{
-    array, boolean, function, name, null, number, object, parenthesized, string, this,
-};
+use js_syntax::words::{name_at, single};
 
 // A PrimaryExpression.
 #[cycle(parser)]
 #[tactic(auto, unfolding(js_syntax::specs::Parsing::primary))]
-pub fn primary_at<'t, 's>(nodes: &mut Nodes, room: u32, tokens: &'t [Token<'s>]) -> Parsed<'t, 's>
+pub fn primary_at<'t, 's>(
+    nodes: &mut Nodes,
+    room: u32,
+    tokens: &'t [Token<'s>],
+) -> ParsedPrimary<'t, 's>
     requires { room < 203 }
     ensures gives { Gives (λ x. (expression_view x.0, tokens_view x.2.now)) result (reading.primary (below room) room (tokens_view tokens.now)) }
     ensures deep { IfOk result (λ x. (x.1 ≡ height (expression_view x.0)) × (x.1 ≤ room + 1)) }
+    ensures placed { IfOk result (λ x. Placed true nodes.old nodes.new (expression_places x.0) (tokens_view tokens.now) (tokens_view x.2.now)) }
+{
+    match start_of(tokens) {
+        Start::Bracket => array_at(nodes, room, tokens),
+        Start::Brace => object_at(nodes, room, tokens),
+        Start::Parenthesis => parenthesized_at(nodes, room, tokens),
+        Start::Function => function_at(nodes, room, tokens, tail(tokens)),
+        Start::This | Start::Name(_) | Start::Number(_) | Start::String(_) | Start::Boolean(_) => {
+            leaf_at(nodes, tokens)
+        }
+        Start::Null | Start::Other => leaf_at(nodes, tokens),
+    }
+}
+
+// A PrimaryExpression of one token.
+fn leaf_at<'t, 's>(nodes: &mut Nodes, tokens: &'t [Token<'s>]) -> ParsedPrimary<'t, 's>
+    ensures gives { Gives (λ x. (expression_view x.0, tokens_view x.2.now)) result (leaf_by (start (head_of (tokens_view tokens.now))) (tokens_view tokens.now)) }
+    ensures deep { IfOk result (λ x. (x.1 ≡ height (expression_view x.0)) × (x.1 ≡ 1)) }
     ensures placed { IfOk result (λ x. Placed true nodes.old nodes.new (expression_places x.0) (tokens_view tokens.now) (tokens_view x.2.now)) }
 {
     match start_of(tokens) {
@@ -67,17 +90,19 @@ pub fn primary_at<'t, 's>(nodes: &mut Nodes, room: u32, tokens: &'t [Token<'s>])
             let (node, rest) = single(nodes, tokens)?;
             Ok((null(node), 1, rest))
         }
-        Start::Bracket => array_at(nodes, room, tokens),
-        Start::Brace => object_at(nodes, room, tokens),
-        Start::Parenthesis => parenthesized_at(nodes, room, tokens),
-        Start::Function => function_at(nodes, room, tokens, tail(tokens)),
-        Start::Other => Err(ParseError::Syntax { left: tokens.len() }),
+        Start::Bracket | Start::Brace | Start::Parenthesis | Start::Function | Start::Other => {
+            Err(ParseError::Syntax { left: tokens.len() })
+        }
     }
 }
 
 // A ParenthesizedExpression (13.2.9).
 #[cycle(parser)]
-fn parenthesized_at<'t, 's>(nodes: &mut Nodes, room: u32, tokens: &'t [Token<'s>]) -> Parsed<'t, 's>
+fn parenthesized_at<'t, 's>(
+    nodes: &mut Nodes,
+    room: u32,
+    tokens: &'t [Token<'s>],
+) -> ParsedPrimary<'t, 's>
     requires { room < 203 }
     ensures gives { Gives (λ x. (expression_view x.0, tokens_view x.2.now)) result (reading.primary_by (below room) room parenthesis (tokens_view tokens.now)) }
     ensures deep { IfOk result (λ x. (x.1 ≡ height (expression_view x.0)) × (x.1 ≤ room + 1)) }
@@ -87,13 +112,13 @@ fn parenthesized_at<'t, 's>(nodes: &mut Nodes, room: u32, tokens: &'t [Token<'s>
     let (inner, height, rest) = expression_below(nodes, room, rest)?;
     let rest = expect(TokenKind::RightParenthesis, rest)?;
     let node = nodes.add(tokens, rest)?;
-    let tree = parenthesized(nodes.alloc(), node, inner)?;
+    let tree = parenthesized(node, inner);
     Ok((tree, height + 1, rest))
 }
 
 // An ArrayLiteral (13.2.4).
 #[cycle(parser)]
-fn array_at<'t, 's>(nodes: &mut Nodes, room: u32, tokens: &'t [Token<'s>]) -> Parsed<'t, 's>
+fn array_at<'t, 's>(nodes: &mut Nodes, room: u32, tokens: &'t [Token<'s>]) -> ParsedPrimary<'t, 's>
     requires { room < 203 }
     ensures gives { Gives (λ x. (expression_view x.0, tokens_view x.2.now)) result (reading.primary_by (below room) room bracket (tokens_view tokens.now)) }
     ensures deep { IfOk result (λ x. (x.1 ≡ height (expression_view x.0)) × (x.1 ≤ room + 1)) }
@@ -107,7 +132,7 @@ fn array_at<'t, 's>(nodes: &mut Nodes, room: u32, tokens: &'t [Token<'s>]) -> Pa
 
 // An ObjectLiteral (13.2.5).
 #[cycle(parser)]
-fn object_at<'t, 's>(nodes: &mut Nodes, room: u32, tokens: &'t [Token<'s>]) -> Parsed<'t, 's>
+fn object_at<'t, 's>(nodes: &mut Nodes, room: u32, tokens: &'t [Token<'s>]) -> ParsedPrimary<'t, 's>
     requires { room < 203 }
     ensures gives { Gives (λ x. (expression_view x.0, tokens_view x.2.now)) result (reading.primary_by (below room) room brace (tokens_view tokens.now)) }
     ensures deep { IfOk result (λ x. (x.1 ≡ height (expression_view x.0)) × (x.1 ≤ room + 1)) }
@@ -126,7 +151,7 @@ pub fn function_at<'t, 's>(
     room: u32,
     start: &[Token<'s>],
     tokens: &'t [Token<'s>],
-) -> Parsed<'t, 's>
+) -> ParsedPrimary<'t, 's>
     requires { room < 203 }
     ensures gives { Gives (λ x. (expression_view x.0, tokens_view x.2.now)) result (reading.function_at (below room) (tokens_view tokens.now)) }
     ensures deep { IfOk result (λ x. (x.1 ≡ height (expression_view x.0)) × (x.1 ≤ room + 1)) }

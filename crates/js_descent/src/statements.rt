@@ -13,6 +13,7 @@ ghost use Rattle.js_syntax.specs.Parsing.{below};
 ghost use Rattle.js_syntax.specs.Productions as productions;
 ghost use Rattle.js_syntax.specs.Views.{tokens_view};
 ghost use Rattle.js_syntax.specs.Context.{context_view};
+ghost use Rattle.js_language.specs.Boxes.{unboxed};
 ghost use Rattle.js_language.specs.Places.{statement_places, in_turn, may_stand, expression_places, plain, optional_places};
 ghost use Rattle.js_syntax.specs.Placed.{Placed};
 ghost use Rattle.js_language.specs.Flat.{a};
@@ -22,22 +23,22 @@ use crate::blocks::braces_at;
 use crate::exceptions::try_at;
 use crate::expressions::expression_below;
 use crate::loops::{do_at, for_at, while_at};
-use crate::parsed::{Parsed, ParsedOptional, ParsedStatement, deeper};
-use js_lexer::token::{Token, TokenKind};
-use js_syntax::context::Context;
-use js_syntax::endings::{edge_of, semicolon_at};
-use js_syntax::words::single;
-use js_syntax::classes::statements::{End, First, ends_return, first_of};
-use js_syntax::fault::ParseError;
-use js_syntax::name_set::NameSet;
-use js_syntax::nodes::Nodes;
-use js_syntax::token::{expect, is_next, is_on_line, tail};
+use crate::parsed::{Parsed, ParsedOptional, ParsedStatement, ParsedSubstatement, deeper};
 use js_language::parts::block;
 use js_language::statements::{
     block_statement, boxed, break_statement, continue_statement, debugger_statement,
     empty_statement, expression_statement, if_else_statement, if_statement, return_statement,
     throw_statement,
 };
+use js_lexer::token::{Token, TokenKind};
+use js_syntax::classes::statements::{End, First, ends_return, first_of};
+use js_syntax::context::Context;
+use js_syntax::endings::{edge_of, semicolon_at};
+use js_syntax::fault::ParseError;
+use js_syntax::name_set::NameSet;
+use js_syntax::nodes::Nodes;
+use js_syntax::token::{expect, is_next, is_on_line, tail};
+use js_syntax::words::single;
 
 // A statement that declares nothing, at most `room` high.
 #[cycle(parser)]
@@ -47,16 +48,17 @@ pub fn statement_below<'t, 's>(
     room: u32,
     context: Context,
     tokens: &'t [Token<'s>],
-) -> ParsedStatement<'t, 's>
+) -> ParsedSubstatement<'t, 's>
     requires { room ≤ 203 }
-    ensures gives { Gives (λ x. (statement_view x.0, tokens_view x.2.now)) result ((below room).statement (context_view context) (tokens_view tokens.now)) }
-    ensures deep { IfOk result (λ x. (x.1 ≡ height_of_statement (statement_view x.0)) × (x.1 ≤ room)) }
-    ensures placed { IfOk result (λ x. Placed true nodes.old nodes.new (statement_places x.0) (tokens_view tokens.now) (tokens_view x.2.now)) }
+    ensures gives { Gives (λ x. (statement_view x.0.value, tokens_view x.2.now)) result ((below room).statement (context_view context) (tokens_view tokens.now)) }
+    ensures deep { IfOk result (λ x. (x.1 ≡ height_of_statement (statement_view x.0.value)) × (x.1 ≤ room)) }
+    ensures placed { IfOk result (λ x. Placed true nodes.old nodes.new (statement_places x.0.value) (tokens_view tokens.now) (tokens_view x.2.now)) }
 {
     if room == 0 {
         return Err(ParseError::TooDeep { left: tokens.len() });
     }
-    statement_at(nodes, room - 1, context, tokens)
+    let (tree, height, rest) = statement_at(nodes, room - 1, context, tokens)?;
+    Ok((boxed(nodes.alloc(), tree)?, height, rest))
 }
 
 // A statement that declares nothing.
@@ -118,9 +120,9 @@ fn block_at<'t, 's>(
 #[tactic(auto, unfolding(js_syntax::specs::Productions::ended_expression))]
 fn ended_expression<'t, 's>(nodes: &mut Nodes, room: u32, tokens: &'t [Token<'s>]) -> Parsed<'t, 's>
     requires { room < 203 }
-    ensures gives { Gives (λ x. (expression_view x.0, tokens_view x.2.now)) result (productions.ended_expression (below room) (tokens_view tokens.now)) }
-    ensures deep { IfOk result (λ x. (x.1 ≡ height (expression_view x.0)) × (x.1 ≤ room)) }
-    ensures placed { IfOk result (λ x. Placed true nodes.old nodes.new (in_turn (expression_places x.0 ∷ may_stand kinds.Semicolon ∷ [])) (tokens_view tokens.now) (tokens_view x.2.now)) }
+    ensures gives { Gives (λ x. (expression_view x.0.value, tokens_view x.2.now)) result (productions.ended_expression (below room) (tokens_view tokens.now)) }
+    ensures deep { IfOk result (λ x. (x.1 ≡ height (expression_view x.0.value)) × (x.1 ≤ room)) }
+    ensures placed { IfOk result (λ x. Placed true nodes.old nodes.new (in_turn (expression_places x.0.value ∷ may_stand kinds.Semicolon ∷ [])) (tokens_view tokens.now) (tokens_view x.2.now)) }
 {
     let (tree, height, rest) = expression_below(nodes, room, tokens)?;
     let rest = semicolon_at(End::Expression(edge_of(&tree)), rest)?;
@@ -137,9 +139,9 @@ pub fn optional_before<'t, 's>(
     tokens: &'t [Token<'s>],
 ) -> ParsedOptional<'t, 's>
     requires { room < 203 }
-    ensures gives { Gives (λ x. (optional_view x.0, tokens_view x.2.now)) result (productions.optional_before (below room) closer (tokens_view tokens.now)) }
-    ensures deep { IfOk result (λ x. (x.1 ≡ height_of_optional (optional_view x.0)) × (x.1 ≤ room)) }
-    ensures placed { IfOk result (λ x. Placed true nodes.old nodes.new (in_turn (optional_places x.0 ∷ plain (a closer) ∷ [])) (tokens_view tokens.now) (tokens_view x.2.now)) }
+    ensures gives { Gives (λ x. (optional_view (unboxed x.0), tokens_view x.2.now)) result (productions.optional_before (below room) closer (tokens_view tokens.now)) }
+    ensures deep { IfOk result (λ x. (x.1 ≡ height_of_optional (optional_view (unboxed x.0))) × (x.1 ≤ room)) }
+    ensures placed { IfOk result (λ x. Placed true nodes.old nodes.new (in_turn (optional_places (unboxed x.0) ∷ plain (a closer) ∷ [])) (tokens_view tokens.now) (tokens_view x.2.now)) }
 {
     if is_next(closer, tokens) {
         return Ok((None, 0, tail(tokens)));
@@ -193,14 +195,11 @@ fn if_at<'t, 's>(
             tail(rest),
         )?;
         let node = nodes.add(tokens, rest)?;
-        let consequent = boxed(nodes.alloc(), consequent)?;
-        let alternate = boxed(nodes.alloc(), alternate)?;
         let branches = deeper(consequent_height, alternate_height);
         let tree = if_else_statement(node, test, consequent, alternate);
         return Ok((tree, deeper(test_height, branches) + 1, rest));
     }
     let node = nodes.add(tokens, rest)?;
-    let consequent = boxed(nodes.alloc(), consequent)?;
     let tree = if_statement(node, test, consequent);
     Ok((tree, deeper(test_height, consequent_height) + 1, rest))
 }

@@ -1,5 +1,6 @@
-pub mod Tokens
+pub mod Boxes
 pub mod Flat
-pub mod Well
 pub mod Language
 pub mod Places
+pub mod Tokens
+pub mod Well

@@ -10,25 +10,32 @@ ghost use Rattle.js_language.specs.Tokens.{identifier_name, numeric_literal, str
 ghost use Rattle.js_language.specs.Flat.{a, an_identifier, unary_kind, update_kind, binary_kind, assign_kind, flat_parameters, flat_arrow_parameters, flat_optional_name, flat_catch_parameter, flat_boolean, let_or_const};
 ghost use Rattle.js_tree.specs.Height.{height, height_of_expressions, height_of_statements, height_of_statement, height_of_optional, height_of_declarators, height_of_handler, height_of_finalizer, height_of_key, height_of_property};
 ghost use Rattle.js_tree.specs.Views.{parameters_view, optional_view, handler_view, finalizer_view, expressions, statements, properties, declarators, expression_view, property_view, key_view, statement_view, block_view, catch_view, declarator_view, declarators_view, expressions_view, properties_view, statements_view};
+ghost use Rattle.js_language.specs.Boxes.{unboxed};
 ghost use Rattle.js_language.specs.Places.{in_turn, plain, a_symbol, may_stand, node_of, in_braces, in_parentheses, with_commas, assign_if_some, optional_places, handler_places, finalizer_places, expression_places, property_places, key_places, statement_places, block_places, catch_places, declarator_places, declarators_places, expressions_places, properties_places, statements_places};
 
+use cdp_text::units::Units;
 use js_tree::integer::SafeInteger;
 use js_tree::names::Names;
 use js_tree::node::NodeId;
 use js_tree::operator::{AssignmentOperator, BinaryOperator, UnaryOperator, UpdateOperator};
 use js_tree::tree::{ArrowParameters, Expr, Exprs, PropertyDefinitions, Stmts};
-use cdp_text::units::Units;
 use std::alloc::{AllocError, Global};
 
-// two expressions, each in memory of its own
-fn boxed_pair(
-    alloc: Global,
-    first: Expr,
-    second: Expr,
-) -> Result<(Box<Expr>, Box<Expr>), AllocError>
-    ensures { IfOk result (λ pair. (pair.0.value ≡ first) × (pair.1.value ≡ second)) }
+/// An expression in memory of its own.
+pub fn boxed(alloc: Global, expression: Expr) -> Result<Box<Expr>, AllocError>
+    ensures { IfOk result (λ boxed. boxed.value ≡ expression) }
 {
-    Ok((Box::new(alloc, first)?, Box::new(alloc, second)?))
+    Ok(Box::new(alloc, expression)?)
+}
+
+/// The expression in memory of its own, if there is one.
+pub fn value_of(boxed: Option<Box<Expr>>) -> Option<Expr>
+    ensures { result ≡ unboxed boxed }
+{
+    match boxed {
+        Some(boxed) => Some(Box::into_inner(boxed)),
+        None => None,
+    }
 }
 
 /// `this`.
@@ -123,65 +130,78 @@ pub fn arrow(
     alloc: Global,
     node: NodeId,
     parameters: ArrowParameters,
-    body: Expr,
-) -> Result<Expr, AllocError>
-    ensures view { IfOk result (λ tree. expression_view tree ≡ trees.arrow (parameters_view parameters) (expression_view body)) }
-    ensures places { IfOk result (λ tree. expression_places tree ≡ node_of node (plain (flat_arrow_parameters (parameters_view parameters)) ∷ plain (a kinds.Arrow) ∷ (expression_places body) ∷ [])) }
+    body: Box<Expr>,
+) -> Result<Box<Expr>, AllocError>
+    ensures view { IfOk result (λ tree. expression_view tree.value ≡ trees.arrow (parameters_view parameters) (expression_view body.value)) }
+    ensures places { IfOk result (λ tree. expression_places tree.value ≡ node_of node (plain (flat_arrow_parameters (parameters_view parameters)) ∷ plain (a kinds.Arrow) ∷ (expression_places body.value) ∷ [])) }
 {
-    Ok(Expr::Arrow {
-        node,
-        parameters,
-        body: Box::new(alloc, body)?,
-    })
+    boxed(
+        alloc,
+        Expr::Arrow {
+            node,
+            parameters,
+            body,
+        },
+    )
 }
 
 /// `parameters => { body }`.
 #[tactic(auto, using(js_tree::proofs::Views::view_arrow_block, crate::proofs::PlaceLemmas::places_arrow_block))]
-pub fn arrow_block(node: NodeId, parameters: ArrowParameters, body: Stmts) -> Expr
-    ensures view { expression_view result ≡ trees.arrow_block (parameters_view parameters) (statements_view body) }
-    ensures places { expression_places result ≡ node_of node (plain (flat_arrow_parameters (parameters_view parameters)) ∷ plain (a kinds.Arrow) ∷ in_braces (statements_places body) ∷ []) }
+pub fn arrow_block(
+    alloc: Global,
+    node: NodeId,
+    parameters: ArrowParameters,
+    body: Stmts,
+) -> Result<Box<Expr>, AllocError>
+    ensures view { IfOk result (λ tree. expression_view tree.value ≡ trees.arrow_block (parameters_view parameters) (statements_view body)) }
+    ensures places { IfOk result (λ tree. expression_places tree.value ≡ node_of node (plain (flat_arrow_parameters (parameters_view parameters)) ∷ plain (a kinds.Arrow) ∷ in_braces (statements_places body) ∷ [])) }
 {
-    Expr::ArrowBlock {
-        node,
-        parameters,
-        body,
-    }
+    boxed(
+        alloc,
+        Expr::ArrowBlock {
+            node,
+            parameters,
+            body,
+        },
+    )
 }
 
 /// `(inner)`.
 #[tactic(auto, using(js_tree::proofs::Views::view_parenthesized, crate::proofs::PlaceLemmas::places_parenthesized))]
-pub fn parenthesized(alloc: Global, node: NodeId, inner: Expr) -> Result<Expr, AllocError>
-    ensures view { IfOk result (λ tree. expression_view tree ≡ trees.parenthesized (expression_view inner)) }
-    ensures places { IfOk result (λ tree. expression_places tree ≡ node_of node (plain (a kinds.LeftParenthesis) ∷ (expression_places inner) ∷ plain (a kinds.RightParenthesis) ∷ [])) }
+pub fn parenthesized(node: NodeId, inner: Box<Expr>) -> Expr
+    ensures view { expression_view result ≡ trees.parenthesized (expression_view inner.value) }
+    ensures places { expression_places result ≡ node_of node (plain (a kinds.LeftParenthesis) ∷ (expression_places inner.value) ∷ plain (a kinds.RightParenthesis) ∷ []) }
 {
-    Ok(Expr::Parenthesized {
-        node,
-        inner: Box::new(alloc, inner)?,
-    })
+    Expr::Parenthesized { node, inner }
 }
 
 /// `object.name`.
 #[tactic(auto, using(js_tree::proofs::Views::view_member, crate::proofs::PlaceLemmas::places_member))]
-pub fn member(alloc: Global, node: NodeId, object: Expr, name: Units) -> Result<Expr, AllocError>
-    ensures view { IfOk result (λ tree. expression_view tree ≡ trees.member (expression_view object) name) }
-    ensures places { IfOk result (λ tree. expression_places tree ≡ node_of node ((expression_places object) ∷ plain (a kinds.Dot) ∷ plain (a_symbol (identifier_name name)) ∷ [])) }
+pub fn member(
+    alloc: Global,
+    node: NodeId,
+    object: Box<Expr>,
+    name: Units,
+) -> Result<Box<Expr>, AllocError>
+    ensures view { IfOk result (λ tree. expression_view tree.value ≡ trees.member (expression_view object.value) name) }
+    ensures places { IfOk result (λ tree. expression_places tree.value ≡ node_of node ((expression_places object.value) ∷ plain (a kinds.Dot) ∷ plain (a_symbol (identifier_name name)) ∷ [])) }
 {
-    Ok(Expr::Member {
-        node,
-        object: Box::new(alloc, object)?,
-        name,
-    })
+    boxed(alloc, Expr::Member { node, object, name })
 }
 
 /// `object[key]`.
 #[tactic(auto, using(js_tree::proofs::Views::view_index, crate::proofs::PlaceLemmas::places_index))]
-pub fn index(alloc: Global, node: NodeId, object: Expr, key: Expr) -> Result<Expr, AllocError>
-    ensures view { IfOk result (λ tree. expression_view tree ≡ trees.index (expression_view object) (expression_view key)) }
-    ensures places { IfOk result (λ tree. expression_places tree ≡ node_of node ((expression_places object) ∷ plain (a kinds.LeftBracket) ∷ (expression_places key) ∷ plain (a kinds.RightBracket) ∷ [])) }
-    ensures height { IfOk result (λ tree. height (expression_view tree) ≡ suc (max (height (expression_view object)) (height (expression_view key)))) }
+pub fn index(
+    alloc: Global,
+    node: NodeId,
+    object: Box<Expr>,
+    key: Box<Expr>,
+) -> Result<Box<Expr>, AllocError>
+    ensures view { IfOk result (λ tree. expression_view tree.value ≡ trees.index (expression_view object.value) (expression_view key.value)) }
+    ensures places { IfOk result (λ tree. expression_places tree.value ≡ node_of node ((expression_places object.value) ∷ plain (a kinds.LeftBracket) ∷ (expression_places key.value) ∷ plain (a kinds.RightBracket) ∷ [])) }
+    ensures height { IfOk result (λ tree. height (expression_view tree.value) ≡ suc (max (height (expression_view object.value)) (height (expression_view key.value)))) }
 {
-    let (object, key) = boxed_pair(alloc, object, key)?;
-    Ok(Expr::Index { node, object, key })
+    boxed(alloc, Expr::Index { node, object, key })
 }
 
 /// `callee(arguments)`. `parentheses` is the node of the arguments with their parentheses.
@@ -189,20 +209,23 @@ pub fn index(alloc: Global, node: NodeId, object: Expr, key: Expr) -> Result<Exp
 pub fn call(
     alloc: Global,
     node: NodeId,
-    callee: Expr,
+    callee: Box<Expr>,
     parentheses: NodeId,
     arguments: Exprs,
-) -> Result<Expr, AllocError>
-    ensures view { IfOk result (λ tree. expression_view tree ≡ trees.call (expression_view callee) (expressions_view arguments)) }
-    ensures places { IfOk result (λ tree. expression_places tree ≡ node_of node ((expression_places callee) ∷ node_of parentheses (plain (a kinds.LeftParenthesis) ∷ (expressions_places arguments) ∷ may_stand kinds.Comma ∷ plain (a kinds.RightParenthesis) ∷ []) ∷ [])) }
-    ensures height { IfOk result (λ tree. height (expression_view tree) ≡ suc (max (height (expression_view callee)) (height_of_expressions (expressions_view arguments)))) }
+) -> Result<Box<Expr>, AllocError>
+    ensures view { IfOk result (λ tree. expression_view tree.value ≡ trees.call (expression_view callee.value) (expressions_view arguments)) }
+    ensures places { IfOk result (λ tree. expression_places tree.value ≡ node_of node ((expression_places callee.value) ∷ node_of parentheses (plain (a kinds.LeftParenthesis) ∷ (expressions_places arguments) ∷ may_stand kinds.Comma ∷ plain (a kinds.RightParenthesis) ∷ []) ∷ [])) }
+    ensures height { IfOk result (λ tree. height (expression_view tree.value) ≡ suc (max (height (expression_view callee.value)) (height_of_expressions (expressions_view arguments)))) }
 {
-    Ok(Expr::Call {
-        node,
-        callee: Box::new(alloc, callee)?,
-        parentheses,
-        arguments,
-    })
+    boxed(
+        alloc,
+        Expr::Call {
+            node,
+            callee,
+            parentheses,
+            arguments,
+        },
+    )
 }
 
 /// `operand++` or `operand--`.
@@ -211,16 +234,19 @@ pub fn postfix(
     alloc: Global,
     node: NodeId,
     operator: UpdateOperator,
-    operand: Expr,
-) -> Result<Expr, AllocError>
-    ensures view { IfOk result (λ tree. expression_view tree ≡ trees.postfix operator (expression_view operand)) }
-    ensures places { IfOk result (λ tree. expression_places tree ≡ node_of node ((expression_places operand) ∷ plain (a (update_kind operator)) ∷ [])) }
+    operand: Box<Expr>,
+) -> Result<Box<Expr>, AllocError>
+    ensures view { IfOk result (λ tree. expression_view tree.value ≡ trees.postfix operator (expression_view operand.value)) }
+    ensures places { IfOk result (λ tree. expression_places tree.value ≡ node_of node ((expression_places operand.value) ∷ plain (a (update_kind operator)) ∷ [])) }
 {
-    Ok(Expr::Postfix {
-        node,
-        operator,
-        operand: Box::new(alloc, operand)?,
-    })
+    boxed(
+        alloc,
+        Expr::Postfix {
+            node,
+            operator,
+            operand,
+        },
+    )
 }
 
 /// `++operand` or `--operand`.
@@ -229,16 +255,19 @@ pub fn prefix(
     alloc: Global,
     node: NodeId,
     operator: UpdateOperator,
-    operand: Expr,
-) -> Result<Expr, AllocError>
-    ensures view { IfOk result (λ tree. expression_view tree ≡ trees.prefix operator (expression_view operand)) }
-    ensures places { IfOk result (λ tree. expression_places tree ≡ node_of node (plain (a (update_kind operator)) ∷ (expression_places operand) ∷ [])) }
+    operand: Box<Expr>,
+) -> Result<Box<Expr>, AllocError>
+    ensures view { IfOk result (λ tree. expression_view tree.value ≡ trees.prefix operator (expression_view operand.value)) }
+    ensures places { IfOk result (λ tree. expression_places tree.value ≡ node_of node (plain (a (update_kind operator)) ∷ (expression_places operand.value) ∷ [])) }
 {
-    Ok(Expr::Prefix {
-        node,
-        operator,
-        operand: Box::new(alloc, operand)?,
-    })
+    boxed(
+        alloc,
+        Expr::Prefix {
+            node,
+            operator,
+            operand,
+        },
+    )
 }
 
 /// `-operand` and its like.
@@ -247,16 +276,19 @@ pub fn unary(
     alloc: Global,
     node: NodeId,
     operator: UnaryOperator,
-    operand: Expr,
-) -> Result<Expr, AllocError>
-    ensures view { IfOk result (λ tree. expression_view tree ≡ trees.unary operator (expression_view operand)) }
-    ensures places { IfOk result (λ tree. expression_places tree ≡ node_of node (plain (a (unary_kind operator)) ∷ (expression_places operand) ∷ [])) }
+    operand: Box<Expr>,
+) -> Result<Box<Expr>, AllocError>
+    ensures view { IfOk result (λ tree. expression_view tree.value ≡ trees.unary operator (expression_view operand.value)) }
+    ensures places { IfOk result (λ tree. expression_places tree.value ≡ node_of node (plain (a (unary_kind operator)) ∷ (expression_places operand.value) ∷ [])) }
 {
-    Ok(Expr::Unary {
-        node,
-        operator,
-        operand: Box::new(alloc, operand)?,
-    })
+    boxed(
+        alloc,
+        Expr::Unary {
+            node,
+            operator,
+            operand,
+        },
+    )
 }
 
 /// `left + right` and its like.
@@ -265,20 +297,22 @@ pub fn binary(
     alloc: Global,
     node: NodeId,
     operator: BinaryOperator,
-    left: Expr,
-    right: Expr,
-) -> Result<Expr, AllocError>
-    ensures view { IfOk result (λ tree. expression_view tree ≡ trees.binary operator (expression_view left) (expression_view right)) }
-    ensures places { IfOk result (λ tree. expression_places tree ≡ node_of node ((expression_places left) ∷ plain (a (binary_kind operator)) ∷ (expression_places right) ∷ [])) }
-    ensures height { IfOk result (λ tree. height (expression_view tree) ≡ suc (max (height (expression_view left)) (height (expression_view right)))) }
+    left: Box<Expr>,
+    right: Box<Expr>,
+) -> Result<Box<Expr>, AllocError>
+    ensures view { IfOk result (λ tree. expression_view tree.value ≡ trees.binary operator (expression_view left.value) (expression_view right.value)) }
+    ensures places { IfOk result (λ tree. expression_places tree.value ≡ node_of node ((expression_places left.value) ∷ plain (a (binary_kind operator)) ∷ (expression_places right.value) ∷ [])) }
+    ensures height { IfOk result (λ tree. height (expression_view tree.value) ≡ suc (max (height (expression_view left.value)) (height (expression_view right.value)))) }
 {
-    let (left, right) = boxed_pair(alloc, left, right)?;
-    Ok(Expr::Binary {
-        node,
-        operator,
-        left,
-        right,
-    })
+    boxed(
+        alloc,
+        Expr::Binary {
+            node,
+            operator,
+            left,
+            right,
+        },
+    )
 }
 
 /// `test ? consequent : alternate`.
@@ -286,21 +320,23 @@ pub fn binary(
 pub fn conditional(
     alloc: Global,
     node: NodeId,
-    test: Expr,
-    consequent: Expr,
-    alternate: Expr,
-) -> Result<Expr, AllocError>
-    ensures view { IfOk result (λ tree. expression_view tree ≡ trees.conditional (expression_view test) (expression_view consequent) (expression_view alternate)) }
-    ensures places { IfOk result (λ tree. expression_places tree ≡ node_of node ((expression_places test) ∷ plain (a kinds.Question) ∷ (expression_places consequent) ∷ plain (a kinds.Colon) ∷ (expression_places alternate) ∷ [])) }
-    ensures height { IfOk result (λ tree. height (expression_view tree) ≡ suc (max (height (expression_view test)) (max (height (expression_view consequent)) (height (expression_view alternate))))) }
+    test: Box<Expr>,
+    consequent: Box<Expr>,
+    alternate: Box<Expr>,
+) -> Result<Box<Expr>, AllocError>
+    ensures view { IfOk result (λ tree. expression_view tree.value ≡ trees.conditional (expression_view test.value) (expression_view consequent.value) (expression_view alternate.value)) }
+    ensures places { IfOk result (λ tree. expression_places tree.value ≡ node_of node ((expression_places test.value) ∷ plain (a kinds.Question) ∷ (expression_places consequent.value) ∷ plain (a kinds.Colon) ∷ (expression_places alternate.value) ∷ [])) }
+    ensures height { IfOk result (λ tree. height (expression_view tree.value) ≡ suc (max (height (expression_view test.value)) (max (height (expression_view consequent.value)) (height (expression_view alternate.value))))) }
 {
-    let (consequent, alternate) = boxed_pair(alloc, consequent, alternate)?;
-    Ok(Expr::Conditional {
-        node,
-        test: Box::new(alloc, test)?,
-        consequent,
-        alternate,
-    })
+    boxed(
+        alloc,
+        Expr::Conditional {
+            node,
+            test,
+            consequent,
+            alternate,
+        },
+    )
 }
 
 /// `target = value` and its like.
@@ -309,27 +345,29 @@ pub fn assign(
     alloc: Global,
     node: NodeId,
     operator: AssignmentOperator,
-    target: Expr,
-    value: Expr,
-) -> Result<Expr, AllocError>
-    ensures view { IfOk result (λ tree. expression_view tree ≡ trees.assign operator (expression_view target) (expression_view value)) }
-    ensures places { IfOk result (λ tree. expression_places tree ≡ node_of node ((expression_places target) ∷ plain (a (assign_kind operator)) ∷ (expression_places value) ∷ [])) }
-    ensures height { IfOk result (λ tree. height (expression_view tree) ≡ suc (max (height (expression_view target)) (height (expression_view value)))) }
+    target: Box<Expr>,
+    value: Box<Expr>,
+) -> Result<Box<Expr>, AllocError>
+    ensures view { IfOk result (λ tree. expression_view tree.value ≡ trees.assign operator (expression_view target.value) (expression_view value.value)) }
+    ensures places { IfOk result (λ tree. expression_places tree.value ≡ node_of node ((expression_places target.value) ∷ plain (a (assign_kind operator)) ∷ (expression_places value.value) ∷ [])) }
+    ensures height { IfOk result (λ tree. height (expression_view tree.value) ≡ suc (max (height (expression_view target.value)) (height (expression_view value.value)))) }
 {
-    let (target, value) = boxed_pair(alloc, target, value)?;
-    Ok(Expr::Assign {
-        node,
-        operator,
-        target,
-        value,
-    })
+    boxed(
+        alloc,
+        Expr::Assign {
+            node,
+            operator,
+            target,
+            value,
+        },
+    )
 }
 
 /// `a, b, c`.
 #[tactic(auto, using(js_tree::proofs::Views::view_comma, crate::proofs::PlaceLemmas::places_comma))]
-pub fn comma(node: NodeId, expressions: Exprs) -> Expr
-    ensures view { expression_view result ≡ trees.comma (expressions_view expressions) }
-    ensures places { expression_places result ≡ node_of node ((expressions_places expressions) ∷ []) }
+pub fn comma(alloc: Global, node: NodeId, expressions: Exprs) -> Result<Box<Expr>, AllocError>
+    ensures view { IfOk result (λ tree. expression_view tree.value ≡ trees.comma (expressions_view expressions)) }
+    ensures places { IfOk result (λ tree. expression_places tree.value ≡ node_of node ((expressions_places expressions) ∷ [])) }
 {
-    Expr::Comma { node, expressions }
+    boxed(alloc, Expr::Comma { node, expressions })
 }

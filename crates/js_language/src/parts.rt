@@ -10,8 +10,11 @@ ghost use Rattle.js_language.specs.Tokens.{identifier_name, numeric_literal, str
 ghost use Rattle.js_language.specs.Flat.{a, an_identifier, unary_kind, update_kind, binary_kind, assign_kind, flat_parameters, flat_arrow_parameters, flat_optional_name, flat_catch_parameter, flat_boolean, let_or_const};
 ghost use Rattle.js_tree.specs.Height.{height, height_of_expressions, height_of_statements, height_of_statement, height_of_optional, height_of_declarators, height_of_handler, height_of_finalizer, height_of_key, height_of_property};
 ghost use Rattle.js_tree.specs.Views.{parameters_view, optional_view, handler_view, finalizer_view, expressions, statements, properties, declarators, expression_view, property_view, key_view, statement_view, block_view, catch_view, declarator_view, declarators_view, expressions_view, properties_view, statements_view};
+ghost use Rattle.js_language.specs.Boxes.{unboxed};
 ghost use Rattle.js_language.specs.Places.{in_turn, plain, a_symbol, may_stand, node_of, in_braces, in_parentheses, with_commas, assign_if_some, optional_places, handler_places, finalizer_places, expression_places, property_places, key_places, statement_places, block_places, catch_places, declarator_places, declarators_places, expressions_places, properties_places, statements_places};
 
+use crate::expressions::value_of;
+use cdp_text::units::Units;
 use js_tree::integer::SafeInteger;
 use js_tree::names::Names;
 use js_tree::node::NodeId;
@@ -19,7 +22,14 @@ use js_tree::tree::{
     Block, Catch, Declarator, Declarators, Expr, Exprs, PropertyDefinition, PropertyDefinitions,
     PropertyName, Stmt, Stmts,
 };
-use cdp_text::units::Units;
+use std::alloc::{AllocError, Global};
+
+/// A key in memory of its own.
+pub fn boxed_key(alloc: Global, key: PropertyName) -> Result<Box<PropertyName>, AllocError>
+    ensures { IfOk result (λ boxed. boxed.value ≡ key) }
+{
+    Ok(Box::new(alloc, key)?)
+}
 
 /// A name or a reserved word.
 #[tactic(auto, using(js_tree::proofs::Views::view_word_key, crate::proofs::PlaceLemmas::places_word_key))]
@@ -50,11 +60,11 @@ pub fn number_key(value: SafeInteger) -> PropertyName
 
 /// `[key]`.
 #[tactic(auto, using(js_tree::proofs::Views::view_computed_key, crate::proofs::PlaceLemmas::places_computed_key))]
-pub fn computed_key(key: Expr) -> PropertyName
-    ensures view { key_view result ≡ trees.computed_key (expression_view key) }
-    ensures places { key_places result ≡ in_turn (plain (a kinds.LeftBracket) ∷ (expression_places key) ∷ plain (a kinds.RightBracket) ∷ []) }
+pub fn computed_key(key: Box<Expr>) -> PropertyName
+    ensures view { key_view result ≡ trees.computed_key (expression_view key.value) }
+    ensures places { key_places result ≡ in_turn (plain (a kinds.LeftBracket) ∷ (expression_places key.value) ∷ plain (a kinds.RightBracket) ∷ []) }
 {
-    PropertyName::Computed(key)
+    PropertyName::Computed(Box::into_inner(key))
 }
 
 /// `name`, which is short for `name: name`.
@@ -68,24 +78,32 @@ pub fn shorthand_property(name: Units) -> PropertyDefinition
 
 /// `key: value`.
 #[tactic(auto, using(js_tree::proofs::Views::view_property, crate::proofs::PlaceLemmas::places_property))]
-pub fn property(key: PropertyName, value: Expr) -> PropertyDefinition
-    ensures view { property_view result ≡ trees.value (key_view key) (expression_view value) }
-    ensures places { property_places result ≡ in_turn ((key_places key) ∷ plain (a kinds.Colon) ∷ (expression_places value) ∷ []) }
-    ensures height { height_of_property (property_view result) ≡ max (height_of_key (key_view key)) (height (expression_view value)) }
+pub fn property(key: Box<PropertyName>, value: Box<Expr>) -> PropertyDefinition
+    ensures view { property_view result ≡ trees.value (key_view key.value) (expression_view value.value) }
+    ensures places { property_places result ≡ in_turn ((key_places key.value) ∷ plain (a kinds.Colon) ∷ (expression_places value.value) ∷ []) }
+    ensures height { height_of_property (property_view result) ≡ max (height_of_key (key_view key.value)) (height (expression_view value.value)) }
 {
-    PropertyDefinition::Value { key, value }
+    PropertyDefinition::Value {
+        key: Box::into_inner(key),
+        value: Box::into_inner(value),
+    }
 }
 
 /// `key(parameters) { body }`.
 #[tactic(auto, using(js_tree::proofs::Views::view_method, crate::proofs::PlaceLemmas::places_method))]
-pub fn method(node: NodeId, key: PropertyName, parameters: Names, body: Stmts) -> PropertyDefinition
-    ensures view { property_view result ≡ trees.method (key_view key) parameters (statements_view body) }
-    ensures places { property_places result ≡ node_of node ((key_places key) ∷ plain (flat_parameters parameters) ∷ in_braces (statements_places body) ∷ []) }
-    ensures height { height_of_property (property_view result) ≡ suc (max (height_of_key (key_view key)) (height_of_statements (statements_view body))) }
+pub fn method(
+    node: NodeId,
+    key: Box<PropertyName>,
+    parameters: Names,
+    body: Stmts,
+) -> PropertyDefinition
+    ensures view { property_view result ≡ trees.method (key_view key.value) parameters (statements_view body) }
+    ensures places { property_places result ≡ node_of node ((key_places key.value) ∷ plain (flat_parameters parameters) ∷ in_braces (statements_places body) ∷ []) }
+    ensures height { height_of_property (property_view result) ≡ suc (max (height_of_key (key_view key.value)) (height_of_statements (statements_view body))) }
 {
     PropertyDefinition::Method {
         node,
-        key,
+        key: Box::into_inner(key),
         parameters,
         body,
     }
@@ -93,11 +111,14 @@ pub fn method(node: NodeId, key: PropertyName, parameters: Names, body: Stmts) -
 
 /// A declared name with its first value.
 #[tactic(auto, using(js_tree::proofs::Views::view_declarator, crate::proofs::PlaceLemmas::places_declarator))]
-pub fn declarator(name: Units, initializer: Option<Expr>) -> Declarator
-    ensures view { declarator_view result ≡ trees.declarator name (optional_view initializer) }
-    ensures places { declarator_places result ≡ plain (an_identifier name) ++ assign_if_some (option_map expression_places initializer) }
+pub fn declarator(name: Units, initializer: Option<Box<Expr>>) -> Declarator
+    ensures view { declarator_view result ≡ trees.declarator name (optional_view (unboxed initializer)) }
+    ensures places { declarator_places result ≡ plain (an_identifier name) ++ assign_if_some (option_map expression_places (unboxed initializer)) }
 {
-    Declarator { name, initializer }
+    Declarator {
+        name,
+        initializer: value_of(initializer),
+    }
 }
 
 /// `{ body }`.

@@ -10,12 +10,14 @@ ghost use Rattle.js_language.specs.Tokens.{identifier_name, numeric_literal, str
 ghost use Rattle.js_language.specs.Flat.{a, an_identifier, unary_kind, update_kind, binary_kind, assign_kind, flat_parameters, flat_arrow_parameters, flat_optional_name, flat_catch_parameter, flat_boolean, let_or_const};
 ghost use Rattle.js_tree.specs.Height.{height, height_of_expressions, height_of_statements, height_of_statement, height_of_optional, height_of_declarators, height_of_handler, height_of_finalizer, height_of_key, height_of_property};
 ghost use Rattle.js_tree.specs.Views.{parameters_view, optional_view, handler_view, finalizer_view, expressions, statements, properties, declarators, expression_view, property_view, key_view, statement_view, block_view, catch_view, declarator_view, declarators_view, expressions_view, properties_view, statements_view};
+ghost use Rattle.js_language.specs.Boxes.{unboxed};
 ghost use Rattle.js_language.specs.Places.{in_turn, plain, a_symbol, may_stand, node_of, in_braces, in_parentheses, with_commas, assign_if_some, optional_places, handler_places, finalizer_places, expression_places, property_places, key_places, statement_places, block_places, catch_places, declarator_places, declarators_places, expressions_places, properties_places, statements_places};
 
+use crate::expressions::value_of;
+use cdp_text::units::Units;
 use js_tree::names::Names;
 use js_tree::node::NodeId;
 use js_tree::tree::{Block, Catch, Declarators, Expr, Stmt, Stmts};
-use cdp_text::units::Units;
 use std::alloc::{AllocError, Global};
 
 /// A statement in memory of its own.
@@ -36,14 +38,14 @@ pub fn block_statement(block: Block) -> Stmt
 
 /// `if (test) consequent`.
 #[tactic(auto, using(js_tree::proofs::Views::view_if_then, crate::proofs::PlaceLemmas::places_if_then))]
-pub fn if_statement(node: NodeId, test: Expr, consequent: Box<Stmt>) -> Stmt
-    ensures view { statement_view result ≡ trees.if_then (expression_view test) (statement_view consequent.value) }
-    ensures places { statement_places result ≡ node_of node (plain (a kinds.If) ∷ in_parentheses (expression_places test) ∷ (statement_places consequent.value) ∷ []) }
-    ensures height { height_of_statement (statement_view result) ≡ suc (max (height (expression_view test)) (height_of_statement (statement_view consequent.value))) }
+pub fn if_statement(node: NodeId, test: Box<Expr>, consequent: Box<Stmt>) -> Stmt
+    ensures view { statement_view result ≡ trees.if_then (expression_view test.value) (statement_view consequent.value) }
+    ensures places { statement_places result ≡ node_of node (plain (a kinds.If) ∷ in_parentheses (expression_places test.value) ∷ (statement_places consequent.value) ∷ []) }
+    ensures height { height_of_statement (statement_view result) ≡ suc (max (height (expression_view test.value)) (height_of_statement (statement_view consequent.value))) }
 {
     Stmt::If {
         node,
-        test,
+        test: Box::into_inner(test),
         consequent,
         alternate: None,
     }
@@ -53,17 +55,17 @@ pub fn if_statement(node: NodeId, test: Expr, consequent: Box<Stmt>) -> Stmt
 #[tactic(auto, using(js_tree::proofs::Views::view_if_else, crate::proofs::PlaceLemmas::places_if_else))]
 pub fn if_else_statement(
     node: NodeId,
-    test: Expr,
+    test: Box<Expr>,
     consequent: Box<Stmt>,
     alternate: Box<Stmt>,
 ) -> Stmt
-    ensures view { statement_view result ≡ trees.if_else (expression_view test) (statement_view consequent.value) (statement_view alternate.value) }
-    ensures places { statement_places result ≡ node_of node (plain (a kinds.If) ∷ in_parentheses (expression_places test) ∷ (statement_places consequent.value) ∷ plain (a kinds.Else) ∷ (statement_places alternate.value) ∷ []) }
-    ensures height { height_of_statement (statement_view result) ≡ suc (max (height (expression_view test)) (max (height_of_statement (statement_view consequent.value)) (height_of_statement (statement_view alternate.value)))) }
+    ensures view { statement_view result ≡ trees.if_else (expression_view test.value) (statement_view consequent.value) (statement_view alternate.value) }
+    ensures places { statement_places result ≡ node_of node (plain (a kinds.If) ∷ in_parentheses (expression_places test.value) ∷ (statement_places consequent.value) ∷ plain (a kinds.Else) ∷ (statement_places alternate.value) ∷ []) }
+    ensures height { height_of_statement (statement_view result) ≡ suc (max (height (expression_view test.value)) (max (height_of_statement (statement_view consequent.value)) (height_of_statement (statement_view alternate.value)))) }
 {
     Stmt::If {
         node,
-        test,
+        test: Box::into_inner(test),
         consequent,
         alternate: Some(alternate),
     }
@@ -93,51 +95,62 @@ pub fn empty_statement(node: NodeId) -> Stmt
 
 /// `expression;`.
 #[tactic(auto, using(js_tree::proofs::Views::view_expression_statement, crate::proofs::PlaceLemmas::places_expression_statement))]
-pub fn expression_statement(node: NodeId, expression: Expr) -> Stmt
-    ensures view { statement_view result ≡ trees.expression (expression_view expression) }
-    ensures places { statement_places result ≡ node_of node ((expression_places expression) ∷ may_stand kinds.Semicolon ∷ []) }
+pub fn expression_statement(node: NodeId, expression: Box<Expr>) -> Stmt
+    ensures view { statement_view result ≡ trees.expression (expression_view expression.value) }
+    ensures places { statement_places result ≡ node_of node ((expression_places expression.value) ∷ may_stand kinds.Semicolon ∷ []) }
 {
-    Stmt::Expression { node, expression }
+    Stmt::Expression {
+        node,
+        expression: Box::into_inner(expression),
+    }
 }
 
 /// `do body while (test);`.
 #[tactic(auto, using(js_tree::proofs::Views::view_do_while_statement, crate::proofs::PlaceLemmas::places_do_while_statement))]
-pub fn do_while_statement(node: NodeId, body: Box<Stmt>, test: Expr) -> Stmt
-    ensures view { statement_view result ≡ trees.do_while (statement_view body.value) (expression_view test) }
-    ensures places { statement_places result ≡ node_of node (plain (a kinds.Do) ∷ (statement_places body.value) ∷ plain (a kinds.While) ∷ in_parentheses (expression_places test) ∷ may_stand kinds.Semicolon ∷ []) }
-    ensures height { height_of_statement (statement_view result) ≡ suc (max (height_of_statement (statement_view body.value)) (height (expression_view test))) }
+pub fn do_while_statement(node: NodeId, body: Box<Stmt>, test: Box<Expr>) -> Stmt
+    ensures view { statement_view result ≡ trees.do_while (statement_view body.value) (expression_view test.value) }
+    ensures places { statement_places result ≡ node_of node (plain (a kinds.Do) ∷ (statement_places body.value) ∷ plain (a kinds.While) ∷ in_parentheses (expression_places test.value) ∷ may_stand kinds.Semicolon ∷ []) }
+    ensures height { height_of_statement (statement_view result) ≡ suc (max (height_of_statement (statement_view body.value)) (height (expression_view test.value))) }
 {
-    Stmt::DoWhile { node, body, test }
+    Stmt::DoWhile {
+        node,
+        body,
+        test: Box::into_inner(test),
+    }
 }
 
 /// `while (test) body`.
 #[tactic(auto, using(js_tree::proofs::Views::view_while_statement, crate::proofs::PlaceLemmas::places_while_statement))]
-pub fn while_statement(node: NodeId, test: Expr, body: Box<Stmt>) -> Stmt
-    ensures view { statement_view result ≡ trees.while (expression_view test) (statement_view body.value) }
-    ensures places { statement_places result ≡ node_of node (plain (a kinds.While) ∷ in_parentheses (expression_places test) ∷ (statement_places body.value) ∷ []) }
-    ensures height { height_of_statement (statement_view result) ≡ suc (max (height (expression_view test)) (height_of_statement (statement_view body.value))) }
+pub fn while_statement(node: NodeId, test: Box<Expr>, body: Box<Stmt>) -> Stmt
+    ensures view { statement_view result ≡ trees.while (expression_view test.value) (statement_view body.value) }
+    ensures places { statement_places result ≡ node_of node (plain (a kinds.While) ∷ in_parentheses (expression_places test.value) ∷ (statement_places body.value) ∷ []) }
+    ensures height { height_of_statement (statement_view result) ≡ suc (max (height (expression_view test.value)) (height_of_statement (statement_view body.value))) }
 {
-    Stmt::While { node, test, body }
+    Stmt::While {
+        node,
+        test: Box::into_inner(test),
+        body,
+    }
 }
 
 /// `for (initializer; test; update) body`.
 #[tactic(auto, using(js_tree::proofs::Views::view_for_statement, crate::proofs::PlaceLemmas::places_for_statement))]
 pub fn for_statement(
     node: NodeId,
-    initializer: Option<Expr>,
-    test: Option<Expr>,
-    update: Option<Expr>,
+    initializer: Option<Box<Expr>>,
+    test: Option<Box<Expr>>,
+    update: Option<Box<Expr>>,
     body: Box<Stmt>,
 ) -> Stmt
-    ensures view { statement_view result ≡ trees.for (optional_view initializer) (optional_view test) (optional_view update) (statement_view body.value) }
-    ensures places { statement_places result ≡ node_of node (plain (a kinds.For) ∷ plain (a kinds.LeftParenthesis) ∷ (optional_places initializer) ∷ plain (a kinds.Semicolon) ∷ (optional_places test) ∷ plain (a kinds.Semicolon) ∷ (optional_places update) ∷ plain (a kinds.RightParenthesis) ∷ (statement_places body.value) ∷ []) }
-    ensures height { height_of_statement (statement_view result) ≡ suc (max (height_of_optional (optional_view initializer)) (max (height_of_optional (optional_view test)) (max (height_of_optional (optional_view update)) (height_of_statement (statement_view body.value))))) }
+    ensures view { statement_view result ≡ trees.for (optional_view (unboxed initializer)) (optional_view (unboxed test)) (optional_view (unboxed update)) (statement_view body.value) }
+    ensures places { statement_places result ≡ node_of node (plain (a kinds.For) ∷ plain (a kinds.LeftParenthesis) ∷ (optional_places (unboxed initializer)) ∷ plain (a kinds.Semicolon) ∷ (optional_places (unboxed test)) ∷ plain (a kinds.Semicolon) ∷ (optional_places (unboxed update)) ∷ plain (a kinds.RightParenthesis) ∷ (statement_places body.value) ∷ []) }
+    ensures height { height_of_statement (statement_view result) ≡ suc (max (height_of_optional (optional_view (unboxed initializer))) (max (height_of_optional (optional_view (unboxed test))) (max (height_of_optional (optional_view (unboxed update))) (height_of_statement (statement_view body.value))))) }
 {
     Stmt::For {
         node,
-        initializer,
-        test,
-        update,
+        initializer: value_of(initializer),
+        test: value_of(test),
+        update: value_of(update),
         body,
     }
 }
@@ -148,20 +161,20 @@ pub fn for_lexical_statement(
     node: NodeId,
     constant: bool,
     declarators: Declarators,
-    test: Option<Expr>,
-    update: Option<Expr>,
+    test: Option<Box<Expr>>,
+    update: Option<Box<Expr>>,
     body: Box<Stmt>,
 ) -> Stmt
-    ensures view { statement_view result ≡ trees.for_lexical constant (declarators_view declarators) (optional_view test) (optional_view update) (statement_view body.value) }
-    ensures places { statement_places result ≡ node_of node (plain (a kinds.For) ∷ plain (a kinds.LeftParenthesis) ∷ plain (let_or_const constant) ∷ (declarators_places declarators) ∷ plain (a kinds.Semicolon) ∷ (optional_places test) ∷ plain (a kinds.Semicolon) ∷ (optional_places update) ∷ plain (a kinds.RightParenthesis) ∷ (statement_places body.value) ∷ []) }
-    ensures height { height_of_statement (statement_view result) ≡ suc (max (height_of_declarators (declarators_view declarators)) (max (height_of_optional (optional_view test)) (max (height_of_optional (optional_view update)) (height_of_statement (statement_view body.value))))) }
+    ensures view { statement_view result ≡ trees.for_lexical constant (declarators_view declarators) (optional_view (unboxed test)) (optional_view (unboxed update)) (statement_view body.value) }
+    ensures places { statement_places result ≡ node_of node (plain (a kinds.For) ∷ plain (a kinds.LeftParenthesis) ∷ plain (let_or_const constant) ∷ (declarators_places declarators) ∷ plain (a kinds.Semicolon) ∷ (optional_places (unboxed test)) ∷ plain (a kinds.Semicolon) ∷ (optional_places (unboxed update)) ∷ plain (a kinds.RightParenthesis) ∷ (statement_places body.value) ∷ []) }
+    ensures height { height_of_statement (statement_view result) ≡ suc (max (height_of_declarators (declarators_view declarators)) (max (height_of_optional (optional_view (unboxed test))) (max (height_of_optional (optional_view (unboxed update))) (height_of_statement (statement_view body.value))))) }
 {
     Stmt::ForLexical {
         node,
         constant,
         declarators,
-        test,
-        update,
+        test: value_of(test),
+        update: value_of(update),
         body,
     }
 }
@@ -172,18 +185,18 @@ pub fn for_of_statement(
     node: NodeId,
     constant: bool,
     name: Units,
-    list: Expr,
+    list: Box<Expr>,
     body: Box<Stmt>,
 ) -> Stmt
-    ensures view { statement_view result ≡ trees.for_of constant name (expression_view list) (statement_view body.value) }
-    ensures places { statement_places result ≡ node_of node (plain (a kinds.For) ∷ plain (a kinds.LeftParenthesis) ∷ plain (let_or_const constant) ∷ plain (an_identifier name) ∷ plain (an_identifier (codes "of")) ∷ (expression_places list) ∷ plain (a kinds.RightParenthesis) ∷ (statement_places body.value) ∷ []) }
-    ensures height { height_of_statement (statement_view result) ≡ suc (max (height (expression_view list)) (height_of_statement (statement_view body.value))) }
+    ensures view { statement_view result ≡ trees.for_of constant name (expression_view list.value) (statement_view body.value) }
+    ensures places { statement_places result ≡ node_of node (plain (a kinds.For) ∷ plain (a kinds.LeftParenthesis) ∷ plain (let_or_const constant) ∷ plain (an_identifier name) ∷ plain (an_identifier (codes "of")) ∷ (expression_places list.value) ∷ plain (a kinds.RightParenthesis) ∷ (statement_places body.value) ∷ []) }
+    ensures height { height_of_statement (statement_view result) ≡ suc (max (height (expression_view list.value)) (height_of_statement (statement_view body.value))) }
 {
     Stmt::ForOf {
         node,
         constant,
         name,
-        list,
+        list: Box::into_inner(list),
         body,
     }
 }
@@ -208,20 +221,26 @@ pub fn break_statement(node: NodeId) -> Stmt
 
 /// `return value;`.
 #[tactic(auto, using(js_tree::proofs::Views::view_return_statement, crate::proofs::PlaceLemmas::places_return_statement))]
-pub fn return_statement(node: NodeId, value: Option<Expr>) -> Stmt
-    ensures view { statement_view result ≡ trees.return (optional_view value) }
-    ensures places { statement_places result ≡ node_of node (plain (a kinds.Return) ∷ (optional_places value) ∷ may_stand kinds.Semicolon ∷ []) }
+pub fn return_statement(node: NodeId, value: Option<Box<Expr>>) -> Stmt
+    ensures view { statement_view result ≡ trees.return (optional_view (unboxed value)) }
+    ensures places { statement_places result ≡ node_of node (plain (a kinds.Return) ∷ (optional_places (unboxed value)) ∷ may_stand kinds.Semicolon ∷ []) }
 {
-    Stmt::Return { node, value }
+    Stmt::Return {
+        node,
+        value: value_of(value),
+    }
 }
 
 /// `throw value;`.
 #[tactic(auto, using(js_tree::proofs::Views::view_throw_statement, crate::proofs::PlaceLemmas::places_throw_statement))]
-pub fn throw_statement(node: NodeId, value: Expr) -> Stmt
-    ensures view { statement_view result ≡ trees.throw (expression_view value) }
-    ensures places { statement_places result ≡ node_of node (plain (a kinds.Throw) ∷ (expression_places value) ∷ may_stand kinds.Semicolon ∷ []) }
+pub fn throw_statement(node: NodeId, value: Box<Expr>) -> Stmt
+    ensures view { statement_view result ≡ trees.throw (expression_view value.value) }
+    ensures places { statement_places result ≡ node_of node (plain (a kinds.Throw) ∷ (expression_places value.value) ∷ may_stand kinds.Semicolon ∷ []) }
 {
-    Stmt::Throw { node, value }
+    Stmt::Throw {
+        node,
+        value: Box::into_inner(value),
+    }
 }
 
 /// `try block catch (parameter) block finally block`.

@@ -15,6 +15,7 @@ ghost use Rattle.js_syntax.specs.Placed.{Placed};
 use js_descent::arrows::{arrow_of_one, arrow_rest};
 use js_descent::parsed::Parsed;
 use js_descent::primaries::function_at;
+use js_language::expressions::boxed;
 use js_lexer::token::Token;
 use js_syntax::classes::expressions::{Start, start_of};
 use js_syntax::fault::ParseError;
@@ -36,12 +37,15 @@ pub fn function_code_at<'t, 's>(
     tokens: &'t [Token<'s>],
 ) -> Parsed<'t, 's>
     requires { room < 203 }
-    ensures gives { Gives (λ x. (expression_view x.0, tokens_view x.2.now)) result (reading.function_code_by (below room) (start (head_of (tokens_view tokens.now))) (tokens_view tokens.now)) }
-    ensures deep { IfOk result (λ x. (x.1 ≡ height (expression_view x.0)) × (x.1 ≤ room + 1)) }
-    ensures placed { IfOk result (λ x. Placed true nodes.old nodes.new (expression_places x.0) (tokens_view tokens.now) (tokens_view x.2.now)) }
+    ensures gives { Gives (λ x. (expression_view x.0.value, tokens_view x.2.now)) result (reading.function_code_by (below room) (start (head_of (tokens_view tokens.now))) (tokens_view tokens.now)) }
+    ensures deep { IfOk result (λ x. (x.1 ≡ height (expression_view x.0.value)) × (x.1 ≤ room + 1)) }
+    ensures placed { IfOk result (λ x. Placed true nodes.old nodes.new (expression_places x.0.value) (tokens_view tokens.now) (tokens_view x.2.now)) }
 {
     match start_of(tokens) {
-        Start::Function => function_at(nodes, room, tokens, tail(tokens)),
+        Start::Function => {
+            let (tree, height, rest) = function_at(nodes, room, tokens, tail(tokens))?;
+            Ok((boxed(nodes.alloc(), tree)?, height, rest))
+        }
         Start::Name(_) => arrow_of_one(nodes, room, tokens),
         Start::Parenthesis => arrow_of_parameters(nodes, room, tokens),
         Start::This | Start::Number(_) | Start::String(_) | Start::Boolean(_) | Start::Null => {
@@ -60,9 +64,9 @@ fn arrow_of_parameters<'t, 's>(
     tokens: &'t [Token<'s>],
 ) -> Parsed<'t, 's>
     requires { room < 203 }
-    ensures gives { Gives (λ x. (expression_view x.0, tokens_view x.2.now)) result (reading.function_code_by (below room) parenthesis (tokens_view tokens.now)) }
-    ensures deep { IfOk result (λ x. (x.1 ≡ height (expression_view x.0)) × (x.1 ≤ room + 1)) }
-    ensures placed { IfOk result (λ x. Placed true nodes.old nodes.new (expression_places x.0) (tokens_view tokens.now) (tokens_view x.2.now)) }
+    ensures gives { Gives (λ x. (expression_view x.0.value, tokens_view x.2.now)) result (reading.function_code_by (below room) parenthesis (tokens_view tokens.now)) }
+    ensures deep { IfOk result (λ x. (x.1 ≡ height (expression_view x.0.value)) × (x.1 ≤ room + 1)) }
+    ensures placed { IfOk result (λ x. Placed true nodes.old nodes.new (expression_places x.0.value) (tokens_view tokens.now) (tokens_view x.2.now)) }
 {
     let (parameters, names, rest) = parameters_at(nodes.alloc(), tokens)?;
     arrow_rest(

@@ -36,7 +36,7 @@ pub fn expression_of(nodes: &mut Nodes, tokens: &[Token<'_>]) -> Result<(Expr, u
     if !rest.is_empty() {
         return Err(ParseError::Syntax { left: rest.len() });
     }
-    Ok((tree, height))
+    Ok((Box::into_inner(tree), height))
 }
 
 /// The function expression or arrow function that the tokens are, with its height.
@@ -52,7 +52,7 @@ pub fn function_of(nodes: &mut Nodes, tokens: &[Token<'_>]) -> Result<(Expr, u32
     if !rest.is_empty() {
         return Err(ParseError::Syntax { left: rest.len() });
     }
-    Ok((tree, height))
+    Ok((Box::into_inner(tree), height))
 }
 
 /// The statements of the script that the tokens are, behind scripts that declare these names, with their height.

@@ -1,7 +1,7 @@
 use Rattle.std.proofs.Common.{rules, ◌≡◌, ◌≤◌, ◌-◌, ℕ, zero, suc, List, refl, sym, ◌∙◌, arith, true, false, map}
 use Rattle.std.proofs.lemmas.Result.{err_from_is_err_and}
 use Rattle.js_lexer.specs.declared.token.TokenKind.TheVariants as kinds
-use Rattle.js_language.specs.Tokens.{Token, fixed, head_of, identifier, numeric_literal, string_literal}
+use Rattle.js_language.specs.Tokens.{Token, fixed, head_of}
 use Rattle.js_tree.specs.Trees.{Identifier}
 use Rattle.js_language.specs.Well.{Context}
 use Rattle.js_tree.specs.Views.{declarator_view, expression_view, parameters_view, statement_view}
@@ -19,13 +19,14 @@ use Rattle.js_syntax.specs.Context.{context_view}
 use Rattle.js_syntax.proofs.ListLemmas.{map_push as map_pushed, statements_begin, statements_go_on, statements_end, statements_fail, declarators_begin, declarators_go_on, declarators_shorten, declarators_end, declarators_fail}
 use Rattle.js_syntax.proofs.ShorterLemmas.{item_shorter}
 use Rattle.js_syntax.proofs.StatementLemmas.{expect_found, names_kept, no_finalizer}
-use Rattle.js_syntax.proofs.ClassLemmas.{first_function, first_lexical, first_semicolon, from_next, key_number, key_string, key_word, link_dot, prefix_delete, prefix_unary, prefix_update, start_boolean, start_brace, start_function, start_name, start_null, start_number, start_string, start_this, update_next}
+use Rattle.js_syntax.proofs.ClassLemmas.{first_function, first_lexical, first_semicolon, from_next, key_number, key_string, key_word, link_dot, prefix_delete, prefix_unary, prefix_update, start_brace, start_function, update_next}
 use Rattle.js_syntax.proofs.PlacedLemmas.{closed, closed_twice, loosely, nothing, then, then_both}
 use Rattle.js_syntax.proofs.PlacedLists.{element_last, element_more, elements_over, listed_more, other_more, turn_next}
 use Rattle.js_syntax.proofs.PlacedNames.{listed, parameters_placed}
-use Rattle.js_syntax.proofs.PlacedTokens.{boolean_places, ended_so, expected, expected_near, let_expected, let_here, named, named_freshly, named_so, symbol, tested, worded}
+use Rattle.js_syntax.proofs.PlacedTokens.{ended_so, expected, expected_near, let_expected, let_here, named, named_freshly, named_so, symbol, tested, worded}
 use Rattle.js_syntax.specs.Placed.{Placed}
 use Rattle.js_language.specs.Flat.{a, flat_arrow_parameters, flat_optional_name}
+use Rattle.js_language.specs.Boxes.{unboxed}
 use Rattle.js_language.specs.Places.{declarator_places, expression_places, optional_places, plain, property_places, statement_places}
 
 -- a block with room for it is read with one level less
@@ -54,17 +55,17 @@ lists::elements_before-elements-smaller t c = less_by_view c.elements.rest.now c
 pub lists::elements_before-elements-preserved : goal.lists::elements_before-elements-preserved
 lists::elements_before-elements-preserved t c = record {
   read = let g : after c.args.closer (head_of (tokens_view c.in_ok-item.later.now)) ≡ goes_on = search rules in
-      rw (c.in_ok-push.ensures.items, c.deeper-height.ensures, c.tail-rest.ensures) (elements_next c.args.room c.args.closer (tokens_view c.args.tokens.now) c.elements.items.items c.elements.height (tokens_view c.elements.rest.now) c.in_ok-item.item c.in_ok-item.item_height (tokens_view c.in_ok-item.later.now) c.elements.invariant.read (sym c.is_next.ensures ∙ c.if-is_next.false) c.in_ok-item.ensures.gives c.in_ok-item.ensures.deep.0 c.in_ok-item.ensures.deep.1 g);
-  placed = let g : after c.args.closer (head_of (tokens_view c.in_ok-item.later.now)) ≡ goes_on = search rules in rw (c.in_ok-push.ensures.items, map_pushed) (element_more c.args.closer (map expression_places c.elements.items.items) (expression_places c.in_ok-item.item) _ c.elements.invariant.placed c.in_ok-item.ensures.placed g c.tail-rest.ensures);
+      rw (c.in_ok-push.ensures.items, c.into_inner.ensures, c.deeper-height.ensures, c.tail-rest.ensures) (elements_next c.args.room c.args.closer (tokens_view c.args.tokens.now) c.elements.items.items c.elements.height (tokens_view c.elements.rest.now) c.in_ok-item.item.value c.in_ok-item.item_height (tokens_view c.in_ok-item.later.now) c.elements.invariant.read (sym c.is_next.ensures ∙ c.if-is_next.false) c.in_ok-item.ensures.gives c.in_ok-item.ensures.deep.0 c.in_ok-item.ensures.deep.1 g);
+  placed = let g : after c.args.closer (head_of (tokens_view c.in_ok-item.later.now)) ≡ goes_on = search rules in rw (c.in_ok-push.ensures.items, c.into_inner.ensures, map_pushed) (element_more c.args.closer (map expression_places c.elements.items.items) (expression_places c.in_ok-item.item.value) _ c.elements.invariant.placed c.in_ok-item.ensures.placed g c.tail-rest.ensures);
 }
 
 pub lists::elements_before-returns-in-Some-Ends-clause-gives : goal.lists::elements_before-returns-in-Some-Ends-clause-gives
 lists::elements_before-returns-in-Some-Ends-clause-gives t c =
     let g : after c.args.closer (head_of (tokens_view c.in_ok-item.later.now)) ≡ ends = search rules in
-    rw (c.in_ok-push.ensures.items, map_push, c.tail-in-Some-Ends.ensures) (elements_end (one_of (below c.args.room).assignment) no_state c.args.closer _ _ tt _ _ _ c.elements.invariant.read.reads (sym c.is_next.ensures ∙ c.if-is_next.false) c.in_ok-item.ensures.gives g)
+    rw (c.in_ok-push.ensures.items, c.into_inner.ensures, map_push, c.tail-in-Some-Ends.ensures) (elements_end (one_of (below c.args.room).assignment) no_state c.args.closer _ _ tt _ _ _ c.elements.invariant.read.reads (sym c.is_next.ensures ∙ c.if-is_next.false) c.in_ok-item.ensures.gives g)
 
 pub lists::elements_before-returns-in-Some-Ends-clause-deep : goal.lists::elements_before-returns-in-Some-Ends-clause-deep
-lists::elements_before-returns-in-Some-Ends-clause-deep t c = rw (c.in_ok-push.ensures.items, c.deeper-height.ensures) (last_height c.elements.items.items c.in_ok-item.item c.elements.height c.in_ok-item.item_height c.elements.invariant.read.deep c.in_ok-item.ensures.deep.0, omega (arith, c.elements.invariant.read.low, c.in_ok-item.ensures.deep.1))
+lists::elements_before-returns-in-Some-Ends-clause-deep t c = rw (c.in_ok-push.ensures.items, c.into_inner.ensures, c.deeper-height.ensures) (last_height c.elements.items.items c.in_ok-item.item.value c.elements.height c.in_ok-item.item_height c.elements.invariant.read.deep c.in_ok-item.ensures.deep.0, omega (arith, c.elements.invariant.read.low, c.in_ok-item.ensures.deep.1))
 
 pub lists::elements_before-returns-in-None-clause-gives : goal.lists::elements_before-returns-in-None-clause-gives
 lists::elements_before-returns-in-None-clause-gives t c = rw (← length_view c.in_ok-item.later.now) (elements_stop (one_of (below c.args.room).assignment) no_state c.args.closer _ _ tt _ _ _ c.elements.invariant.read.reads (sym c.is_next.ensures ∙ c.if-is_next.false) c.in_ok-item.ensures.gives (sym c.in-None.ensures))
@@ -123,24 +124,24 @@ lists::more_assignments-others-smaller t c = others_smaller c.args.room c.others
 
 pub lists::more_assignments-others-preserved : goal.lists::more_assignments-others-preserved
 lists::more_assignments-others-preserved t c = record {
-  read = rw (c.in_ok-push.ensures.items, c.deeper-height.ensures) (others_next c.args.room (tokens_view c.args.tokens.now) c.others.items.items c.others.height (tokens_view c.others.rest.now) c.in_ok-item.item c.in_ok-item.item_height (tokens_view c.in_ok-item.later.now) c.others.invariant.read (sym c.is_next.ensures ∙ c.if-not-is_next.false) (rw c.tail.ensures at c.in_ok-item.ensures.gives) c.in_ok-item.ensures.deep.0 c.in_ok-item.ensures.deep.1);
-  placed = rw (c.in_ok-push.ensures.items, map_pushed) (other_more (map expression_places c.others.items.items) (expression_places c.in_ok-item.item) _ c.others.invariant.placed (sym c.is_next.ensures ∙ c.if-not-is_next.false) c.tail.ensures c.in_ok-item.ensures.placed);
+  read = rw (c.in_ok-push.ensures.items, c.into_inner.ensures, c.deeper-height.ensures) (others_next c.args.room (tokens_view c.args.tokens.now) c.others.items.items c.others.height (tokens_view c.others.rest.now) c.in_ok-item.item.value c.in_ok-item.item_height (tokens_view c.in_ok-item.later.now) c.others.invariant.read (sym c.is_next.ensures ∙ c.if-not-is_next.false) (rw c.tail.ensures at c.in_ok-item.ensures.gives) c.in_ok-item.ensures.deep.0 c.in_ok-item.ensures.deep.1);
+  placed = rw (c.in_ok-push.ensures.items, c.into_inner.ensures, map_pushed) (other_more (map expression_places c.others.items.items) (expression_places c.in_ok-item.item.value) _ c.others.invariant.placed (sym c.is_next.ensures ∙ c.if-not-is_next.false) c.tail.ensures c.in_ok-item.ensures.placed);
 }
 
 pub calls::links_at-returns-then-object_height-room-clause-gives : goal.calls::links_at-returns-then-object_height-room-clause-gives
-calls::links_at-returns-then-object_height-room-clause-gives t c = rw (← length_view c.tail.result.now, c.tail.ensures) (links_deep (below c.args.room) c.args.room c.args.turns (expression_view c.args.object) c.in-Some.link (tokens_view c.args.tokens.now) c.in-Some.ensures (omega arith) (omega arith))
+calls::links_at-returns-then-object_height-room-clause-gives t c = rw (← length_view c.tail.result.now, c.tail.ensures) (links_deep (below c.args.room) c.args.room c.args.turns (expression_view c.args.object.value) c.in-Some.link (tokens_view c.args.tokens.now) c.in-Some.ensures (omega arith) (omega arith))
 
 pub calls::links_at-returns-clause-gives : goal.calls::links_at-returns-clause-gives
-calls::links_at-returns-clause-gives t c = rw (links_more (below c.args.room) c.args.room c.args.turns (expression_view c.args.object) (expression_view c.in_ok-tree.tree) c.in-Some.link (tokens_view c.args.tokens.now) (tokens_view c.in_ok-tree.rest.now) c.in-Some.ensures (omega arith) c.in_ok-tree.ensures.gives (omega arith)) c.links_at.ensures.gives
+calls::links_at-returns-clause-gives t c = rw (links_more (below c.args.room) c.args.room c.args.turns (expression_view c.args.object.value) (expression_view c.in_ok-tree.tree.value) c.in-Some.link (tokens_view c.args.tokens.now) (tokens_view c.in_ok-tree.rest.now) c.in-Some.ensures (omega arith) c.in_ok-tree.ensures.gives (omega arith)) c.links_at.ensures.gives
 
 pub operators::chain_at-returns-then-left_height-room-clause-gives : goal.operators::chain_at-returns-then-left_height-room-clause-gives
-operators::chain_at-returns-then-left_height-room-clause-gives t c = rw (← length_view c.tail.result.now, c.tail.ensures) (chain_deep (below c.args.room) c.args.room c.args.least c.args.turns (expression_view c.args.left) c.in-Some.operator (tokens_view c.args.tokens.now) c.in-Some.ensures (omega arith) (omega arith))
+operators::chain_at-returns-then-left_height-room-clause-gives t c = rw (← length_view c.tail.result.now, c.tail.ensures) (chain_deep (below c.args.room) c.args.room c.args.least c.args.turns (expression_view c.args.left.value) c.in-Some.operator (tokens_view c.args.tokens.now) c.in-Some.ensures (omega arith) (omega arith))
 
 pub operators::chain_at-returns-clause-gives : goal.operators::chain_at-returns-clause-gives
 operators::chain_at-returns-clause-gives t c =
     let o = rw (c.above.ensures, c.tail-2.ensures) at c.in_ok-right.ensures.gives in
     let g = rw c.in_ok-joined.ensures.view at c.chain_at.ensures.gives in
-    rw (chain_more (below c.args.room) c.args.room c.args.least c.args.turns (expression_view c.args.left) (expression_view c.in_ok-right.right) c.in-Some.operator (tokens_view c.args.tokens.now) (tokens_view c.in_ok-right.rest.now) c.in-Some.ensures (omega arith) o (omega arith)) g
+    rw (chain_more (below c.args.room) c.args.room c.args.least c.args.turns (expression_view c.args.left.value) (expression_view c.in_ok-right.right.value) c.in-Some.operator (tokens_view c.args.tokens.now) (tokens_view c.in_ok-right.rest.now) c.in-Some.ensures (omega arith) o (omega arith)) g
 
 pub blocks::items_at-returns-in_err-item-clause-gives : goal.blocks::items_at-returns-in_err-item-clause-gives
 blocks::items_at-returns-in_err-item-clause-gives t c =
@@ -222,10 +223,10 @@ pub statements::return_at-returns-clause-placed : goal.statements::return_at-ret
 statements::return_at-returns-clause-placed t c = closed _ (then (expected _ _ _ _ c.in_ok-rest.ensures) c.in_ok-value.ensures.placed) c.in_ok-node-2.ensures.span c.in_ok-node-2.ensures.number c.return_statement-2.ensures.places
 
 pub statements::if_at-returns-then-is_next-clause-placed : goal.statements::if_at-returns-then-is_next-clause-placed
-statements::if_at-returns-then-is_next-clause-placed t c = closed _ (then (expected _ _ _ _ c.in_ok-rest.ensures) (then (then (expected _ _ _ _ c.in_ok-rest-2.ensures) (then c.in_ok-test.ensures.placed (expected _ _ _ _ c.in_ok-rest-3.ensures))) (then c.in_ok-consequent.ensures.placed (then (tested _ _ _ _ (sym c.is_next.ensures ∙ c.if-is_next.true) c.tail.ensures) (then c.in_ok-alternate.ensures.placed nothing))))) c.in_ok-node.ensures.span c.in_ok-node.ensures.number (rw (c.in_ok-consequent-2.ensures, c.in_ok-alternate-2.ensures) at c.if_else_statement-tree.ensures.places)
+statements::if_at-returns-then-is_next-clause-placed t c = closed _ (then (expected _ _ _ _ c.in_ok-rest.ensures) (then (then (expected _ _ _ _ c.in_ok-rest-2.ensures) (then c.in_ok-test.ensures.placed (expected _ _ _ _ c.in_ok-rest-3.ensures))) (then c.in_ok-consequent.ensures.placed (then (tested _ _ _ _ (sym c.is_next.ensures ∙ c.if-is_next.true) c.tail.ensures) (then c.in_ok-alternate.ensures.placed nothing))))) c.in_ok-node.ensures.span c.in_ok-node.ensures.number c.if_else_statement-tree.ensures.places
 
 pub statements::if_at-returns-clause-placed : goal.statements::if_at-returns-clause-placed
-statements::if_at-returns-clause-placed t c = closed _ (then (expected _ _ _ _ c.in_ok-rest.ensures) (then (then (expected _ _ _ _ c.in_ok-rest-2.ensures) (then c.in_ok-test.ensures.placed (expected _ _ _ _ c.in_ok-rest-3.ensures))) (then c.in_ok-consequent.ensures.placed nothing))) c.in_ok-node-2.ensures.span c.in_ok-node-2.ensures.number (rw c.in_ok-consequent-3.ensures at c.if_statement-tree.ensures.places)
+statements::if_at-returns-clause-placed t c = closed _ (then (expected _ _ _ _ c.in_ok-rest.ensures) (then (then (expected _ _ _ _ c.in_ok-rest-2.ensures) (then c.in_ok-test.ensures.placed (expected _ _ _ _ c.in_ok-rest-3.ensures))) (then c.in_ok-consequent.ensures.placed nothing))) c.in_ok-node-2.ensures.span c.in_ok-node-2.ensures.number c.if_statement-tree.ensures.places
 
 pub statements::block_at-returns-clause-placed : goal.statements::block_at-returns-clause-placed
 statements::block_at-returns-clause-placed t c = closed _ (then c.in_ok-body.ensures.placed nothing) c.in_ok-node.ensures.span c.in_ok-node.ensures.number (c.block_statement.ensures.places ∙ c.block.ensures.places)
@@ -246,7 +247,7 @@ pub statements::throw_at-returns-clause-placed : goal.statements::throw_at-retur
 statements::throw_at-returns-clause-placed t c = closed _ (then (expected _ _ _ _ c.in_ok-rest.ensures) c.in_ok-value.ensures.placed) c.in_ok-node.ensures.span c.in_ok-node.ensures.number c.throw_statement.ensures.places
 
 pub statements::statement_below-returns-clause-placed : goal.statements::statement_below-returns-clause-placed
-statements::statement_below-returns-clause-placed t c = c.statement_at.ensures.placed
+statements::statement_below-returns-clause-placed t c = rw c.in_ok-boxed.ensures c.in_ok-tree.ensures.placed
 
 pub statements::statement_at-returns-in_ok-node-in-Semicolon-clause-placed : goal.statements::statement_at-returns-in_ok-node-in-Semicolon-clause-placed
 statements::statement_at-returns-in_ok-node-in-Semicolon-clause-placed t c = rw c.empty_statement.ensures.places (c.in_ok-node-in-Semicolon.ensures.placed (fixed kinds.Semicolon) (first_semicolon _ (sym c.in-Semicolon.ensures)))
@@ -288,10 +289,10 @@ pub statements::statement_at-returns-in-Expression-clause-placed : goal.statemen
 statements::statement_at-returns-in-Expression-clause-placed t c = c.expression_statement_at.ensures.placed
 
 pub loops::do_at-returns-clause-placed : goal.loops::do_at-returns-clause-placed
-loops::do_at-returns-clause-placed t c = closed _ (then (expected _ _ _ _ c.in_ok-rest.ensures) (then c.in_ok-body.ensures.placed (then (expected _ _ _ _ c.in_ok-rest-2.ensures) (then (then (expected _ _ _ _ c.in_ok-rest-3.ensures) (then c.in_ok-test.ensures.placed (expected _ _ _ _ c.in_ok-rest-4.ensures))) (ended_so _ _ _ _ c.in_ok-rest-5.ensures))))) c.in_ok-node.ensures.span c.in_ok-node.ensures.number (rw c.in_ok-boxed.ensures at c.do_while_statement-tree.ensures.places)
+loops::do_at-returns-clause-placed t c = closed _ (then (expected _ _ _ _ c.in_ok-rest.ensures) (then c.in_ok-body.ensures.placed (then (expected _ _ _ _ c.in_ok-rest-2.ensures) (then (then (expected _ _ _ _ c.in_ok-rest-3.ensures) (then c.in_ok-test.ensures.placed (expected _ _ _ _ c.in_ok-rest-4.ensures))) (ended_so _ _ _ _ c.in_ok-rest-5.ensures))))) c.in_ok-node.ensures.span c.in_ok-node.ensures.number c.do_while_statement-tree.ensures.places
 
 pub loops::while_at-returns-clause-placed : goal.loops::while_at-returns-clause-placed
-loops::while_at-returns-clause-placed t c = closed _ (then (expected _ _ _ _ c.in_ok-rest.ensures) (then (then (expected _ _ _ _ c.in_ok-rest-2.ensures) (then c.in_ok-test.ensures.placed (expected _ _ _ _ c.in_ok-rest-3.ensures))) (then c.in_ok-body.ensures.placed nothing))) c.in_ok-node.ensures.span c.in_ok-node.ensures.number (rw c.in_ok-boxed.ensures at c.while_statement-tree.ensures.places)
+loops::while_at-returns-clause-placed t c = closed _ (then (expected _ _ _ _ c.in_ok-rest.ensures) (then (then (expected _ _ _ _ c.in_ok-rest-2.ensures) (then c.in_ok-test.ensures.placed (expected _ _ _ _ c.in_ok-rest-3.ensures))) (then c.in_ok-body.ensures.placed nothing))) c.in_ok-node.ensures.span c.in_ok-node.ensures.number c.while_statement-tree.ensures.places
 
 pub loops::for_at-returns-in-Some-Each-clause-placed : goal.loops::for_at-returns-in-Some-Each-clause-placed
 loops::for_at-returns-in-Some-Each-clause-placed t c = c.for_of_at.ensures.placed
@@ -303,13 +304,13 @@ pub loops::for_at-returns-in-None-clause-placed : goal.loops::for_at-returns-in-
 loops::for_at-returns-in-None-clause-placed t c = c.for_plain_at.ensures.placed
 
 pub loops::for_of_at-returns-clause-placed : goal.loops::for_of_at-returns-clause-placed
-loops::for_of_at-returns-clause-placed t c = closed _ (then (expected _ _ _ _ c.in_ok-rest.ensures) (then (expected _ _ _ _ c.in_ok-rest-2.ensures) (then (let_expected _ _ _ _ (rw c.let_kind.ensures at c.in_ok-rest-3.ensures)) (then (named _ _ _ _ c.in_ok-text.ensures) (then (named_so _ _ _ _ c.in_ok-rest-4.ensures) (then c.in_ok-list.ensures.placed (then (expected _ _ _ _ c.in_ok-rest-5.ensures) (then c.in_ok-body.ensures.placed nothing)))))))) c.in_ok-node.ensures.span c.in_ok-node.ensures.number (rw (c.in_ok-name.ensures, c.in_ok-boxed.ensures) at c.for_of_statement-tree.ensures.places)
+loops::for_of_at-returns-clause-placed t c = closed _ (then (expected _ _ _ _ c.in_ok-rest.ensures) (then (expected _ _ _ _ c.in_ok-rest-2.ensures) (then (let_expected _ _ _ _ (rw c.let_kind.ensures at c.in_ok-rest-3.ensures)) (then (named _ _ _ _ c.in_ok-text.ensures) (then (named_so _ _ _ _ c.in_ok-rest-4.ensures) (then c.in_ok-list.ensures.placed (then (expected _ _ _ _ c.in_ok-rest-5.ensures) (then c.in_ok-body.ensures.placed nothing)))))))) c.in_ok-node.ensures.span c.in_ok-node.ensures.number (rw c.in_ok-name.ensures at c.for_of_statement-tree.ensures.places)
 
 pub loops::for_plain_at-returns-clause-placed : goal.loops::for_plain_at-returns-clause-placed
-loops::for_plain_at-returns-clause-placed t c = closed _ (then (expected _ _ _ _ c.in_ok-rest.ensures) (then (expected _ _ _ _ c.in_ok-rest-2.ensures) (then_both (optional_places c.in_ok-initializer.initializer) (plain (a kinds.Semicolon)) c.in_ok-initializer.ensures.placed (then_both (optional_places c.in_ok-test.test) (plain (a kinds.Semicolon)) c.in_ok-test.ensures.placed (then_both (optional_places c.in_ok-update.update) (plain (a kinds.RightParenthesis)) c.in_ok-update.ensures.placed (then c.in_ok-body.ensures.placed nothing)))))) c.in_ok-node.ensures.span c.in_ok-node.ensures.number (rw c.in_ok-body-2.ensures at c.for_statement-tree.ensures.places)
+loops::for_plain_at-returns-clause-placed t c = closed _ (then (expected _ _ _ _ c.in_ok-rest.ensures) (then (expected _ _ _ _ c.in_ok-rest-2.ensures) (then_both (optional_places (unboxed c.in_ok-initializer.initializer)) (plain (a kinds.Semicolon)) c.in_ok-initializer.ensures.placed (then_both (optional_places (unboxed c.in_ok-test.test)) (plain (a kinds.Semicolon)) c.in_ok-test.ensures.placed (then_both (optional_places (unboxed c.in_ok-update.update)) (plain (a kinds.RightParenthesis)) c.in_ok-update.ensures.placed (then c.in_ok-body.ensures.placed nothing)))))) c.in_ok-node.ensures.span c.in_ok-node.ensures.number c.for_statement-tree.ensures.places
 
 pub loops::for_lexical_at-returns-clause-placed : goal.loops::for_lexical_at-returns-clause-placed
-loops::for_lexical_at-returns-clause-placed t c = closed _ (then (expected _ _ _ _ c.in_ok-rest.ensures) (then (expected _ _ _ _ c.in_ok-rest-2.ensures) (then (let_expected _ _ _ _ (rw c.let_kind.ensures at c.in_ok-rest-3.ensures)) (then c.in_ok-declarators.ensures.placed (then (expected _ _ _ _ c.in_ok-rest-4.ensures) (then_both (optional_places c.in_ok-test.test) (plain (a kinds.Semicolon)) c.in_ok-test.ensures.placed (then_both (optional_places c.in_ok-update.update) (plain (a kinds.RightParenthesis)) c.in_ok-update.ensures.placed (then c.in_ok-body.ensures.placed nothing)))))))) c.in_ok-node.ensures.span c.in_ok-node.ensures.number (rw c.in_ok-body-2.ensures at c.for_lexical_statement-tree.ensures.places)
+loops::for_lexical_at-returns-clause-placed t c = closed _ (then (expected _ _ _ _ c.in_ok-rest.ensures) (then (expected _ _ _ _ c.in_ok-rest-2.ensures) (then (let_expected _ _ _ _ (rw c.let_kind.ensures at c.in_ok-rest-3.ensures)) (then c.in_ok-declarators.ensures.placed (then (expected _ _ _ _ c.in_ok-rest-4.ensures) (then_both (optional_places (unboxed c.in_ok-test.test)) (plain (a kinds.Semicolon)) c.in_ok-test.ensures.placed (then_both (optional_places (unboxed c.in_ok-update.update)) (plain (a kinds.RightParenthesis)) c.in_ok-update.ensures.placed (then c.in_ok-body.ensures.placed nothing)))))))) c.in_ok-node.ensures.span c.in_ok-node.ensures.number c.for_lexical_statement-tree.ensures.places
 
 pub exceptions::try_at-returns-clause-placed : goal.exceptions::try_at-returns-clause-placed
 exceptions::try_at-returns-clause-placed t c = closed _ (then (expected _ _ _ _ c.in_ok-rest.ensures) (then c.in_ok-block.ensures.placed (then c.in_ok-handler.ensures.placed (then c.in_ok-finalizer.ensures.placed nothing)))) c.in_ok-node.ensures.span c.in_ok-node.ensures.number c.try_statement-tree.ensures.places
@@ -405,13 +406,13 @@ pub arrows::arrow_rest-returns-clause-placed : goal.arrows::arrow_rest-returns-c
 arrows::arrow_rest-returns-clause-placed t c = λ old p. closed _ (then p (then (expected_near _ _ _ _ c.in_ok-rest.ensures) (then c.in_ok-body.ensures.placed nothing))) c.in_ok-node.ensures.span c.in_ok-node.ensures.number c.in_ok-tree.ensures.places
 
 pub arrows::arrow_block_at-returns-clause-placed : goal.arrows::arrow_block_at-returns-clause-placed
-arrows::arrow_block_at-returns-clause-placed t c = λ old p. closed _ (then_both (plain (flat_arrow_parameters (parameters_view c.args.parameters))) (plain (a kinds.Arrow)) p (then c.in_ok-body.ensures.placed nothing)) c.in_ok-node.ensures.span c.in_ok-node.ensures.number c.arrow_block.ensures.places
+arrows::arrow_block_at-returns-clause-placed t c = λ old p. closed _ (then_both (plain (flat_arrow_parameters (parameters_view c.args.parameters))) (plain (a kinds.Arrow)) p (then c.in_ok-body.ensures.placed nothing)) c.in_ok-node.ensures.span c.in_ok-node.ensures.number c.in_ok-tree.ensures.places
 
 pub calls::call_below-returns-clause-placed : goal.calls::call_below-returns-clause-placed
 calls::call_below-returns-clause-placed t c = c.call_at.ensures.placed
 
 pub calls::call_at-returns-clause-placed : goal.calls::call_at-returns-clause-placed
-calls::call_at-returns-clause-placed t c = c.links_at.ensures.placed c.args.nodes.now c.in_ok-callee.ensures.placed
+calls::call_at-returns-clause-placed t c = c.links_at.ensures.placed c.args.nodes.now (rw c.in_ok-callee-2.ensures c.in_ok-callee.ensures.placed)
 
 pub calls::links_at-returns-in_default-clause-placed : goal.calls::links_at-returns-in_default-clause-placed
 calls::links_at-returns-in_default-clause-placed t c = λ old p. p
@@ -447,7 +448,7 @@ pub expressions::expression_at-returns-else-is_next-clause-placed : goal.express
 expressions::expression_at-returns-else-is_next-clause-placed t c = c.in_ok-first.ensures.placed
 
 pub expressions::comma_at-returns-clause-placed : goal.expressions::comma_at-returns-clause-placed
-expressions::comma_at-returns-clause-placed t c = λ old p. closed _ (then (then p c.in_ok-items.ensures.placed) nothing) c.in_ok-node.ensures.span c.in_ok-node.ensures.number (rw (c.expressions_of.ensures.places, c.in_ok-insert.ensures.items) at c.comma-tree.ensures.places)
+expressions::comma_at-returns-clause-placed t c = λ old p. closed _ (then (then p c.in_ok-items.ensures.placed) nothing) c.in_ok-node.ensures.span c.in_ok-node.ensures.number (rw (c.expressions_of.ensures.places, c.in_ok-insert.ensures.items, c.into_inner.ensures) at c.in_ok-tree.ensures.places)
 
 pub expressions::assignment_at-returns-in-Some-Name-clause-placed : goal.expressions::assignment_at-returns-in-Some-Name-clause-placed
 expressions::assignment_at-returns-in-Some-Name-clause-placed t c = c.arrow_of_one.ensures.placed
@@ -477,7 +478,7 @@ pub lists::elements_before-returns-then-is_next-clause-placed : goal.lists::elem
 lists::elements_before-returns-then-is_next-clause-placed t c = λ apart. elements_over c.args.closer (map expression_places c.elements.items.items) _ c.elements.invariant.placed (sym c.is_next.ensures ∙ c.if-is_next.true) c.tail.ensures apart
 
 pub lists::elements_before-returns-in-Some-Ends-clause-placed : goal.lists::elements_before-returns-in-Some-Ends-clause-placed
-lists::elements_before-returns-in-Some-Ends-clause-placed t c = λ apart. let g : after c.args.closer (head_of (tokens_view c.in_ok-item.later.now)) ≡ ends = search rules in rw (c.in_ok-push.ensures.items, map_pushed) (element_last c.args.closer (map expression_places c.elements.items.items) (expression_places c.in_ok-item.item) _ c.elements.invariant.placed c.in_ok-item.ensures.placed g c.tail-in-Some-Ends.ensures apart)
+lists::elements_before-returns-in-Some-Ends-clause-placed t c = λ apart. let g : after c.args.closer (head_of (tokens_view c.in_ok-item.later.now)) ≡ ends = search rules in rw (c.in_ok-push.ensures.items, c.into_inner.ensures, map_pushed) (element_last c.args.closer (map expression_places c.elements.items.items) (expression_places c.in_ok-item.item.value) _ c.elements.invariant.placed c.in_ok-item.ensures.placed g c.tail-in-Some-Ends.ensures apart)
 
 pub objects::members_before-returns-then-is_next-clause-placed : goal.objects::members_before-returns-then-is_next-clause-placed
 objects::members_before-returns-then-is_next-clause-placed t c = elements_over kinds.RightBrace (map property_places c.members.members.items) _ c.members.invariant.placed (sym c.is_next.ensures ∙ c.if-is_next.true) c.tail.ensures refl
@@ -498,10 +499,10 @@ pub objects::property_at-returns-then-is_shorthand-clause-placed : goal.objects:
 objects::property_at-returns-then-is_shorthand-clause-placed t c = rw (c.shorthand_property.ensures.places, c.in_ok-name.ensures) (named _ _ _ _ c.in_ok-text.ensures)
 
 pub objects::property_at-returns-in-Some-Colon-clause-placed : goal.objects::property_at-returns-in-Some-Colon-clause-placed
-objects::property_at-returns-in-Some-Colon-clause-placed t c = c.valued_at.ensures.placed c.args.nodes.now _ c.in_ok-key.ensures.placed
+objects::property_at-returns-in-Some-Colon-clause-placed t c = c.valued_at.ensures.placed c.args.nodes.now _ (rw c.in_ok-key-2.ensures c.in_ok-key.ensures.placed)
 
 pub objects::property_at-returns-in-Some-Parameters-clause-placed : goal.objects::property_at-returns-in-Some-Parameters-clause-placed
-objects::property_at-returns-in-Some-Parameters-clause-placed t c = c.method_at.ensures.placed c.args.nodes.now c.in_ok-key.ensures.placed
+objects::property_at-returns-in-Some-Parameters-clause-placed t c = c.method_at.ensures.placed c.args.nodes.now (rw c.in_ok-key-2.ensures c.in_ok-key.ensures.placed)
 
 pub objects::valued_at-returns-clause-placed : goal.objects::valued_at-returns-clause-placed
 objects::valued_at-returns-clause-placed t c = λ old ts p. rw c.property.ensures.places (then p (then (expected _ _ _ _ c.in_ok-rest.ensures) (then c.in_ok-value.ensures.placed nothing)))
@@ -560,24 +561,6 @@ operators::postfix_at-returns-in_default-clause-placed t c = c.in_ok-operand.ens
 pub operators::postfix_at-returns-clause-placed : goal.operators::postfix_at-returns-clause-placed
 operators::postfix_at-returns-clause-placed t c = closed _ (then c.in_ok-operand.ensures.placed (symbol _ _ _ _ (update_next _ _ (sym c.in-Some.ensures)) c.tail-after.ensures)) c.in_ok-node.ensures.span c.in_ok-node.ensures.number c.in_ok-tree.ensures.places
 
-pub primaries::primary_at-returns-in_ok-node-in-This-clause-placed : goal.primaries::primary_at-returns-in_ok-node-in-This-clause-placed
-primaries::primary_at-returns-in_ok-node-in-This-clause-placed t c = rw c.this.ensures.places (c.in_ok-node-in-This.ensures.placed (fixed kinds.This) (start_this _ (sym c.in-This.ensures)))
-
-pub primaries::primary_at-returns-in_ok-from_slice-in-Name-clause-placed : goal.primaries::primary_at-returns-in_ok-from_slice-in-Name-clause-placed
-primaries::primary_at-returns-in_ok-from_slice-in-Name-clause-placed t c = rw (c.name.ensures.places, c.in_ok-from_slice-in-Name.ensures) (c.in_ok-node-in-Name.ensures.placed (identifier c.in-Name.text.now) (start_name _ _ (sym c.in-Name.ensures)))
-
-pub primaries::primary_at-returns-in_ok-node-in-Number-clause-placed : goal.primaries::primary_at-returns-in_ok-node-in-Number-clause-placed
-primaries::primary_at-returns-in_ok-node-in-Number-clause-placed t c = rw c.number.ensures.places (c.in_ok-node-in-Number.ensures.placed (numeric_literal c.in-Number.value.value) (start_number _ _ (sym c.in-Number.ensures)))
-
-pub primaries::primary_at-returns-in_ok-string_value-in-String-clause-placed : goal.primaries::primary_at-returns-in_ok-string_value-in-String-clause-placed
-primaries::primary_at-returns-in_ok-string_value-in-String-clause-placed t c = rw (c.string.ensures.places, c.in_ok-string_value-in-String.ensures.value) (c.in_ok-node-in-String.ensures.placed (string_literal _) (start_string _ _ (sym c.in-String.ensures)))
-
-pub primaries::primary_at-returns-in_ok-node-in-Boolean-clause-placed : goal.primaries::primary_at-returns-in_ok-node-in-Boolean-clause-placed
-primaries::primary_at-returns-in_ok-node-in-Boolean-clause-placed t c = rw (c.boolean.ensures.places, boolean_places c.in-Boolean.value) (c.in_ok-node-in-Boolean.ensures.placed (fixed _) (start_boolean _ _ (sym c.in-Boolean.ensures)))
-
-pub primaries::primary_at-returns-in_ok-node-in-Null-clause-placed : goal.primaries::primary_at-returns-in_ok-node-in-Null-clause-placed
-primaries::primary_at-returns-in_ok-node-in-Null-clause-placed t c = rw c.null.ensures.places (c.in_ok-node-in-Null.ensures.placed (fixed kinds.Null) (start_null _ (sym c.in-Null.ensures)))
-
 pub primaries::primary_at-returns-in-Bracket-clause-placed : goal.primaries::primary_at-returns-in-Bracket-clause-placed
 primaries::primary_at-returns-in-Bracket-clause-placed t c = c.array_at.ensures.placed
 
@@ -590,8 +573,14 @@ primaries::primary_at-returns-in-Brace-clause-placed t c = c.object_at.ensures.p
 pub primaries::primary_at-returns-in-Function-clause-placed : goal.primaries::primary_at-returns-in-Function-clause-placed
 primaries::primary_at-returns-in-Function-clause-placed t c = c.function_at.ensures.placed c.args.nodes.now (symbol _ (fixed kinds.Function) _ _ (start_function _ (sym c.in-Function.ensures)) c.tail.ensures)
 
+pub primaries::primary_at-returns-in-This-clause-placed : goal.primaries::primary_at-returns-in-This-clause-placed
+primaries::primary_at-returns-in-This-clause-placed t c = c.leaf_at.ensures.placed
+
+pub primaries::primary_at-returns-in-Null-clause-placed : goal.primaries::primary_at-returns-in-Null-clause-placed
+primaries::primary_at-returns-in-Null-clause-placed t c = c.leaf_at-in-Null.ensures.placed
+
 pub primaries::parenthesized_at-returns-clause-placed : goal.primaries::parenthesized_at-returns-clause-placed
-primaries::parenthesized_at-returns-clause-placed t c = closed _ (then (expected _ _ _ _ c.in_ok-rest.ensures) (then c.in_ok-inner.ensures.placed (expected _ _ _ _ c.in_ok-rest-2.ensures))) c.in_ok-node.ensures.span c.in_ok-node.ensures.number c.in_ok-tree.ensures.places
+primaries::parenthesized_at-returns-clause-placed t c = closed _ (then (expected _ _ _ _ c.in_ok-rest.ensures) (then c.in_ok-inner.ensures.placed (expected _ _ _ _ c.in_ok-rest-2.ensures))) c.in_ok-node.ensures.span c.in_ok-node.ensures.number c.parenthesized-tree.ensures.places
 
 pub primaries::array_at-returns-clause-placed : goal.primaries::array_at-returns-clause-placed
 primaries::array_at-returns-clause-placed t c = closed _ (then (expected _ _ _ _ c.in_ok-rest.ensures) (c.in_ok-elements.ensures.placed refl)) c.in_ok-node.ensures.span c.in_ok-node.ensures.number c.array.ensures.places
