@@ -9,3 +9,4 @@ pub mod Literals
 pub mod Fronts
 pub mod Tiling
 pub mod WrittenLaws
+pub mod FirstLaws

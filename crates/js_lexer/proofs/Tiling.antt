@@ -10,7 +10,7 @@ use Rattle.js_lexer.proofs.Gaps.{gap_finds, gap_knows}
 use Rattle.js_lexer.proofs.Fronts.{longest_here, none_here}
 use Rattle.js_lexer.specs.Pieces.{run}
 
-gap_is : (us : List ℕ) → IsRun (λ text more. IsGapPiece text more) gap_piece us (gap_len us)
+pub gap_is : (us : List ℕ) → IsRun (λ text more. IsGapPiece text more) gap_piece us (gap_len us)
 unfolding gap_len
 gap_is us = run_is (λ text more. IsGapPiece text more) gap_piece gap_finds us
 

@@ -29,7 +29,7 @@ use Rattle.js_lexer.proofs.Fronts.{begins_front, word_begins, word_parts, start_
 use Rattle.js_lexer.proofs.Tiling.{no_more, one_more}
 
 -- nothing, a line feed or a space comes next
-abbrev Breaks : List ℕ → Type 0
+abbrev pub Breaks : List ℕ → Type 0
 Breaks [] = Unit {0}
 Breaks (c ∷ cs) = (line : Bool) × (c ≡ blank_before line)
 
@@ -46,7 +46,7 @@ no_going_on (c ∷ cs) (false, b) = rw b refl
 abbrev Entry : Type 0
 Entry = TokenKind × List ℕ
 
-abbrev found : TokenKind → ℕ → Option (TokenKind × ℕ)
+abbrev pub found : TokenKind → ℕ → Option (TokenKind × ℕ)
 found k n = Some (k, n)
 
 -- ---- words
@@ -91,7 +91,7 @@ string_front q us t m p h b =
     let k = literal_known q us t m p h in
     rw (f.0, f.1, b, k.1, k.0) refl
 
-string_alone : (t more : List ℕ) → IsStringLiteral t → token_at (t ++ more) ≡ found String (length t)
+pub string_alone : (t more : List ℕ) → IsStringLiteral t → token_at (t ++ more) ≡ found String (length t)
 string_alone t more h = by_first (t ++ more) refl (begins_front is_quote t more (literal_begins t h))
   where
     by_first : (us : List ℕ) → us ≡ t ++ more → begins is_quote (t ++ more) ≡ true → token_at (t ++ more) ≡ found String (length t)
@@ -121,7 +121,7 @@ unfolding token_at punctuators
 marks_before true more = refl
 marks_before false more = refl
 
-mark_alone : (k : TokenKind) (t more : List ℕ) → IsListed (k, t) punctuators → Breaks more → token_at (t ++ more) ≡ found k (length t)
+pub mark_alone : (k : TokenKind) (t more : List ℕ) → IsListed (k, t) punctuators → Breaks more → token_at (t ++ more) ≡ found k (length t)
 mark_alone k t [] l b = found_is (k, t) (token_at (t ++ [])) (all_listed (λ e. is_found e (token_at (e.1 ++ []))) punctuators marks_last (k, t) l)
 mark_alone k t (c ∷ more) l b =
     let line = b.0 in
@@ -156,7 +156,7 @@ marks_seen : list_all (λ (e : Entry). not (begins is_blank e.1)) punctuators �
 unfolding punctuators
 marks_seen = refl
 
-not_true : (b : Bool) → not b ≡ true → b ≡ false
+pub not_true : (b : Bool) → not b ≡ true → b ≡ false
 not_true true e = absurd cc
 not_true false e = refl
 
@@ -171,7 +171,7 @@ seen_before : (t more : List ℕ) → 0 < length t → begins is_blank t ≡ fal
 seen_before [] more some e = absurd (omega arith)
 seen_before (c ∷ t) more some e = e
 
-no_comment : (us : List ℕ) → opens_comment us ≡ false → begins is_blank us ≡ false → gap_piece us ≡ 0
+pub no_comment : (us : List ℕ) → opens_comment us ≡ false → begins is_blank us ≡ false → gap_piece us ≡ 0
 no_comment us o b = by_tests (begins_with (codes "//") us) refl (begins_with (codes "/*") us) refl o
   where
     by_tests : (x : Bool) → begins_with (codes "//") us ≡ x → (y : Bool) → begins_with (codes "/*") us ≡ y → (x || y) ≡ false → gap_piece us ≡ 0
@@ -191,7 +191,7 @@ line_told false us = refl
 
 -- ---- all of them
 
-breaks : (ts : List Written) → Breaks (written ts)
+pub breaks : (ts : List Written) → Breaks (written ts)
 breaks [] = tt
 breaks (t ∷ ts) = (t.newline_before, refl)
 

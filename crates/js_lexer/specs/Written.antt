@@ -1,6 +1,7 @@
 -- Tokens written one after another.
-use Rattle.std.specs.Prelude.{ℕ, ◌+◌, Bool, true, false, List, [], ◌∷◌, ◌++◌, length, Result, Ok}
+use Rattle.std.specs.Prelude.{◌≡◌, ℕ, ◌+◌, Bool, true, false, List, [], ◌∷◌, ◌++◌, length, Result, Ok}
 use Rattle.js_lexer.specs.declared.token.TokenKind.{TokenKind}
+use Rattle.js_lexer.specs.State.{items_of}
 use Rattle.js_lexer.specs.Tokens.{Lent, IsToken}
 
 -- a token that is to be written, on a new line or on the line of the one before it
@@ -29,3 +30,13 @@ abbrev pub lent : ℕ → List Written → List (Result Lent ℕ)
 lent at [] = []
 lent at (t ∷ ts) =
     Ok (record { kind = t.kind; text = t.text; start = at + 1; newline_before = t.newline_before }) ∷ lent (at + 1 + length t.text) ts
+
+-- these tokens, and then these items
+abbrev pub tokens_then : List Lent → List (Result Lent ℕ) → List (Result Lent ℕ)
+tokens_then [] is = is
+tokens_then (t ∷ ts) is = Ok t ∷ tokens_then ts is
+
+-- The tokens are the first ones of a text that begins with some units, whatever tokens are written behind these.
+pub record First (before : List Lent) : Type 0 where
+  pub units : List ℕ
+  pub goes_on : (ts : List Written) → AreTokens ts → items_of (units ++ written ts) ≡ tokens_then before (lent (length units) ts)
