@@ -8,7 +8,6 @@ use Rattle.std.specs.declared.alloc.AllocError.{AllocError}
 use Rattle.js_terms.specs.declared.term.Term.{Term}
 use Rattle.js_terms.specs.declared.term.Terms.{Terms}
 use Rattle.js_terms.specs.Views.{term_view, terms_view}
-use Rattle.js_semantics.specs.declared.form.Form.{Form}
 use Rattle.js_semantics.specs.Terms as semantics
 use Rattle.js_semantics.specs.Makers as makers
 use Rattle.js_semantics.specs.Makers.{Context, Made, Item, Items, CatchMade}
@@ -70,9 +69,6 @@ of_three {A} {B} {C} f t u is v w so y z too r own = of_two (f u) v w so y z too
 
 pub of_four : {A B C D : Type 0} (f : A → B → C → D → semantics.Term) (t u : A) → t ≡ u → (v w : B) → v ≡ w → (y z : C) → y ≡ z → (a b : D) → a ≡ b → (r : Result Term AllocError) → IfOk r (λ x. term_view x ≡ f t v y a) → IfOk r (λ x. term_view x ≡ f u w z b)
 of_four {A} {B} {C} {D} f t u is v w so y z too a b also r own = of_three (f u) v w so y z too a b also r (of_part (λ (q : A). f q v y a) t u is r own)
-
-pub part_so : (f : Form) (n m : semantics.Terms) → n ≡ m → (l k : semantics.Terms) → l ≡ k → semantics.part f n l ≡ semantics.part f m k
-part_so f n m is l k so = ap (λ (x : semantics.Terms). semantics.part f x l) is ∙ ap (λ (x : semantics.Terms). semantics.part f m x) so
 
 pub loop_so : (t x : semantics.Term) → t ≡ x → (u y : semantics.Term) → u ≡ y → (b z : semantics.Term) → b ≡ z → makers.loop_parts t u b ≡ makers.loop_parts x y z
 loop_so t x is u y so b z too = ap (λ (q : semantics.Term). makers.loop_parts q u b) is ∙ ap (λ (q : semantics.Term). makers.loop_parts x q b) so ∙ ap (λ (q : semantics.Term). makers.loop_parts x y q) too
