@@ -21,15 +21,15 @@ use std::alloc::Global;
 
 /// Does what the words after the program's name ask for, and answers the exit status.
 ///
-/// | Status | Exactly or only where | Line on `err` |
+/// | Status | Where | Line on `err` |
 /// |---|---|---|
-/// | 0 | done | none |
+/// | 0 | only where every line was applied | none |
 /// | 1 | want of memory | `debug_host: out of memory` |
-/// | 2 | exactly where the words aren't `replay JOURNAL SCRIPT` | `usage: debug_host run/replay/serve/send/drill` |
-/// | 3 | exactly where the script has a form that isn't built yet | `debug_host: NAME: form not built` |
+/// | 2 | exactly where the words aren't `replay JOURNAL SCRIPT`, with names that don't begin with `-` | `usage: debug_host run/replay/serve/send/drill` |
+/// | 3 | only where the script has a form that isn't built yet | `debug_host: NAME: form not built` |
 /// | 4 | only where the shelf tells a fault at a file that the words name | `debug_host: cannot read NAME` |
-/// | 5 | only where the count of `out` rose, with output left to write | `debug_host: cannot write` |
-/// | 6 | exactly where a line of the journal isn't of its form, or names a session that isn't attached | `debug_host: line N refused` |
+/// | 5 | only where the count of `out` rose or stands at the greatest `u64`, with output left to write | `debug_host: cannot write` |
+/// | 6 | only where a line of the journal isn't of its form, attaches a second session, or names a session that isn't attached | `debug_host: line N refused` |
 ///
 /// The first that comes decides: the words, the journal's read, the script's read, the script, and then line by line.
 /// What `err` does changes no status.
