@@ -9,4 +9,4 @@ pub returns-clause-forward : goal.returns-clause-forward
 returns-clause-forward c = c.in_ok-tree.ensures.placed.forward
 
 pub returns-clause-numbers : goal.returns-clause-numbers
-returns-clause-numbers c = c.in_ok-tree.ensures.placed.stands.numbers
+returns-clause-numbers c = rw c.into_inner.ensures c.in_ok-tree.ensures.placed.stands.numbers
