@@ -55,8 +55,10 @@ fn holds_so_many_cells(rt: HostRuntime) -> Result<(), Fail> {
 fn prints_the_lines_that_it_takes(rt: HostRuntime) -> Result<(), Fail> {
     let alloc = rt.alloc();
     let mut state = started(alloc, &["one", "", "three"])?;
-    while let Some(line) = state.take_line() {
-        state.print(line)?;
+    for _ in 0..4 {
+        if let Some(line) = state.take_line() {
+            state.print(line)?;
+        }
     }
     assert_eq!(rt; printed_by(alloc, &state)?.as_str(), "one\n\nthree\n");
     Ok(())
