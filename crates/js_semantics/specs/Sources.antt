@@ -7,9 +7,8 @@ use Rattle.js_tree.specs.declared.tree.Expr.TheOpen as layers
 use Rattle.js_tree.specs.declared.tree.Expr.TheOpen.{Expr-F, Stmt-F, PropertyName-F, PropertyDefinition-F}
 use Rattle.js_tree.specs.declared.tree.Expr.TheFolds.{fold-Expr, fold-Stmts}
 use Rattle.js_tree.specs.Views.{parameters_view}
-use Rattle.js_heap.specs.declared.value.Addr.{Addr}
 use Rattle.js_heap.specs.declared.value.Value.TheVariants as values
-use Rattle.js_semantics.specs.Terms.{kept_source, Term, Terms, end, more}
+use Rattle.js_semantics.specs.Terms.{Term, Terms, end, more}
 use Rattle.js_semantics.specs.Clean.{parameter_names}
 use Rattle.js_semantics.specs.Makers.{Made, Item, Items, PropertyKey, fixed_key, computed_key, PropertyMade, value_property, method_property, DeclaratorMade, CatchMade, value_made, number_made, string_made, this_made, name_made, array_made, parenthesized_made, member_made, index_made, assign_made, update_made, unary_made, binary_made, conditional_made, comma_made, call_made, function_made, returned_body, arrow_made, object_made, items_of, block_item, empty_item, expression_item, lexical_item, if_item, while_item, do_while_item, for_item, for_lexical_item, for_of_item, continue_item, break_item, return_item, throw_item, try_item, debugger_item, function_item, script_term}
 
@@ -109,7 +108,3 @@ term_of_script s = script_term s.number (statements_source s.body)
 abbrev pub terms_of_scripts : List Script → Terms
 terms_of_scripts [] = end
 terms_of_scripts (s ∷ ss) = more (term_of_script s) (terms_of_scripts ss)
-
--- the term of a source that an evaluation kept at an address: an expression that stands in no statement
-abbrev pub term_of_kept : Addr → Expr → Term
-term_of_kept at e = (expression_source e).term (record { source = kept_source at; statement = 0; name = [] })
