@@ -1,8 +1,8 @@
 //! The laws of steps and runs. Each function does nothing: its contract is the law, for every configuration.
 
 ghost use Rattle.std.specs.Prelude.{◌≡◌, ℕ, suc, ◌+◌, List};
-ghost use Rattle.js_tree.specs.Trees.{Statements};
-ghost use Rattle.js_semantics.specs.Clean.{clean_scripts};
+ghost use Rattle.js_tree.specs.declared.script.Script.{Script};
+ghost use Rattle.js_semantics.specs.Sources.{terms_of_scripts};
 ghost use Rattle.js_heap.specs.declared.value.Addr.{Addr};
 ghost use Rattle.js_semantics.specs.Terms.{Term, Terms};
 ghost use Rattle.js_semantics.specs.State.{State};
@@ -68,7 +68,7 @@ pub fn a_plain_run_is_sound()
     ensures { (k : ℕ) (scripts : Terms) (input : List (List ℕ)) → AreUntouched scripts → SoundRun (program_of scripts) (plain k scripts input) }
 {}
 
-/// So is each configuration of the run of scripts that are given as trees.
+/// So is each configuration of the run of the parser's scripts.
 pub fn a_run_of_trees_is_sound()
-    ensures { (k : ℕ) (scripts : List Statements) (input : List (List ℕ)) → SoundRun (program_of (clean_scripts scripts)) (plain k (clean_scripts scripts) input) }
+    ensures { (k : ℕ) (scripts : List Script) (input : List (List ℕ)) → SoundRun (program_of (terms_of_scripts scripts)) (plain k (terms_of_scripts scripts) input) }
 {}
