@@ -18,8 +18,9 @@ use Rattle.js_heap.proofs.KeepLemmas.{stays-same, stays-append, keeps-same, keep
 use Rattle.js_semantics.specs.Terms.{Term}
 use Rattle.js_semantics.specs.State.{State}
 use Rattle.js_semantics.specs.Functions.{Program}
+use Rattle.js_semantics.specs.Makers.{Made}
 use Rattle.js_semantics.specs.Run.{ended, threw, by_effect, by_full, Run, running, over, run_of, state_of, steps_in, literals}
-use Rattle.js_semantics.specs.Evaluation.{ScratchSpace, copied_world, after_try, keep_source, make_literals, Json, json_null, json_bool, json_number, json_string, json_array, json_object, Jsons, no_jsons, a_json, Members, no_members, a_member, object_value, make_json, make_jsons, make_members, Argument, given, made_of, make_argument, make_arguments, budget, Answer, answer_of, evaluation_state, answered, literals_placed, prepared, evaluated, evaluate, call_term, with_arguments, evaluate_call}
+use Rattle.js_semantics.specs.Evaluation.{ScratchSpace, copied_world, after_try, keep_source, make_literals, Json, json_null, json_bool, json_number, json_string, json_array, json_object, Jsons, no_jsons, a_json, Members, no_members, a_member, object_value, make_json, make_jsons, make_members, Argument, given, made_of, make_argument, make_arguments, budget, Answer, answer_of, evaluation_state, answered, kept_term, kept_tree, with_source, prepared, evaluated, evaluate, call_term, with_arguments, evaluate_call}
 use Rattle.js_semantics.specs.Laws.{Follows, Undisturbed, AnswerKeeps}
 use Rattle.js_semantics.proofs.FollowLemmas.{steps-follows, run_of-state}
 
@@ -95,11 +96,11 @@ arguments-keep w (a ∷ rest) =
     then_keeps w (make_argument w a) (λ x v. after_try (make_arguments v rest) (λ xs u. fine (x ∷ xs) u)) (argument-keeps w a)
     (λ x v. then_keeps v (make_arguments v rest) (λ xs u. fine (x ∷ xs) u) (arguments-keep v rest) (λ xs u. keeps-same u))
 
-prepared-keeps : (w : World) (x : ScratchSpace) (source : List ℕ) (t : Term) → AfterFine (prepared w x source t) (λ u v. Keeps (copied_world w x) v)
-prepared-keeps w x source t =
+prepared-keeps : (w : World) (x : ScratchSpace) (source : List ℕ) (e : Made) → AfterFine (prepared w x source e) (λ u v. Keeps (copied_world w x) v)
+prepared-keeps w x source e =
     let c : World = copied_world w x in
-    then_keeps c (keep_source c source) (λ at v. after_try (make_literals v (literals t)) (λ u z. fine (literals_placed at t) z)) (keep-keeps c source)
-    (λ at v. then_keeps v (make_literals v (literals t)) (λ u z. fine (literals_placed at t) z) (literals-keep v (literals t)) (λ u z. keeps-same z))
+    then_keeps c (keep_source c source) (λ at v. after_try (make_literals v (literals (kept_term at e))) (λ u z. fine (kept_tree at e) z)) (keep-keeps c source)
+    (λ at v. then_keeps v (make_literals v (literals (kept_term at e))) (λ u z. fine (kept_tree at e) z) (literals-keep v (literals (kept_term at e))) (λ u z. keeps-same z))
 
 -- ---- the steps
 
@@ -124,14 +125,15 @@ answered-keeps w x (fine u v) k h rest = rest v u h
 answered-keeps w x effect k h rest = tt
 answered-keeps w x (full what) k h rest = tt
 
-pub evaluate-keeps : (p : Program) (w : World) (x : ScratchSpace) (scope : Addr) (receiver : Value) (source : List ℕ) (t : Term) → AnswerKeeps w x (evaluate p w x scope receiver source t)
-evaluate-keeps p w x scope receiver source t =
-    answered-keeps w x (prepared w x source t) (evaluated p scope receiver) (prepared-keeps w x source t) (λ v u k. evaluated-keeps p scope receiver w x v u k)
+pub evaluate-keeps : (p : Program) (w : World) (x : ScratchSpace) (scope : Addr) (receiver : Value) (source : List ℕ) (e : Made) → AnswerKeeps w x (evaluate p w x scope receiver source e)
+evaluate-keeps p w x scope receiver source e =
+    answered-keeps w x (prepared w x source e) (evaluated (with_source p x e) scope receiver) (prepared-keeps w x source e)
+    (λ v u k. evaluated-keeps (with_source p x e) scope receiver w x v u k)
 
-pub call-keeps : (p : Program) (w : World) (x : ScratchSpace) (source : List ℕ) (callee : Term) (receiver : Value) (given_args : List Argument) → AnswerKeeps w x (evaluate_call p w x source callee receiver given_args)
+pub call-keeps : (p : Program) (w : World) (x : ScratchSpace) (source : List ℕ) (callee : Made) (receiver : Value) (given_args : List Argument) → AnswerKeeps w x (evaluate_call p w x source callee receiver given_args)
 call-keeps p w x source callee receiver given_args =
     let c : World = copied_world w x in
-    answered-keeps w x (with_arguments receiver given_args (prepared w x source callee)) (evaluated p script_scope values.Undefined)
+    answered-keeps w x (with_arguments receiver given_args (prepared w x source callee)) (evaluated (with_source p x callee) script_scope values.Undefined)
     (then_keeps c (prepared w x source callee) (λ f v. after_try (make_arguments v given_args) (λ vs u. fine (call_term receiver f vs) u)) (prepared-keeps w x source callee)
     (λ f v. then_keeps v (make_arguments v given_args) (λ vs u. fine (call_term receiver f vs) u) (arguments-keep v given_args) (λ vs u. keeps-same u)))
-    (λ v u k. evaluated-keeps p script_scope values.Undefined w x v u k)
+    (λ v u k. evaluated-keeps (with_source p x callee) script_scope values.Undefined w x v u k)

@@ -1,5 +1,5 @@
 -- Evaluations, computed.
-use Rattle.std.specs.Prelude.{◌≡◌, ℕ, ◌++◌, true, false, List, [], ◌∷◌, None, codes, refl}
+use Rattle.std.specs.Prelude.{◌≡◌, ℕ, true, false, List, [], ◌∷◌, None, Some, codes, refl}
 use Rattle.std.specs.Fmt.{digits}
 use Rattle.js_tree.specs.declared.operator.BinaryOperator.TheVariants as binaries
 use Rattle.js_tree.specs.declared.operator.UnaryOperator.TheVariants as unaries
@@ -7,21 +7,21 @@ use Rattle.js_tree.specs.declared.operator.AssignmentOperator.TheVariants as ass
 use Rattle.js_tree.specs.Trees as t
 use Rattle.js_tree.specs.Trees.{Expression}
 use Rattle.js_heap.specs.declared.value.Addr.{Addr}
-use Rattle.js_heap.specs.declared.value.Addr.TheVariants.{Base, Scratch}
+use Rattle.js_heap.specs.declared.value.Addr.TheVariants.{Base}
 use Rattle.js_heap.specs.declared.value.Value.{Value}
 use Rattle.js_heap.specs.declared.value.Value.TheVariants as values
 use Rattle.js_heap.specs.declared.change.Counted.{Counted}
 use Rattle.js_heap.specs.declared.change.Counted.TheVariants as counted
 use Rattle.js_heap.specs.World.{Room, scratch_room}
 use Rattle.js_heap.specs.BuiltIns.{script_scope}
-use Rattle.js_semantics.specs.Terms.{kept_source, Term, Terms, one}
+use Rattle.js_semantics.specs.Terms.{Terms, one}
 use Rattle.js_heap.specs.Values.{shown}
 use Rattle.js_semantics.specs.State.{Frame, State}
 use Rattle.js_semantics.specs.Functions.{Program}
 use Rattle.js_semantics.specs.Clean.{expression_made, clean_script}
 use Rattle.js_semantics.specs.Run.{Run, running, over, plain, program_of, state_of}
 use Rattle.js_semantics.specs.Frames.{frames}
-use Rattle.js_semantics.specs.Evaluation.{ScratchSpace, made_of, json_string, Answer, a_result, a_throw, an_effect, is_full_of, spent, literals_placed, evaluate, evaluate_call}
+use Rattle.js_semantics.specs.Evaluation.{ScratchSpace, given, made_of, json_string, Answer, a_result, a_throw, an_effect, is_full_of, spent, with_source, evaluate, evaluate_call}
 
 -- an answer with its value as it is shown
 pub data Shown : Type 0 where
@@ -38,38 +38,31 @@ shown_answer an_effect = effect_answer
 shown_answer (is_full_of what) = full_answer what
 shown_answer spent = spent_answer
 
--- an expression whose source is kept at the first scratch address
-abbrev term_of : Expression → Term
-term_of e = (expression_made 1 e).term (record { source = kept_source (Scratch 0); statement = 0; name = [] })
-
-abbrev with_kept : Terms → Term → Program
-with_kept ts e = program_of ts ++ record { source = kept_source (Scratch 0); tree = literals_placed (Scratch 0) e } ∷ []
-
 abbrev space : Room → ScratchSpace
 space r = record { cells = []; room = r }
 
-abbrev evaluated_in : Room → Terms → State → Addr → Value → Term → Shown
-evaluated_in r ts s scope receiver e = shown_answer (evaluate (with_kept ts e) s.world (space r) scope receiver (codes "source") e)
+abbrev evaluated_in : Room → Terms → State → Addr → Value → Expression → Shown
+evaluated_in r ts s scope receiver e = shown_answer (evaluate (program_of ts) s.world (space r) scope receiver (codes "source") (expression_made 1 e))
 
 -- an expression in the script scope, behind so many steps of a script
 abbrev at_top : ℕ → Terms → Expression → Shown
-at_top k ts e = evaluated_in scratch_room ts (state_of (plain k ts [])) script_scope values.Undefined (term_of e)
+at_top k ts e = evaluated_in scratch_room ts (state_of (plain k ts [])) script_scope values.Undefined e
 
 -- the same with little room
 abbrev with_room : Room → ℕ → Terms → Expression → Shown
-with_room r k ts e = evaluated_in r ts (state_of (plain k ts [])) script_scope values.Undefined (term_of e)
+with_room r k ts e = evaluated_in r ts (state_of (plain k ts [])) script_scope values.Undefined e
 
 -- in the top frame
-abbrev in_frame : Terms → List Frame → State → Term → Shown
+abbrev in_frame : Terms → List Frame → State → Expression → Shown
 in_frame ts [] s e = spent_answer
 in_frame ts (f ∷ fs) s e = evaluated_in scratch_room ts s f.scope f.receiver e
 
-abbrev in_run : Terms → Run → Term → Shown
+abbrev in_run : Terms → Run → Expression → Shown
 in_run ts (running t s) e = in_frame ts (frames script_scope t s) s e
 in_run ts (over f s) e = spent_answer
 
 abbrev at_frame : ℕ → Terms → Expression → Shown
-at_frame k ts e = in_run ts (plain k ts []) (term_of e)
+at_frame k ts e = in_run ts (plain k ts []) e
 
 -- let n = 0; const f = () => { n = n + 1; return n; }; debugger; console.log(n);
 abbrev counting : Terms
@@ -179,10 +172,40 @@ source_is_counted : with_room (record { cells = 9; units = 5 }) 6 counting (t.na
 unfolding digits
 source_is_counted = refl
 
--- function(k) { return this[k]; } called with an object's own property and a JSON argument
-abbrev called : Terms → State → Term → Shown
-called ts s f = shown_answer (evaluate_call (with_kept ts f) s.world (space scratch_room) (codes "source") f (values.Object (Base 4)) (made_of (json_string (codes "log")) ∷ []))
+-- (() => 1)()
+calls_its_own_function : at_top 6 counting (t.call (t.parenthesized (t.arrow (t.name_list []) (t.number 1))) t.no_expressions) ≡ a_value_shown (codes "1")
+unfolding digits
+calls_its_own_function = refl
 
-calls_with_this : called counting (state_of (plain 6 counting [])) (term_of (t.parenthesized (t.function None ((codes "k") ∷ []) (t.a_statement (t.return (t.present (t.index t.this (t.name (codes "k"))))) t.no_statements)))) ≡ a_value_shown (codes "function log")
+-- (function f(n) { return n === 0 ? 'end' : f(n - 1); })(2)
+calls_itself : at_top 6 counting (t.call (t.parenthesized (t.function (Some (codes "f")) ((codes "n") ∷ []) (t.a_statement (t.return (t.present (t.conditional (t.binary binaries.StrictEqual (t.name (codes "n")) (t.number 0)) (t.string (codes "end")) (t.call (t.name (codes "f")) (t.an_expression (t.binary binaries.Subtract (t.name (codes "n")) (t.number 1)) t.no_expressions))))) t.no_statements))) (t.an_expression (t.number 2) t.no_expressions)) ≡ a_value_shown (codes "end")
+unfolding digits
+calls_itself = refl
+
+-- add(4, 5), a function of the program
+calls_the_program : at_top 6 adding (t.call (t.name (codes "add")) (t.an_expression (t.number 4) (t.an_expression (t.number 5) t.no_expressions))) ≡ a_value_shown (codes "9")
+unfolding digits
+calls_the_program = refl
+
+-- function(k) { return this[k]; } called with an object's own property and a JSON argument
+abbrev called : Terms → State → Expression → Shown
+called ts s f = shown_answer (evaluate_call (program_of ts) s.world (space scratch_room) (codes "source") (expression_made 1 f) (values.Object (Base 4)) (made_of (json_string (codes "log")) ∷ []))
+
+calls_with_this : called counting (state_of (plain 6 counting [])) (t.parenthesized (t.function None ((codes "k") ∷ []) (t.a_statement (t.return (t.present (t.index t.this (t.name (codes "k"))))) t.no_statements))) ≡ a_value_shown (codes "function log")
 unfolding digits
 calls_with_this = refl
+
+-- ---- one evaluation after another
+
+-- a second evaluation, whose function is called with the value of the first
+abbrev called_with : Program → ScratchSpace → Expression → Expression → Answer → Shown
+called_with p x e g (a_result v w) = shown_answer (evaluate_call (with_source p x (expression_made 1 e)) w (record { cells = w.scratch; room = w.room }) (codes "second") (expression_made 1 g) values.Undefined (given v ∷ []))
+called_with p x e g a = shown_answer a
+
+abbrev one_after_another : Terms → State → Expression → Expression → Shown
+one_after_another ts s e g = called_with (program_of ts) (space scratch_room) e g (evaluate (program_of ts) s.world (space scratch_room) script_scope values.Undefined (codes "source") (expression_made 1 e))
+
+-- () => 'made before', then function(f) { return f() + '!'; } called with it
+calls_a_function_of_an_earlier_one : one_after_another counting (state_of (plain 6 counting [])) (t.arrow (t.name_list []) (t.string (codes "made before"))) (t.parenthesized (t.function None ((codes "f") ∷ []) (t.a_statement (t.return (t.present (t.binary binaries.Add (t.call (t.name (codes "f")) t.no_expressions) (t.string (codes "!"))))) t.no_statements))) ≡ a_value_shown (codes "made before!")
+unfolding digits
+calls_a_function_of_an_earlier_one = refl

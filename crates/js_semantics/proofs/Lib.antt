@@ -13,4 +13,4 @@ pub mod SoundSteps
 pub mod EvaluationLemmas
 pub mod StartLemmas
 pub mod UntouchedLemmas
-pub mod CleanLemmas
+pub mod SourceLemmas

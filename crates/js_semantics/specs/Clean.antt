@@ -1,6 +1,7 @@
--- The terms of trees without places: every node has the number 0 and every function a number that its place in the tree
--- gives it. They serve to compute runs of scripts that are written as trees; a run's steps, output and end don't
--- depend on the numbers, as long as functions differ.
+-- The terms of trees without places: a node's number is given by the path to it, so that functions differ. They serve to
+-- compute runs of scripts that are written as trees. Programs run by the terms of the parser's trees (Sources), which
+-- differ from these in the numbers alone; that a run's steps, output and end don't depend on them, as long as functions
+-- differ, is not proved.
 use Rattle.std.specs.Prelude.{ℕ, ◌+◌, ◌*◌, true, false, List, [], ◌∷◌, Option, Some, None, decimal}
 use Rattle.js_tree.specs.Trees as trees
 use Rattle.js_tree.specs.Trees.{Expression, Expressions, OptionalExpression, Key, Property, Properties, Statement, Statements, Handler, Finalizer, Parameters}

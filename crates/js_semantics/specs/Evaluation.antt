@@ -12,9 +12,13 @@ use Rattle.js_heap.specs.declared.cell.Cell.{Cell}
 use Rattle.js_heap.specs.Keys.{put_property}
 use Rattle.js_heap.specs.World.{Room, World, Tried, fine, effect, full, make_cell}
 use Rattle.js_heap.specs.BuiltIns.{script_scope}
-use Rattle.js_semantics.specs.Terms.{beginning, call, Term, done, part, end, more, dones}
+use Rattle.js_tree.specs.declared.script.Expression.{Expression}
+use Rattle.js_tree.specs.declared.script.FunctionCode.{FunctionCode}
+use Rattle.js_semantics.specs.Terms.{kept_source, beginning, call, Term, done, part, end, more, dones}
 use Rattle.js_semantics.specs.State.{State}
 use Rattle.js_semantics.specs.Functions.{Program}
+use Rattle.js_semantics.specs.Makers.{Made}
+use Rattle.js_semantics.specs.Sources.{expression_source}
 use Rattle.js_semantics.specs.Run.{ended, threw, by_effect, by_full, Run, running, over, run_of, steps_in, literals, with_literals}
 
 -- ---- the world of an evaluation
@@ -131,21 +135,40 @@ answered (fine t w) k = k w t
 answered effect k = an_effect
 answered (full what) k = is_full_of what
 
--- the term of a source that was kept at an address, with its literals' cells behind that address
+-- ---- the source of an evaluation
+
+-- the address at which a session's next source is kept
+abbrev pub next_kept : ScratchSpace → Addr
+next_kept x = Scratch (length x.cells)
+
+-- the term of a source that is kept at an address: an expression that stands in no statement
+abbrev pub kept_term : Addr → Made → Term
+kept_term at e = e.term (record { source = kept_source at; statement = 0; name = [] })
+
+-- with the cells of its literals, which stand behind that address
 abbrev pub literals_placed : Addr → Term → Term
 literals_placed (Scratch n) t = with_literals (λ i. Scratch i) (n + 1) t
 literals_placed (Base n) t = t
 
-abbrev pub prepared : World → ScratchSpace → List ℕ → Term → Tried Term
-prepared w x source t =
-    after_try (keep_source (copied_world w x) source) (λ at v. after_try (make_literals v (literals t)) (λ u z. fine (literals_placed at t) z))
+abbrev pub kept_tree : Addr → Made → Term
+kept_tree at e = literals_placed at (kept_term at e)
+
+-- The program with the source of an evaluation in front. It is the program of later evaluations too, as long as the
+-- session keeps the source.
+abbrev pub with_source : Program → ScratchSpace → Made → Program
+with_source p x e = record { source = kept_source (next_kept x); tree = kept_tree (next_kept x) e } ∷ p
+
+abbrev pub prepared : World → ScratchSpace → List ℕ → Made → Tried Term
+prepared w x source e =
+    after_try (keep_source (copied_world w x) source) (λ at v. after_try (make_literals v (literals (kept_term at e))) (λ u z. fine (kept_tree at e) z))
 
 abbrev pub evaluated : Program → Addr → Value → World → Term → Answer
 evaluated p scope receiver w t = answer_of (steps_in budget p scope (run_of t (evaluation_state w receiver)))
 
--- evaluates a source's expression in a scope with a `this`; the program has the kept sources, this one among them
-abbrev pub evaluate : Program → World → ScratchSpace → Addr → Value → List ℕ → Term → Answer
-evaluate p w x scope receiver source t = answered (prepared w x source t) (evaluated p scope receiver)
+-- Evaluates a source's expression in a scope with a `this`. The program has the scripts and the sources kept before; this
+-- one is added, so that functions which it makes can be called.
+abbrev pub evaluate : Program → World → ScratchSpace → Addr → Value → List ℕ → Made → Answer
+evaluate p w x scope receiver source e = answered (prepared w x source e) (evaluated (with_source p x e) scope receiver)
 
 -- a call in the script scope; its callee is the function expression or arrow, still to be made
 abbrev pub call_term : Value → Term → List Value → Term
@@ -155,6 +178,14 @@ abbrev pub with_arguments : Value → List Argument → Tried Term → Tried Ter
 with_arguments receiver args t = after_try t (λ callee w. after_try (make_arguments w args) (λ vs v. fine (call_term receiver callee vs) v))
 
 -- calls a source's function with a `this` and arguments
-abbrev pub evaluate_call : Program → World → ScratchSpace → List ℕ → Term → Value → List Argument → Answer
+abbrev pub evaluate_call : Program → World → ScratchSpace → List ℕ → Made → Value → List Argument → Answer
 evaluate_call p w x source callee receiver args =
-    answered (with_arguments receiver args (prepared w x source callee)) (evaluated p script_scope values.Undefined)
+    answered (with_arguments receiver args (prepared w x source callee)) (evaluated (with_source p x callee) script_scope values.Undefined)
+
+-- ---- the same of the parser's trees
+
+abbrev pub evaluate_expression : Program → World → ScratchSpace → Addr → Value → Expression → Answer
+evaluate_expression p w x scope receiver e = evaluate p w x scope receiver e.source (expression_source e.tree)
+
+abbrev pub evaluate_function : Program → World → ScratchSpace → FunctionCode → Value → List Argument → Answer
+evaluate_function p w x f receiver args = evaluate_call p w x f.source (expression_source f.tree) receiver args

@@ -1,15 +1,23 @@
 -- The terms of the parser's trees.
 use Rattle.std.specs.Prelude.{true, false, List, [], ◌∷◌, Some, None, decimal}
 use Rattle.js_tree.specs.declared.tree.Expr.{Expr}
+use Rattle.js_tree.specs.declared.tree.PropertyDefinition.{PropertyDefinition}
+use Rattle.js_tree.specs.declared.tree.PropertyName.{PropertyName}
+use Rattle.js_tree.specs.declared.tree.Stmt.{Stmt}
+use Rattle.js_tree.specs.declared.tree.Block.{Block}
+use Rattle.js_tree.specs.declared.tree.Catch.{Catch}
+use Rattle.js_tree.specs.declared.tree.Declarator.{Declarator}
+use Rattle.js_tree.specs.declared.tree.Declarators.{Declarators}
+use Rattle.js_tree.specs.declared.tree.Exprs.{Exprs}
+use Rattle.js_tree.specs.declared.tree.PropertyDefinitions.{PropertyDefinitions}
 use Rattle.js_tree.specs.declared.tree.Stmts.{Stmts}
 use Rattle.js_tree.specs.declared.script.Script.{Script}
 use Rattle.js_tree.specs.declared.tree.Expr.TheOpen as layers
 use Rattle.js_tree.specs.declared.tree.Expr.TheOpen.{Expr-F, Stmt-F, PropertyName-F, PropertyDefinition-F}
-use Rattle.js_tree.specs.declared.tree.Expr.TheFolds.{fold-Expr, fold-Stmts}
+use Rattle.js_tree.specs.declared.tree.Expr.TheFolds.{fold-Expr, fold-PropertyDefinition, fold-PropertyName, fold-Stmt, fold-Block, fold-Catch, fold-Declarator, fold-Declarators, fold-Exprs, fold-PropertyDefinitions, fold-Stmts}
 use Rattle.js_tree.specs.Views.{parameters_view}
-use Rattle.js_heap.specs.declared.value.Addr.{Addr}
 use Rattle.js_heap.specs.declared.value.Value.TheVariants as values
-use Rattle.js_semantics.specs.Terms.{kept_source, Term, Terms, end, more}
+use Rattle.js_semantics.specs.Terms.{Term, Terms, end, more}
 use Rattle.js_semantics.specs.Clean.{parameter_names}
 use Rattle.js_semantics.specs.Makers.{Made, Item, Items, PropertyKey, fixed_key, computed_key, PropertyMade, value_property, method_property, DeclaratorMade, CatchMade, value_made, number_made, string_made, this_made, name_made, array_made, parenthesized_made, member_made, index_made, assign_made, update_made, unary_made, binary_made, conditional_made, comma_made, call_made, function_made, returned_body, arrow_made, object_made, items_of, block_item, empty_item, expression_item, lexical_item, if_item, while_item, do_while_item, for_item, for_lexical_item, for_of_item, continue_item, break_item, return_item, throw_item, try_item, debugger_item, function_item, script_term}
 
@@ -94,9 +102,36 @@ properties_layer ps = ps.items.items
 abbrev pub statements_layer : Layer layers.Stmts-F → Items
 statements_layer ss = items_of ss.items.items
 
--- what is made of an expression, and of a list of statements
+-- what is made of each type of tree
 unfoldable pub expression_source : Expr → Made
 expression_source = fold-Expr Made PropertyMade PropertyKey Item Items CatchMade DeclaratorMade (List DeclaratorMade) (List Made) (List PropertyMade) Items expression_layer property_layer key_layer statement_layer block_layer catch_layer declarator_layer declarators_layer expressions_layer properties_layer statements_layer
+
+unfoldable pub property_source : PropertyDefinition → PropertyMade
+property_source = fold-PropertyDefinition Made PropertyMade PropertyKey Item Items CatchMade DeclaratorMade (List DeclaratorMade) (List Made) (List PropertyMade) Items expression_layer property_layer key_layer statement_layer block_layer catch_layer declarator_layer declarators_layer expressions_layer properties_layer statements_layer
+
+unfoldable pub key_source : PropertyName → PropertyKey
+key_source = fold-PropertyName Made PropertyMade PropertyKey Item Items CatchMade DeclaratorMade (List DeclaratorMade) (List Made) (List PropertyMade) Items expression_layer property_layer key_layer statement_layer block_layer catch_layer declarator_layer declarators_layer expressions_layer properties_layer statements_layer
+
+unfoldable pub statement_source : Stmt → Item
+statement_source = fold-Stmt Made PropertyMade PropertyKey Item Items CatchMade DeclaratorMade (List DeclaratorMade) (List Made) (List PropertyMade) Items expression_layer property_layer key_layer statement_layer block_layer catch_layer declarator_layer declarators_layer expressions_layer properties_layer statements_layer
+
+unfoldable pub block_source : Block → Items
+block_source = fold-Block Made PropertyMade PropertyKey Item Items CatchMade DeclaratorMade (List DeclaratorMade) (List Made) (List PropertyMade) Items expression_layer property_layer key_layer statement_layer block_layer catch_layer declarator_layer declarators_layer expressions_layer properties_layer statements_layer
+
+unfoldable pub catch_source : Catch → CatchMade
+catch_source = fold-Catch Made PropertyMade PropertyKey Item Items CatchMade DeclaratorMade (List DeclaratorMade) (List Made) (List PropertyMade) Items expression_layer property_layer key_layer statement_layer block_layer catch_layer declarator_layer declarators_layer expressions_layer properties_layer statements_layer
+
+unfoldable pub declarator_source : Declarator → DeclaratorMade
+declarator_source = fold-Declarator Made PropertyMade PropertyKey Item Items CatchMade DeclaratorMade (List DeclaratorMade) (List Made) (List PropertyMade) Items expression_layer property_layer key_layer statement_layer block_layer catch_layer declarator_layer declarators_layer expressions_layer properties_layer statements_layer
+
+unfoldable pub declarators_source : Declarators → List DeclaratorMade
+declarators_source = fold-Declarators Made PropertyMade PropertyKey Item Items CatchMade DeclaratorMade (List DeclaratorMade) (List Made) (List PropertyMade) Items expression_layer property_layer key_layer statement_layer block_layer catch_layer declarator_layer declarators_layer expressions_layer properties_layer statements_layer
+
+unfoldable pub expressions_source : Exprs → List Made
+expressions_source = fold-Exprs Made PropertyMade PropertyKey Item Items CatchMade DeclaratorMade (List DeclaratorMade) (List Made) (List PropertyMade) Items expression_layer property_layer key_layer statement_layer block_layer catch_layer declarator_layer declarators_layer expressions_layer properties_layer statements_layer
+
+unfoldable pub properties_source : PropertyDefinitions → List PropertyMade
+properties_source = fold-PropertyDefinitions Made PropertyMade PropertyKey Item Items CatchMade DeclaratorMade (List DeclaratorMade) (List Made) (List PropertyMade) Items expression_layer property_layer key_layer statement_layer block_layer catch_layer declarator_layer declarators_layer expressions_layer properties_layer statements_layer
 
 unfoldable pub statements_source : Stmts → Items
 statements_source = fold-Stmts Made PropertyMade PropertyKey Item Items CatchMade DeclaratorMade (List DeclaratorMade) (List Made) (List PropertyMade) Items expression_layer property_layer key_layer statement_layer block_layer catch_layer declarator_layer declarators_layer expressions_layer properties_layer statements_layer
@@ -109,7 +144,3 @@ term_of_script s = script_term s.number (statements_source s.body)
 abbrev pub terms_of_scripts : List Script → Terms
 terms_of_scripts [] = end
 terms_of_scripts (s ∷ ss) = more (term_of_script s) (terms_of_scripts ss)
-
--- the term of a source that an evaluation kept at an address: an expression that stands in no statement
-abbrev pub term_of_kept : Addr → Expr → Term
-term_of_kept at e = (expression_source e).term (record { source = kept_source at; statement = 0; name = [] })

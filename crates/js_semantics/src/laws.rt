@@ -1,12 +1,13 @@
 //! The laws of steps and runs. Each function does nothing: its contract is the law, for every configuration.
 
 ghost use Rattle.std.specs.Prelude.{◌≡◌, ℕ, suc, ◌+◌, List};
-ghost use Rattle.js_tree.specs.Trees.{Statements};
-ghost use Rattle.js_semantics.specs.Clean.{clean_scripts};
+ghost use Rattle.js_tree.specs.declared.script.Script.{Script};
+ghost use Rattle.js_semantics.specs.Sources.{terms_of_scripts};
 ghost use Rattle.js_heap.specs.declared.value.Addr.{Addr};
 ghost use Rattle.js_semantics.specs.Terms.{Term, Terms};
 ghost use Rattle.js_semantics.specs.State.{State};
 ghost use Rattle.js_semantics.specs.Functions.{Program};
+ghost use Rattle.js_semantics.specs.Makers.{Made};
 ghost use Rattle.js_semantics.specs.Next.{next};
 ghost use Rattle.js_semantics.specs.Run.{Run, Finish, over, program_of, state_of, steps_in, plain, out};
 ghost use Rattle.js_heap.specs.declared.value.Value.{Value};
@@ -54,12 +55,12 @@ pub fn steps_keep_sound()
 
 /// An evaluation leaves the program's cells as they are, and those that its session made before.
 pub fn an_evaluation_disturbs_nothing()
-    ensures { (p : Program) (w : World) (x : ScratchSpace) (scope : Addr) (receiver : Value) (source : List ℕ) (t : Term) → AnswerKeeps w x (evaluate p w x scope receiver source t) }
+    ensures { (p : Program) (w : World) (x : ScratchSpace) (scope : Addr) (receiver : Value) (source : List ℕ) (e : Made) → AnswerKeeps w x (evaluate p w x scope receiver source e) }
 {}
 
 /// So does a call of a function.
 pub fn an_evaluated_call_disturbs_nothing()
-    ensures { (p : Program) (w : World) (x : ScratchSpace) (source : List ℕ) (callee : Term) (receiver : Value) (arguments : List Argument) → AnswerKeeps w x (evaluate_call p w x source callee receiver arguments) }
+    ensures { (p : Program) (w : World) (x : ScratchSpace) (source : List ℕ) (callee : Made) (receiver : Value) (arguments : List Argument) → AnswerKeeps w x (evaluate_call p w x source callee receiver arguments) }
 {}
 
 /// Each configuration of a plain run is sound: its scripts hold no address before the first step.
@@ -67,7 +68,7 @@ pub fn a_plain_run_is_sound()
     ensures { (k : ℕ) (scripts : Terms) (input : List (List ℕ)) → AreUntouched scripts → SoundRun (program_of scripts) (plain k scripts input) }
 {}
 
-/// So is each configuration of the run of scripts that are given as trees.
+/// So is each configuration of the run of the parser's scripts.
 pub fn a_run_of_trees_is_sound()
-    ensures { (k : ℕ) (scripts : List Statements) (input : List (List ℕ)) → SoundRun (program_of (clean_scripts scripts)) (plain k (clean_scripts scripts) input) }
+    ensures { (k : ℕ) (scripts : List Script) (input : List (List ℕ)) → SoundRun (program_of (terms_of_scripts scripts)) (plain k (terms_of_scripts scripts) input) }
 {}

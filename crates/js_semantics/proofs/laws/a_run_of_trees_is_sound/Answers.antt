@@ -1,5 +1,5 @@
-use Rattle.js_semantics.proofs.CleanLemmas.{trees-sound}
+use Rattle.js_semantics.proofs.SourceLemmas.{scripts-sound}
 use Rattle.js_semantics.proofs.laws.a_run_of_trees_is_sound.Goals as goal
 
 pub returns : goal.returns
-returns c = trees-sound
+returns c = scripts-sound
