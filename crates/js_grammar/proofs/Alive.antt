@@ -1,5 +1,11 @@
 -- Where a whole source is not read, the tokens before the fault begin one of the language.
-use Rattle.std.proofs.Common.{◌≡◌, ℕ, zero, suc, List, [], ◌∷◌, ◌++◌, length, Option, Ok, Err, refl, ap, ◌⊎◌, inl, inr}
+use Rattle.std.proofs.Common.{◌≡◌, ℕ, zero, suc, List, [], ◌∷◌, ◌++◌, length, Option, Ok, Err, refl, sym, ap, subst, ◌∙◌, ◌⊎◌, inl, inr}
+use Rattle.std.specs.Prelude.{map}
+use Rattle.std.proofs.lemmas.List.{append-nil}
+use Rattle.js_lexer.specs.Written.{AreTokens}
+use Rattle.js_lexer.specs.Tokens.{IsToken}
+use Rattle.js_grammar.specs.Exact.{written_view, BeginsWritten}
+use Rattle.js_grammar.proofs.SpelledKinds.{kind_token, free_token}
 use Rattle.js_tree.specs.Trees.{Identifier, Expression, Statements}
 use Rattle.js_language.specs.Tokens.{Token, Mark, head_of, Matches}
 use Rattle.js_language.specs.Flat.{flat, flat_statements}
@@ -12,7 +18,7 @@ use Rattle.js_syntax.specs.Parsing.{below, ended_by, whole, parse_script, parse_
 use Rattle.js_grammar.proofs.PartSound.{seq_sound, items_at_sound}
 use Rattle.js_grammar.proofs.ExpressionSound.{function_code_sound}
 use Rattle.js_grammar.proofs.Soundness.{sound_below}
-use Rattle.js_grammar.proofs.AliveTools.{Counts, stuck_counts, deep_counts, softens, Lives}
+use Rattle.js_grammar.proofs.AliveTools.{Counts, stuck_counts, deep_counts, Added, a_token, a_near_token, a_name_token, as_written, as_token, added, softens, Lives}
 use Rattle.js_grammar.proofs.AliveParts.{AliveBelow, IsBlock, items_at_lives}
 use Rattle.js_grammar.proofs.AliveExpressions.{IsFunctionOf}
 use Rattle.js_grammar.proofs.AliveAssignments.{function_code_lives, no_function_lives}
@@ -25,15 +31,34 @@ pub record LivesIn {Tree : Type 0} (Is : List Token → Tree → Type 0) (ts : L
   pub parts : ts ≡ before ++ left
   pub counted : Counts e left
   pub begins : Begins Is before
+  pub written : BeginsWritten Is before
+
+written_as : (rest : List Added) → map written_view (map as_written rest) ≡ added rest
+written_as [] = refl
+written_as (a ∷ rest) = ap (λ (us : List Token). as_token a ∷ us) (written_as rest)
+
+added_token : (a : Added) → IsToken (as_written a).kind (as_written a).text []
+added_token (a_token k) = kind_token k
+added_token (a_near_token k) = kind_token k
+added_token (a_name_token n f) = free_token n f
+
+added_tokens : (rest : List Added) → AreTokens (map as_written rest)
+added_tokens [] = tt
+added_tokens (a ∷ rest) = (added_token a, added_tokens rest)
 
 -- what lives begins a source
 pub begins_so : {Tree : Type 0} {Is : List Token → Tree → Type 0} {First : Option Token → Type 0} {flat_of : Tree → List Mark} {Good : Tree → Type 0} {ts : List Token} {e : Fault} → ((us : List Token) (t : Tree) → Good t → Matches (flat_of t) us [] → Is us t) → Lives First flat_of Good ts e → LivesIn Is ts e
-begins_so is l = record {
+begins_so {Tree} {Is} is l = record {
   before = l.before;
   left = l.left;
   parts = l.parts;
   counted = l.counted;
-  begins = (l.rest ++ [], (l.tree, is (l.before ++ (l.rest ++ [])) l.tree l.good (l.spelled [])));
+  begins = (added l.rest ++ [], (l.tree, is (l.before ++ (added l.rest ++ [])) l.tree l.good (l.spelled [])));
+  written = record {
+    rest = map as_written l.rest;
+    tokens = added_tokens l.rest;
+    language = (l.tree, subst (λ (us : List Token). Is (l.before ++ us) l.tree) (append-nil (added l.rest) ∙ sym (written_as l.rest)) (is (l.before ++ (added l.rest ++ [])) l.tree l.good (l.spelled [])));
+  };
 }
 
 -- what was read in whole, where further tokens are left
@@ -47,6 +72,7 @@ read_so {Tree} {Is} flat_of Good ts e is t left good m c =
       parts = f.parts;
       counted = c;
       begins = ([], (t, is (f.before ++ []) t good (f.other [] (λ end h. refl))));
+      written = record { rest = []; tokens = tt; language = (t, is (f.before ++ []) t good (f.other [] (λ end h. refl))) };
     }
 
 -- a whole source isn't read: its reader stops, or tokens are left

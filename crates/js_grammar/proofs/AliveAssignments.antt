@@ -26,7 +26,7 @@ use Rattle.js_grammar.proofs.PartSound.{fresh_behind, names_before_sound, parame
 use Rattle.js_grammar.proofs.OperatorSound.{operation_sound}
 use Rattle.js_grammar.proofs.PrimarySound.{call_sound}
 use Rattle.js_grammar.proofs.ExpressionSound.{fresh_is, assignment_sound}
-use Rattle.js_grammar.proofs.AliveTools.{bind_err, cond_err, Counts, stuck_counts, a_token, a_near_token, Anything, Nothing, IsZero, Starts, is_firm, firm_append, Lives, fills, anything, from_nothing, ends_in, around, stopped, renamed, behind}
+use Rattle.js_grammar.proofs.AliveTools.{bind_err, cond_err, Counts, stuck_counts, Added, as_token, added, a_token, a_near_token, Anything, Nothing, IsZero, Starts, is_firm, firm_append, Lives, fills, anything, from_nothing, ends_in, around, stopped, renamed, behind}
 use Rattle.js_grammar.proofs.AliveParts.{Fits, AliveBelow, zero_marks, flat_block, expect_near_err, parameters_lives, more_lives, seq_lives, made_err}
 use Rattle.js_grammar.proofs.AliveExpressions.{low_err, looser, whole_lives, token_lives, zero_token, IsFunctionOf, function_lives, operation_lives}
 use Rattle.js_grammar.proofs.FirmTrees.{expression_firm, firm_parameters}
@@ -37,13 +37,13 @@ use Rattle.js_grammar.proofs.StatementSound.{no_brace}
 -- ---- tokens that are no other
 
 -- an added number is of no other kind
-pub other_kind : (k : TokenKind) (ts us : List Token) → is_kind k (Some (a_token kinds.Number)) ≡ false → is_kind k (head_of ts) ≡ false → Starts IsZero ts us → is_kind k (head_of us) ≡ false
+pub other_kind : (k : TokenKind) (ts us : List Token) → is_kind k (Some (as_token (a_token kinds.Number))) ≡ false → is_kind k (head_of ts) ≡ false → Starts IsZero ts us → is_kind k (head_of us) ≡ false
 other_kind k ts us z f (inl same) = ap (λ (o : Option Token). is_kind k o) same ∙ f
 other_kind k ts us z f (inr is) = ap (λ (o : Option Token). is_kind k o) is ∙ z
 
 -- what lives behind no brace begins with none
 pub alive_no_brace : {flat_of : Expression → List Mark} {Good : Expression → Type 0} {ts : List Token} {e : Fault} (l : Lives IsZero flat_of Good ts e) → is_kind kinds.LeftBrace (head_of ts) ≡ false → begins_with_brace (flat_of l.tree) ≡ false
-alive_no_brace {flat_of} {Good} {ts} l f = no_brace (flat_of l.tree) (l.before ++ (l.rest ++ [])) [] (other_kind kinds.LeftBrace ts (l.before ++ (l.rest ++ [])) refl f (l.starts [])) (l.spelled [])
+alive_no_brace {flat_of} {Good} {ts} l f = no_brace (flat_of l.tree) (l.before ++ (added l.rest ++ [])) [] (other_kind kinds.LeftBrace ts (l.before ++ (added l.rest ++ [])) refl f (l.starts [])) (l.spelled [])
 
 -- ---- arrow functions
 
@@ -78,10 +78,10 @@ arrow_body_lives n b snd a s ps ts m fresh us next false f e p =
 abbrev zero_arrow : List Mark
 zero_arrow = beside (fixed kinds.Arrow) ∷ zero_marks
 
-abbrev zero_arrow_tokens : List Token
+abbrev zero_arrow_tokens : List Added
 zero_arrow_tokens = a_near_token kinds.Arrow ∷ zero_token
 
-zero_arrow_spelled : (r : List Token) → Matches zero_arrow (zero_arrow_tokens ++ r) r
+zero_arrow_spelled : (r : List Token) → Matches zero_arrow (added zero_arrow_tokens ++ r) r
 zero_arrow_spelled r = (refl, refl, ((refl, refl), refl))
 
 arrow_rest_lives : (n : ℕ) (b : Below) → SoundBelow n b → AliveBelow b → (s : List Token) (ps : Parameters) (ts : List Token) (e : Fault) → Matches (flat_arrow_parameters ps) s ts → AreFresh [] (names_of_parameters ps) → arrow_rest b ps (names_of_parameters ps) ts ≡ Err e → Lives Nothing flat (IsFunctionOf 1) s e
@@ -111,7 +111,7 @@ with_zero (n ∷ ns) = trees.an_expression (trees.name n) (with_zero ns)
 
 -- What names that end so are, as they are read: of true they begin expressions that 0 ends, of false they are expressions with the parenthesis.
 abbrev Shaped : Bool → List Identifier → List Token → List Token → Type 0
-Shaped true names us r = (before : List Token) × (last : Token) × (us ≡ before ++ (last ∷ r)) × ((x : List Token) → Matches (flat_expressions (with_zero names)) (before ++ (a_token kinds.Number ∷ x)) x)
+Shaped true names us r = (before : List Token) × (last : Token) × (us ≡ before ++ (last ∷ r)) × ((x : List Token) → Matches (flat_expressions (with_zero names)) (before ++ (as_token (a_token kinds.Number) ∷ x)) x)
 Shaped false names us r = Matches (flat_expressions (as_expressions names) ++ (token (fixed kinds.RightParenthesis) ∷ [])) us r × ((n : Identifier) × (ns : List Identifier) × (names ≡ n ∷ ns))
 
 abbrev got_names : List Identifier → List Token → Read (List Identifier)
@@ -148,7 +148,7 @@ no_names n ns e = absurd cc
 -- one name before others
 more_shaped : (only : Bool) (t u : Token) (us : List Token) (ns : List Identifier) (r : List Token) → t.kind ≡ kinds.Name → u.kind ≡ kinds.Comma → Shaped only ns us r → Shaped only (t.string_value ∷ ns) (t ∷ u ∷ us) r
 more_shaped true t u us [] r f c s = (t ∷ u ∷ s.0, s.1, ap (λ (us : List Token). t ∷ u ∷ us) s.2, λ x. ((f, refl), (c, s.3 x)))
-more_shaped true t u us (n ∷ ns) r f c s = (t ∷ u ∷ s.0, s.1, ap (λ (us : List Token). t ∷ u ∷ us) s.2, λ x. ((f, refl), (c, subst (λ (ms : List Mark). Matches (token (identifier n) ∷ ms) (s.0 ++ (a_token kinds.Number ∷ x)) x) (sym (append-nil (more_expressions (with_zero ns)))) (s.3 x))))
+more_shaped true t u us (n ∷ ns) r f c s = (t ∷ u ∷ s.0, s.1, ap (λ (us : List Token). t ∷ u ∷ us) s.2, λ x. ((f, refl), (c, subst (λ (ms : List Mark). Matches (token (identifier n) ∷ ms) (s.0 ++ (as_token (a_token kinds.Number) ∷ x)) x) (sym (append-nil (more_expressions (with_zero ns)))) (s.3 x))))
 more_shaped false t u us [] r f c s = absurd (no_names s.1.0 s.1.1 s.1.2)
 more_shaped false t u us (n ∷ ns) r f c s = (((f, refl), (c, subst (λ (ms : List Mark). Matches (token (identifier n) ∷ (ms ++ (token (fixed kinds.RightParenthesis) ∷ []))) us r) (sym (append-nil (more_expressions (as_expressions ns)))) s.0)), (t.string_value, (n ∷ ns), refl))
 
@@ -247,7 +247,7 @@ refused_names (t ∷ s) us ts e names m f shape c = record {
   tree = trees.parenthesized (trees.comma (with_zero names));
   good = ((two_with_zero names f, zero_assignments names), omega arith);
   rest = a_token kinds.Number ∷ a_token kinds.RightParenthesis ∷ [];
-  spelled = λ r. (m.0, joins (flat_expressions (with_zero names)) (token (fixed kinds.RightParenthesis) ∷ []) (shape.0 ++ (a_token kinds.Number ∷ a_token kinds.RightParenthesis ∷ r)) (a_token kinds.RightParenthesis ∷ r) r (shape.3 (a_token kinds.RightParenthesis ∷ r)) (refl, refl));
+  spelled = λ r. (m.0, joins (flat_expressions (with_zero names)) (token (fixed kinds.RightParenthesis) ∷ []) (shape.0 ++ (as_token (a_token kinds.Number) ∷ as_token (a_token kinds.RightParenthesis) ∷ r)) (as_token (a_token kinds.RightParenthesis) ∷ r) r (shape.3 (as_token (a_token kinds.RightParenthesis) ∷ r)) (refl, refl));
   starts = λ r. inl refl;
 }
 
@@ -404,8 +404,8 @@ append_none (u ∷ us) vs e = absurd cc
 -- further expressions that are not whole, of which there may be none
 further_lives : (n : ℕ) (s : List Token) (t : Expression) (ts : List Token) (e : Fault) → TakesExpression 1 (suc n) s t ts → (l : Lives Anything more_expressions AreAssignments ts e) → (es : Expressions) → l.tree ≡ es → Lives Nothing flat (Fits 0) s e
 further_lives n s t ts e k l trees.no_expressions is =
-    let all : l.before ++ (l.rest ++ []) ≡ [] = subst (λ (es : Expressions). Matches (more_expressions es) (l.before ++ (l.rest ++ [])) []) is (l.spelled []) in
-    let none : l.before ≡ [] = append_none l.before (l.rest ++ []) all in
+    let all : l.before ++ (added l.rest ++ []) ≡ [] = subst (λ (es : Expressions). Matches (more_expressions es) (l.before ++ (added l.rest ++ [])) []) is (l.spelled []) in
+    let none : l.before ≡ [] = append_none l.before (added l.rest ++ []) all in
     let same : ts ≡ l.left = l.parts ∙ ap (λ (us : List Token). us ++ l.left) none in
     looser 1 0 (omega arith) (whole_lives 1 (suc n) s t ts e k (subst (λ (us : List Token). Counts e us) (sym same) l.counted))
 further_lives n s t ts e k l (trees.an_expression f fs) is =

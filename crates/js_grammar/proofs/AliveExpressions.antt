@@ -29,7 +29,7 @@ use Rattle.js_grammar.proofs.PartSound.{seq_sound}
 use Rattle.js_grammar.proofs.HeadLaws.{update_next, prefix_unary, from_is, from_past}
 use Rattle.js_grammar.proofs.OperatorSound.{weaker, Ended, binary_takes, unary_sound}
 use Rattle.js_grammar.proofs.PrimarySound.{TakesKey, key_sound, property_sound, properties_marks, primary_sound, linked_by_sound, call_sound}
-use Rattle.js_grammar.proofs.AliveTools.{bind_err, cond_err, Counts, stuck_counts, deep_counts, a_token, a_name_token, Anything, Nothing, IsZero, firm_behind, firm_append, Lives, fills, anything, from_nothing, ends_in, around, stopped, renamed, behind}
+use Rattle.js_grammar.proofs.AliveTools.{bind_err, cond_err, Counts, stuck_counts, deep_counts, Added, added, a_token, a_name_token, Anything, Nothing, IsZero, firm_behind, firm_append, Lives, fills, anything, from_nothing, ends_in, around, stopped, renamed, behind}
 use Rattle.js_grammar.proofs.AliveLists.{elements_lives}
 use Rattle.js_grammar.proofs.AliveParts.{Fits, AliveBelow, zero_expression, zero_marks, flat_code, name_lives, seq_lives, known_lives, made_err}
 use Rattle.js_grammar.proofs.FirmTrees.{expression_firm, key_firm, property_firm}
@@ -57,11 +57,11 @@ whole_lives low n s f ts e t c = stopped (flat f) (expression_firm f t.well) s t
 
 -- an expression and one token behind it, and what is added
 pub token_lives : {flat_as : Expression → List Mark} {Fine : Expression → Type 0} (low n : ℕ) (s : List Token) (f : Expression) (ts : List Token) (e : Fault) → TakesExpression low n s f ts → (k : TokenKind) → IsNext (fixed k) (head_of ts) → Counts e (tail_of ts)
-    → (tree : Expression) → Fine tree → (ns : List Mark) (more : List Token) → ((r : List Token) → Matches ns (more ++ r) r) → flat f ++ (token (fixed k) ∷ ns) ≡ flat_as tree → Lives Nothing flat_as Fine s e
+    → (tree : Expression) → Fine tree → (ns : List Mark) (more : List Added) → ((r : List Token) → Matches ns (added more ++ r) r) → flat f ++ (token (fixed k) ∷ ns) ≡ flat_as tree → Lives Nothing flat_as Fine s e
 token_lives low n s f ts e t k next c tree fine ns more spelled same =
     stopped (flat f ++ (token (fixed k) ∷ [])) (firm_append (flat f) (token (fixed k) ∷ []) refl) s (tail_of ts) (joins (flat f) (token (fixed k) ∷ []) s ts (tail_of ts) t.marks (next, refl)) e c tree fine ns more spelled (append_assoc (flat f) (token (fixed k) ∷ []) ns ∙ same)
 
-abbrev pub zero_token : List Token
+abbrev pub zero_token : List Added
 zero_token = a_token kinds.Number ∷ []
 
 -- the name x
@@ -71,8 +71,8 @@ x_name = 120 ∷ []
 abbrev word_marks : List Mark
 word_marks = token (identifier_name x_name) ∷ []
 
-abbrev word_tokens : List Token
-word_tokens = a_name_token x_name ∷ []
+abbrev word_tokens : List Added
+word_tokens = a_name_token x_name refl ∷ []
 
 word_err : (ts : List Token) (e : Fault) → word_at ts ≡ Err e → Counts e ts
 unfolding word_at
@@ -134,14 +134,14 @@ key_lives n b s a ts e p = key_by_lives n b s a (key_start (head_of ts)) ts e p
 abbrev zero_value : List Mark
 zero_value = token (fixed kinds.Colon) ∷ token (numeric_literal 0) ∷ []
 
-abbrev zero_value_tokens : List Token
+abbrev zero_value_tokens : List Added
 zero_value_tokens = a_token kinds.Colon ∷ a_token kinds.Number ∷ []
 
 -- ) { } behind the parenthesis of a method
 abbrev empty_rest : List Mark
 empty_rest = token (fixed kinds.RightParenthesis) ∷ token (fixed kinds.LeftBrace) ∷ token (fixed kinds.RightBrace) ∷ []
 
-abbrev empty_rest_tokens : List Token
+abbrev empty_rest_tokens : List Added
 empty_rest_tokens = a_token kinds.RightParenthesis ∷ a_token kinds.LeftBrace ∷ a_token kinds.RightBrace ∷ []
 
 method_lives : (n : ℕ) (s : List Token) (k : Key) (ts : List Token) (e : Fault) → TakesKey n s k ts → IsNext (fixed kinds.LeftParenthesis) (head_of ts) → Counts e (tail_of ts) → Lives Nothing flat_property WellProperty s e
@@ -360,10 +360,10 @@ postfix_lives n b s a ts e p = elim (bind_err (call b n ts) (λ x. updated_by n 
 abbrev x_marks : List Mark
 x_marks = token (fixed kinds.Dot) ∷ word_marks
 
-abbrev x_tokens : List Token
+abbrev x_tokens : List Added
 x_tokens = a_token kinds.Dot ∷ word_tokens
 
-x_spelled : (r : List Token) → Matches x_marks (x_tokens ++ r) r
+x_spelled : (r : List Token) → Matches x_marks (added x_tokens ++ r) r
 x_spelled r = (refl, ((refl, refl), refl))
 
 -- an operand that has to be a property or a target is made one

@@ -16,8 +16,8 @@ use Rattle.js_syntax.specs.Parsing.{let_kind}
 use Rattle.js_grammar.proofs.HeadLaws.{start_boolean, prefix_unary}
 use Rattle.js_grammar.proofs.PartSound.{initialized_present}
 use Rattle.js_grammar.proofs.StatementSound.{no_function, no_brace}
-use Rattle.js_grammar.proofs.AliveTools.{a_token, a_near_token, a_name_token, Nothing, Starts, is_firm, Lives, stopped, ends_in}
-use Rattle.js_grammar.proofs.AliveParts.{Fits, IsStatement, IsItem, zero_marks, zero_initialized, zero_declarator, some_name, some_name_fresh, declared_more}
+use Rattle.js_grammar.proofs.AliveTools.{Added, added, a_token, a_near_token, a_name_token, Nothing, Starts, is_firm, Lives, stopped, ends_in}
+use Rattle.js_grammar.proofs.AliveParts.{Fits, IsStatement, IsItem, zero_marks, zero_initialized, zero_declarator, some_name, some_name_fresh, fresh_token, declared_more}
 use Rattle.js_grammar.proofs.AliveExpressions.{zero_token, x_name, start_bracket}
 use Rattle.js_grammar.proofs.AliveStatements.{FirstNext, empty_braces, empty_brace_tokens, let_marks}
 use Rattle.js_syntax.proofs.ClassLemmas.{start_this, start_null, start_brace, start_function, start_name, start_number, start_string, prefix_delete, prefix_update}
@@ -31,7 +31,7 @@ is_start classes.no_start = false
 is_start _ = true
 
 -- one token, and what is added
-pub first_token : {A : Type 0} {flat_as : A → List Mark} {Fine : A → Type 0} (k : TokenKind) (ts : List Token) → IsNext (fixed k) (head_of ts) → (tree : A) → Fine tree → (ns : List Mark) (more : List Token) → ((r : List Token) → Matches ns (more ++ r) r) → token (fixed k) ∷ ns ≡ flat_as tree → Lives Nothing flat_as Fine ts (deep (length (tail_of ts)))
+pub first_token : {A : Type 0} {flat_as : A → List Mark} {Fine : A → Type 0} (k : TokenKind) (ts : List Token) → IsNext (fixed k) (head_of ts) → (tree : A) → Fine tree → (ns : List Mark) (more : List Added) → ((r : List Token) → Matches ns (added more ++ r) r) → token (fixed k) ∷ ns ≡ flat_as tree → Lives Nothing flat_as Fine ts (deep (length (tail_of ts)))
 first_token k ts f tree fine ns more spelled same = stopped (token (fixed k) ∷ []) refl ts (tail_of ts) (f, refl) (deep (length (tail_of ts))) refl tree fine ns more spelled same
 
 boolean_firm : (c : Bool) → is_firm (flat (trees.boolean c)) ≡ true
@@ -68,10 +68,10 @@ x_member = trees.member (trees.name x_name) x_name
 abbrev x_member_marks : List Mark
 x_member_marks = token (identifier x_name) ∷ token (fixed kinds.Dot) ∷ token (identifier_name x_name) ∷ []
 
-abbrev x_member_tokens : List Token
-x_member_tokens = a_name_token x_name ∷ a_token kinds.Dot ∷ a_name_token x_name ∷ []
+abbrev x_member_tokens : List Added
+x_member_tokens = a_name_token x_name refl ∷ a_token kinds.Dot ∷ a_name_token x_name refl ∷ []
 
-x_member_spelled : (r : List Token) → Matches x_member_marks (x_member_tokens ++ r) r
+x_member_spelled : (r : List Token) → Matches x_member_marks (added x_member_tokens ++ r) r
 x_member_spelled r = ((refl, refl), (refl, ((refl, refl), refl)))
 
 pub prefix_lives : (c : Prefix) (ts : List Token) → prefix (head_of ts) ≡ c → is_prefix c ≡ true → Lives Nothing flat (Fits 13) ts (deep (length (tail_of ts)))
@@ -96,22 +96,22 @@ may_stand context _ = true
 abbrev test_marks : List Mark
 test_marks = token (fixed kinds.LeftParenthesis) ∷ token (numeric_literal 0) ∷ token (fixed kinds.RightParenthesis) ∷ token (numeric_literal 0) ∷ semicolon (after_expression plain) ∷ []
 
-abbrev test_tokens : List Token
+abbrev test_tokens : List Added
 test_tokens = a_token kinds.LeftParenthesis ∷ a_token kinds.Number ∷ a_token kinds.RightParenthesis ∷ a_token kinds.Number ∷ a_token kinds.Semicolon ∷ []
 
-test_spelled : (r : List Token) → Matches test_marks (test_tokens ++ r) r
+test_spelled : (r : List Token) → Matches test_marks (added test_tokens ++ r) r
 test_spelled r = (refl, ((refl, refl), (refl, ((refl, refl), inl (refl, refl)))))
 
 abbrev zero_do : List Mark
 zero_do = token (numeric_literal 0) ∷ semicolon (after_expression plain) ∷ token (fixed kinds.While) ∷ token (fixed kinds.LeftParenthesis) ∷ token (numeric_literal 0) ∷ token (fixed kinds.RightParenthesis) ∷ semicolon after_do ∷ []
 
-abbrev zero_do_tokens : List Token
+abbrev zero_do_tokens : List Added
 zero_do_tokens = a_token kinds.Number ∷ a_token kinds.Semicolon ∷ a_token kinds.While ∷ a_token kinds.LeftParenthesis ∷ a_token kinds.Number ∷ a_token kinds.RightParenthesis ∷ a_token kinds.Semicolon ∷ []
 
 abbrev zero_for : List Mark
 zero_for = token (fixed kinds.LeftParenthesis) ∷ token (fixed kinds.Semicolon) ∷ token (fixed kinds.Semicolon) ∷ token (fixed kinds.RightParenthesis) ∷ token (numeric_literal 0) ∷ semicolon (after_expression plain) ∷ []
 
-abbrev zero_for_tokens : List Token
+abbrev zero_for_tokens : List Added
 zero_for_tokens = a_token kinds.LeftParenthesis ∷ a_token kinds.Semicolon ∷ a_token kinds.Semicolon ∷ a_token kinds.RightParenthesis ∷ a_token kinds.Number ∷ a_token kinds.Semicolon ∷ []
 
 abbrev zero_statement_tree : Statement
@@ -121,7 +121,7 @@ zero_statement_tree = trees.expression (trees.number 0)
 abbrev word_end : List Mark
 word_end = semicolon after_word ∷ []
 
-abbrev end_token : List Token
+abbrev end_token : List Added
 end_token = a_token kinds.Semicolon ∷ []
 
 pub first_lives : (context : Context) (c : First) (ts : List Token) → FirstNext c (head_of ts) → may_stand context c ≡ true → Lives Nothing flat_statement (IsStatement context) ts (deep (length (tail_of ts)))
@@ -144,7 +144,7 @@ first_lives context classes.an_expression ts f h = absurd cc
 -- an expression that begins with neither { nor function, as a statement
 pub expression_first_lives : (context : Context) (ts : List Token) → FirstNext classes.an_expression (head_of ts) → Lives Nothing flat (Fits 0) ts (deep (length (tail_of ts))) → Lives Nothing flat_statement (IsStatement context) ts (deep (length (tail_of ts)))
 expression_first_lives context ts f l =
-    let us = l.before ++ (l.rest ++ []) in
+    let us = l.before ++ (added l.rest ++ []) in
     let brace = still_other kinds.LeftBrace us f.0 (l.starts []) in
     let word = still_other kinds.Function us f.1 (l.starts []) in
     ends_in l (trees.expression l.tree) ((l.good.0, no_brace (flat l.tree) us [] brace (l.spelled []), no_function (flat l.tree) us [] word (l.spelled [])), refl) (semicolon (after_expression (edge l.tree)) ∷ []) end_token (λ r. inl (refl, refl)) refl
@@ -161,10 +161,10 @@ lexical_first_lives context taken constant ts f =
     let ds = trees.a_declarator (zero_declarator n) trees.no_declarators in
     let d = declared_more constant taken (zero_declarator n) [] ((tt, omega arith), initialized_present constant n (trees.number 0), some_name_fresh taken) tt in
     let ms = token (identifier n) ∷ token (fixed kinds.Assign) ∷ token (numeric_literal 0) ∷ semicolon (after_expression plain) ∷ [] in
-    first_token (let_kind constant) ts f (trees.lexical constant ds) ((d.0, d.1, d.2), d.3) ms (a_name_token n ∷ (zero_initialized ++ end_token)) (λ r. ((refl, refl), (refl, ((refl, refl), inl (refl, refl))))) (let_marks constant ms)
+    first_token (let_kind constant) ts f (trees.lexical constant ds) ((d.0, d.1, d.2), d.3) ms (fresh_token taken ∷ (zero_initialized ++ end_token)) (λ r. ((refl, refl), (refl, ((refl, refl), inl (refl, refl))))) (let_marks constant ms)
 
 pub function_first_lives : (context : Context) (taken : List Identifier) (ts : List Token) → IsNext (fixed kinds.Function) (head_of ts) → Lives Nothing flat_statement (IsItem context taken) ts (deep (length (tail_of ts)))
 function_first_lives context taken ts f =
     let n = some_name taken in
     first_token kinds.Function ts f (trees.declared_function n [] trees.no_statements) (((tt, tt), tt), (some_name_fresh taken, tt)) (token (identifier n) ∷ token (fixed kinds.LeftParenthesis) ∷ token (fixed kinds.RightParenthesis) ∷ empty_braces)
-    (a_name_token n ∷ a_token kinds.LeftParenthesis ∷ a_token kinds.RightParenthesis ∷ empty_brace_tokens) (λ r. ((refl, refl), (refl, (refl, (refl, (refl, refl)))))) refl
+    (fresh_token taken ∷ a_token kinds.LeftParenthesis ∷ a_token kinds.RightParenthesis ∷ empty_brace_tokens) (λ r. ((refl, refl), (refl, (refl, (refl, (refl, refl)))))) refl

@@ -1,13 +1,15 @@
 -- Where the readers of parts and of productions stop, the tokens before begin well-formed ones.
-use Rattle.std.proofs.Common.{◌≡◌, ℕ, suc, ◌+◌, ◌<◌, ◌≤◌, Bool, true, false, List, [], ◌∷◌, ◌++◌, length, Option, Ok, Err, refl, sym, ap, subst, ◌∙◌, inl, inr, append_assoc, length-append, arith}
+use Rattle.std.proofs.Common.{◌≡◌, ℕ, zero, suc, ◌+◌, ◌<◌, ◌≤◌, Bool, true, false, List, [], ◌∷◌, ◌++◌, length, Option, Ok, Err, refl, sym, ap, subst, ◌∙◌, inl, inr, append_assoc, arith}
 use Rattle.std.specs.Prelude.{◌&&◌, ◌||◌, nat_eq}
+use Rattle.std.specs.List.{list_all}
 use Rattle.std.specs.Cmp.Lexicographic.{pointwise, same_text}
 use Rattle.std.proofs.lemmas.List.{append-nil}
 use Rattle.js_lexer.specs.declared.token.TokenKind.{TokenKind}
 use Rattle.js_lexer.specs.declared.token.TokenKind.TheVariants as kinds
+use Rattle.js_lexer.specs.Classes.{is_word_part}
 use Rattle.js_tree.specs.Trees as trees
 use Rattle.js_tree.specs.Trees.{Identifier, Expression, Expressions, Declarator, Declarators, Statement, Statements}
-use Rattle.js_language.specs.Tokens.{Token, fixed, identifier, numeric_literal, Mark, token, semicolon, End, after_expression, absent, head_of, tail_of, is_on_line, IsNext, Matches}
+use Rattle.js_language.specs.Tokens.{Token, IsSymbol, fixed, identifier, numeric_literal, Mark, token, semicolon, End, after_expression, absent, head_of, tail_of, is_on_line, IsNext, Matches}
 use Rattle.js_language.specs.Flat as flats
 use Rattle.js_language.specs.Flat.{edge, flat, flat_expressions, more_expressions, trailing, an_identifier, flat_parameters, flat_declarator, flat_declarators, flat_statement, flat_statements}
 use Rattle.js_language.specs.Well.{Context, function_body, level, Well, AreAssignments, WellDeclarator, WellDeclarators, IsInitialized, is_some_declarator, WellStatement, WellStatements, is_statement, is_among, AreFresh, DifferIn, declared_by, declared_names, names_of_declarators}
@@ -22,7 +24,8 @@ use Rattle.js_grammar.proofs.MarkLaws.{joins}
 use Rattle.js_grammar.proofs.TokenLaws.{expect_sound, expect_again, fresh_sound}
 use Rattle.js_grammar.proofs.ListSound.{behind_commas, up_to, in_a_row, AllGood, Reads}
 use Rattle.js_grammar.proofs.PartSound.{fresh_behind, fresh_append, more_is, arguments_marks, names_marks, Differs, all_fresh, row_is, items_at_sound, parameters_sound, InitializedOne, initialized_present, declarator_sound, initialized_more, no_more_initialized, fresh_more, more_declarators_is, item_sound}
-use Rattle.js_grammar.proofs.AliveTools.{bind_err, cond_err, Counts, stuck_counts, a_token, a_near_token, a_name_token, Anything, Nothing, IsAdded, IsZero, Starts, zero_softer, while_softer, brace_softer, softens, is_firm, firm_append, Lives, fills, anything, from_nothing, ends_in, around, around_softly, stopped}
+use Rattle.js_grammar.proofs.SpelledKinds.{is_free}
+use Rattle.js_grammar.proofs.AliveTools.{bind_err, cond_err, Counts, stuck_counts, Added, as_token, added, added_append, a_token, a_near_token, a_name_token, Anything, Nothing, IsAdded, IsZero, Starts, zero_softer, while_softer, brace_softer, softens, is_firm, firm_append, Lives, fills, anything, from_nothing, ends_in, around, around_softly, stopped}
 use Rattle.js_grammar.proofs.AliveLists.{elements_lives, others_lives, items_lives}
 use Rattle.js_grammar.proofs.FirmTrees.{expression_firm, firm_last, firm_braces, firm_parameters, declarator_firm, declarators_firm}
 use Rattle.std.proofs.lemmas.Bool.{and_parts}
@@ -73,10 +76,10 @@ abbrev pub zero_marks : List Mark
 zero_marks = token (numeric_literal 0) ∷ []
 
 -- 0; as a statement
-abbrev pub zero_spelled : List Token
+abbrev pub zero_spelled : List Added
 zero_spelled = a_token kinds.Number ∷ a_token kinds.Semicolon ∷ []
 
-pub zero_spells : (r : List Token) → Matches (flat_statement (trees.expression (trees.number 0))) (zero_spelled ++ r) r
+pub zero_spells : (r : List Token) → Matches (flat_statement (trees.expression (trees.number 0))) (added zero_spelled ++ r) r
 zero_spells r = ((refl, refl), inl (refl, refl))
 
 pub zero_statement : (context : Context) (ts : List Token) (e : Fault) → Counts e ts → Lives IsZero flat_statement (IsStatement context) ts e
@@ -91,18 +94,26 @@ empty_block context taken ts e c = fills ts e c trees.no_statements (tt, tt) (a_
 pub empty_code : (ts : List Token) (e : Fault) → Counts e ts → Lives (IsAdded kinds.LeftParenthesis) flat_code IsCode ts e
 empty_code ts e c = fills ts e c (record { parameters = []; body = trees.no_statements }) ((tt, tt), tt) (a_token kinds.LeftParenthesis ∷ a_token kinds.RightParenthesis ∷ a_token kinds.LeftBrace ∷ a_token kinds.RightBrace ∷ []) (λ r. (refl, (refl, (refl, (refl, refl))))) (λ r. refl)
 
--- a name that differs from these: it is longer than all of them
-abbrev longer : List Identifier → Identifier
-longer [] = 120 ∷ []
-longer (m ∷ ms) = 120 ∷ (m ++ longer ms)
+-- x, one time more than this
+abbrev pub xs : ℕ → Identifier
+xs zero = 120 ∷ []
+xs (suc n) = 120 ∷ xs n
 
-abbrev total : List Identifier → ℕ
+abbrev pub total : List Identifier → ℕ
 total [] = 0
 total (m ∷ ms) = length m + total ms
 
-total_less : (ms : List Identifier) → total ms < length (longer ms)
-total_less [] = omega arith
-total_less (m ∷ ms) = omega (arith, total_less ms, length-append m (longer ms))
+xs_length : (n : ℕ) → length (xs n) ≡ suc n
+xs_length zero = refl
+xs_length (suc n) = ap (λ n. suc n) (xs_length n)
+
+xs_parts : (n : ℕ) → list_all is_word_part (xs n) ≡ true
+xs_parts zero = refl
+xs_parts (suc n) = xs_parts n
+
+pub xs_free : (n : ℕ) → is_free (xs n) ≡ true
+xs_free zero = refl
+xs_free (suc n) = xs_parts n
 
 apart_test : (m n : Identifier) (c b : Bool) → (m ≡ n → ⊥) → pointwise nat_eq m n ≡ b → c ≡ false → (b || c) ≡ false
 apart_test m n c true differ same h = absurd (differ (same_text m n (sym same)))
@@ -112,11 +123,15 @@ apart : (ms : List Identifier) (n : Identifier) → total ms < length n → is_a
 apart [] n h = refl
 apart (m ∷ ms) n h = apart_test m n (is_among ms n) (pointwise nat_eq m n) (λ same. omega (arith, h, ap (λ (n : Identifier). length n) same)) refl (apart ms n (omega (arith, h)))
 
+-- a name that differs from these: it is longer than all of them
 abbrev pub some_name : List Identifier → Identifier
-some_name taken = longer taken
+some_name taken = xs (total taken)
+
+abbrev pub fresh_token : List Identifier → Added
+fresh_token taken = a_name_token (some_name taken) (xs_free (total taken))
 
 pub some_name_fresh : (taken : List Identifier) → is_among taken (some_name taken) ≡ false
-some_name_fresh taken = apart taken (longer taken) (total_less taken)
+some_name_fresh taken = apart taken (some_name taken) (omega (arith, xs_length (total taken)))
 
 -- ---- names
 
@@ -124,7 +139,7 @@ pub name_lives : (ts : List Token) (e : Fault) → name_at ts ≡ Err e → Live
 unfolding name_at
 name_lives ts e p = elim (cond_err (is_kind kinds.Name (head_of ts)) (Ok (text_of (head_of ts), tail_of ts)) (Err (stuck (length ts))) e p) [
   | inl q ↦ absurd cc
-  | inr q ↦ fills ts e (stuck_counts {A = Identifier} ts e q.1) (some_name []) tt (a_name_token (some_name []) ∷ []) (λ r. ((refl, refl), refl)) (λ r. tt)
+  | inr q ↦ fills ts e (stuck_counts {A = Identifier} ts e q.1) (some_name []) tt (fresh_token [] ∷ []) (λ r. ((refl, refl), refl)) (λ r. tt)
 ]
 
 pub fresh_lives : (taken : List Identifier) (ts : List Token) (e : Fault) → fresh_name taken ts ≡ Err e → Lives Anything an_identifier (Differs taken) ts e
@@ -138,7 +153,7 @@ fresh_lives taken ts e p = elim (cond_err (is_among taken (text_of (head_of ts))
 ]
   where
     another : Counts e ts → Lives Anything an_identifier (Differs taken) ts e
-    another c = fills ts e c (some_name taken) (some_name_fresh taken) (a_name_token (some_name taken) ∷ []) (λ r. ((refl, refl), refl)) (λ r. tt)
+    another c = fills ts e c (some_name taken) (some_name_fresh taken) (fresh_token taken ∷ []) (λ r. ((refl, refl), refl)) (λ r. tt)
 
 pub expect_err : (k : TokenKind) (ts : List Token) (e : Fault) → expect k ts ≡ Err e → Counts e ts
 unfolding expect
@@ -250,7 +265,7 @@ closed_lives Good ss good ts mid m e c =
       tree = ss;
       good = good;
       rest = a_token kinds.RightBrace ∷ [];
-      spelled = λ r. joins (flat_statements ss) (token (fixed kinds.RightBrace) ∷ []) (f.before ++ (a_token kinds.RightBrace ∷ r)) (a_token kinds.RightBrace ∷ r) r (f.other (a_token kinds.RightBrace ∷ r) (brace_softer mid r)) (refl, refl);
+      spelled = λ r. joins (flat_statements ss) (token (fixed kinds.RightBrace) ∷ []) (f.before ++ (as_token (a_token kinds.RightBrace) ∷ r)) (as_token (a_token kinds.RightBrace) ∷ r) r (f.other (as_token (a_token kinds.RightBrace) ∷ r) (brace_softer mid r)) (refl, refl);
       starts = λ r. inr tt;
     }
 
@@ -311,10 +326,10 @@ IsDeclarator constant taken d = WellDeclarator d × InitializedOne constant d ×
 abbrev pub zero_initializer : List Mark
 zero_initializer = token (fixed kinds.Assign) ∷ token (numeric_literal 0) ∷ []
 
-abbrev pub zero_initialized : List Token
+abbrev pub zero_initialized : List Added
 zero_initialized = a_token kinds.Assign ∷ a_token kinds.Number ∷ []
 
-zero_initializes : (r : List Token) → Matches zero_initializer (zero_initialized ++ r) r
+zero_initializes : (r : List Token) → Matches zero_initializer (added zero_initialized ++ r) r
 zero_initializes r = (refl, ((refl, refl), refl))
 
 abbrev pub zero_declarator : Identifier → Declarator
@@ -432,39 +447,53 @@ fill (a_block context taken) = trees.no_statements
 fill (in_braces context taken) = trees.no_statements
 fill code = record { parameters = []; body = trees.no_statements }
 
-abbrev spell : Item → List Token
+-- a given name, where it is free
+abbrev given : (n : List ℕ) (c : Bool) → is_free n ≡ c → Added
+given n true f = a_name_token n f
+given n false f = a_token kinds.Name
+
+given_is : (n : List ℕ) (c : Bool) (f : is_free n ≡ c) → c ≡ true → IsSymbol (identifier n) (as_token (given n c f))
+given_is n true f h = (refl, refl)
+given_is n false f h = absurd cc
+
+-- a name that is given is free
+abbrev is_writable : Item → Bool
+is_writable (the_name n) = is_free n
+is_writable i = true
+
+abbrev spell : Item → List Added
 spell (tok k) = a_token k ∷ []
 spell (near k) = a_near_token k ∷ []
-spell a_name = a_name_token (some_name []) ∷ []
-spell (the_name n) = a_name_token n ∷ []
+spell a_name = fresh_token [] ∷ []
+spell (the_name n) = given n (is_free n) refl ∷ []
 spell an_assignment = a_token kinds.Number ∷ []
 spell an_expression = a_token kinds.Number ∷ []
 spell (optional k) = a_token k ∷ []
 spell (arguments k) = a_token k ∷ []
 spell ended = zero_spelled
 spell (an_end end) = a_token kinds.Semicolon ∷ []
-spell (declared constant taken) = a_name_token (some_name taken) ∷ zero_initialized
+spell (declared constant taken) = fresh_token taken ∷ zero_initialized
 spell (a_statement context) = zero_spelled
 spell (a_block context taken) = a_token kinds.LeftBrace ∷ a_token kinds.RightBrace ∷ []
 spell (in_braces context taken) = a_token kinds.LeftBrace ∷ a_token kinds.RightBrace ∷ []
 spell code = a_token kinds.LeftParenthesis ∷ a_token kinds.RightParenthesis ∷ a_token kinds.LeftBrace ∷ a_token kinds.RightBrace ∷ []
 
-spelled : (i : Item) (r : List Token) → Matches (marks_of i (fill i)) (spell i ++ r) r
-spelled (tok k) r = (refl, refl)
-spelled (near k) r = (refl, refl, refl)
-spelled a_name r = ((refl, refl), refl)
-spelled (the_name n) r = ((refl, refl), refl)
-spelled an_assignment r = ((refl, refl), refl)
-spelled an_expression r = ((refl, refl), refl)
-spelled (optional k) r = (refl, refl)
-spelled (arguments k) r = (refl, refl)
-spelled ended r = zero_spells r
-spelled (an_end end) r = inl (refl, refl)
-spelled (declared constant taken) r = ((refl, refl), (refl, ((refl, refl), refl)))
-spelled (a_statement context) r = zero_spells r
-spelled (a_block context taken) r = (refl, (refl, refl))
-spelled (in_braces context taken) r = (refl, (refl, refl))
-spelled code r = (refl, (refl, (refl, (refl, refl))))
+spelled : (i : Item) → is_writable i ≡ true → (r : List Token) → Matches (marks_of i (fill i)) (added (spell i) ++ r) r
+spelled (tok k) w r = (refl, refl)
+spelled (near k) w r = (refl, refl, refl)
+spelled a_name w r = ((refl, refl), refl)
+spelled (the_name n) w r = (given_is n (is_free n) refl w, refl)
+spelled an_assignment w r = ((refl, refl), refl)
+spelled an_expression w r = ((refl, refl), refl)
+spelled (optional k) w r = (refl, refl)
+spelled (arguments k) w r = (refl, refl)
+spelled ended w r = zero_spells r
+spelled (an_end end) w r = inl (refl, refl)
+spelled (declared constant taken) w r = ((refl, refl), (refl, ((refl, refl), refl)))
+spelled (a_statement context) w r = zero_spells r
+spelled (a_block context taken) w r = (refl, (refl, refl))
+spelled (in_braces context taken) w r = (refl, (refl, refl))
+spelled code w r = (refl, (refl, (refl, (refl, refl))))
 
 fill_sane : (i : Item) → Sane i (fill i)
 fill_sane (tok k) = tt
@@ -487,14 +516,20 @@ abbrev fill_all : (is : List Item) → Values is
 fill_all [] = tt
 fill_all (i ∷ is) = (fill i, fill_all is)
 
-abbrev spell_all : List Item → List Token
+abbrev spell_all : List Item → List Added
 spell_all [] = []
 spell_all (i ∷ is) = spell i ++ spell_all is
 
-all_spelled : (is : List Item) (r : List Token) → Matches (marks is (fill_all is)) (spell_all is ++ r) r
-all_spelled [] r = refl
-all_spelled (i ∷ is) r = subst (λ (us : List Token). Matches (marks (i ∷ is) (fill_all (i ∷ is))) us r) (sym (append_assoc (spell i) (spell_all is) r))
-    (joins (marks_of i (fill i)) (marks is (fill_all is)) (spell i ++ (spell_all is ++ r)) (spell_all is ++ r) r (spelled i (spell_all is ++ r)) (all_spelled is r))
+abbrev are_writable : List Item → Bool
+are_writable [] = true
+are_writable (i ∷ is) = is_writable i && are_writable is
+
+all_spelled : (is : List Item) → are_writable is ≡ true → (r : List Token) → Matches (marks is (fill_all is)) (added (spell_all is) ++ r) r
+all_spelled [] w r = refl
+all_spelled (i ∷ is) w r =
+    let h = and_parts (is_writable i) (are_writable is) w in
+    subst (λ (us : List Token). Matches (marks (i ∷ is) (fill_all (i ∷ is))) us r) (sym (ap (λ (us : List Token). us ++ r) (added_append (spell i) (spell_all is)) ∙ append_assoc (added (spell i)) (added (spell_all is)) r))
+    (joins (marks_of i (fill i)) (marks is (fill_all is)) (added (spell i) ++ (added (spell_all is) ++ r)) (added (spell_all is) ++ r) r (spelled i h.0 (added (spell_all is) ++ r)) (all_spelled is h.1 r))
 
 all_sane : (is : List Item) → AllSane is (fill_all is)
 all_sane [] = tt
@@ -510,24 +545,24 @@ FirstOf an_expression o = IsZero o
 FirstOf ended o = IsZero o
 FirstOf i o = Anything o
 
-item_lives : (n : ℕ) (b : Below) → SoundBelow n b → AliveBelow b → (i : Item) (ts : List Token) (e : Fault) → item b i ts ≡ Err e → Lives (FirstOf i) (marks_of i) (Sane i) ts e
-item_lives n b s a (tok k) ts e p = fills ts e (expect_err k ts e p) tt tt (a_token k ∷ []) (λ r. (refl, refl)) (λ r. refl)
-item_lives n b s a (near k) ts e p = fills ts e (expect_near_err k ts e p) tt tt (a_near_token k ∷ []) (λ r. (refl, refl, refl)) (λ r. tt)
-item_lives n b s a a_name ts e p = name_lives ts e p
-item_lives n b s a (the_name m) ts e p = fills ts e (name_err m ts e p) tt tt (a_name_token m ∷ []) (λ r. ((refl, refl), refl)) (λ r. tt)
-item_lives n b s a an_assignment ts e p = a.assignment ts e p
-item_lives n b s a an_expression ts e p =
+item_lives : (n : ℕ) (b : Below) → SoundBelow n b → AliveBelow b → (i : Item) → is_writable i ≡ true → (ts : List Token) (e : Fault) → item b i ts ≡ Err e → Lives (FirstOf i) (marks_of i) (Sane i) ts e
+item_lives n b s a (tok k) w ts e p = fills ts e (expect_err k ts e p) tt tt (a_token k ∷ []) (λ r. (refl, refl)) (λ r. refl)
+item_lives n b s a (near k) w ts e p = fills ts e (expect_near_err k ts e p) tt tt (a_near_token k ∷ []) (λ r. (refl, refl, refl)) (λ r. tt)
+item_lives n b s a a_name w ts e p = name_lives ts e p
+item_lives n b s a (the_name m) w ts e p = fills ts e (name_err m ts e p) tt tt (given m (is_free m) refl ∷ []) (λ r. (given_is m (is_free m) refl w, refl)) (λ r. tt)
+item_lives n b s a an_assignment w ts e p = a.assignment ts e p
+item_lives n b s a an_expression w ts e p =
     let l = a.expression ts e p in
     ends_in l l.tree l.good.0 [] [] (λ r. refl) (append-nil (flat l.tree))
-item_lives n b s a (optional k) ts e p = optional_lives n b s a k ts e p
-item_lives n b s a (arguments k) ts e p = arguments_lives n b s a k ts e p
-item_lives n b s a ended ts e p = ended_lives n b s a ts e p
-item_lives n b s a (an_end end) ts e p = fills ts e (semicolon_err end ts e p) tt tt (a_token kinds.Semicolon ∷ []) (λ r. inl (refl, refl)) (λ r. tt)
-item_lives n b s a (declared constant taken) ts e p = declarators_lives n b s a constant taken ts e p
-item_lives n b s a (a_statement context) ts e p = anything (a.statement context ts e p)
-item_lives n b s a (a_block context taken) ts e p = anything (a.block context taken ts e p)
-item_lives n b s a (in_braces context taken) ts e p = anything (braces_lives n b s a context taken ts e p)
-item_lives n b s a code ts e p = anything (code_lives n b s a ts e p)
+item_lives n b s a (optional k) w ts e p = optional_lives n b s a k ts e p
+item_lives n b s a (arguments k) w ts e p = arguments_lives n b s a k ts e p
+item_lives n b s a ended w ts e p = ended_lives n b s a ts e p
+item_lives n b s a (an_end end) w ts e p = fills ts e (semicolon_err end ts e p) tt tt (a_token kinds.Semicolon ∷ []) (λ r. inl (refl, refl)) (λ r. tt)
+item_lives n b s a (declared constant taken) w ts e p = declarators_lives n b s a constant taken ts e p
+item_lives n b s a (a_statement context) w ts e p = anything (a.statement context ts e p)
+item_lives n b s a (a_block context taken) w ts e p = anything (a.block context taken ts e p)
+item_lives n b s a (in_braces context taken) w ts e p = anything (braces_lives n b s a context taken ts e p)
+item_lives n b s a code w ts e p = anything (code_lives n b s a ts e p)
 
 -- ---- productions
 
@@ -563,7 +598,14 @@ stands i (j ∷ is) = is_firm_item i
 
 abbrev pub lively : List Item → Bool
 lively [] = true
-lively (i ∷ is) = stands i is && lively is
+lively (i ∷ is) = (is_writable i && stands i is) && lively is
+
+lively_writable : (is : List Item) → lively is ≡ true → are_writable is ≡ true
+lively_writable [] y = refl
+lively_writable (i ∷ is) y =
+    let h = and_parts (is_writable i && stands i is) (lively is) y in
+    let w = and_parts (is_writable i) (stands i is) h.0 in
+    rw (w.0, lively_writable is h.1) refl
 
 abbrev pub FirstOfAll : List Item → Option Token → Type 0
 FirstOfAll [] o = Anything o
@@ -586,13 +628,16 @@ pub seq_lives : (n : ℕ) (b : Below) → SoundBelow n b → AliveBelow b → (i
 seq_lives n b s a [] y ts e p = absurd cc
 seq_lives n b s a (i ∷ is) y ts e p = elim (bind_err (item b i ts) (λ x. seq b is x.1 >>= λ y. Ok ((x.0, y.0), y.1)) e p) [
   | inl q ↦
-      let l = item_lives n b s a i ts e q in
-      ends_in l (l.tree, fill_all is) (l.good, all_sane is) (marks is (fill_all is)) (spell_all is) (all_spelled is) refl
+      let h = and_parts (is_writable i && stands i is) (lively is) y in
+      let w = and_parts (is_writable i) (stands i is) h.0 in
+      let l = item_lives n b s a i w.0 ts e q in
+      ends_in l (l.tree, fill_all is) (l.good, all_sane is) (marks is (fill_all is)) (spell_all is) (all_spelled is (lively_writable is h.1)) refl
   | inr q ↦ elim (bind_err (seq b is q.0.1) (λ y. Ok ((q.0.0, y.0), y.1)) e q.2) [
     | inl k ↦
         let t = item_sound n b s i ts q.0 q.1 in
-        let h = and_parts (stands i is) (lively is) y in
-        behind_item i is h.0 q.0.0 t.sane ts q.0.1 t.marks e (some_items b is q.0.1 e k) (seq_lives n b s a is h.1 q.0.1 e k)
+        let h = and_parts (is_writable i && stands i is) (lively is) y in
+        let w = and_parts (is_writable i) (stands i is) h.0 in
+        behind_item i is w.1 q.0.0 t.sane ts q.0.1 t.marks e (some_items b is q.0.1 e k) (seq_lives n b s a is h.1 q.0.1 e k)
     | inr k ↦ absurd cc
   ]
 ]

@@ -21,7 +21,7 @@ use Rattle.js_grammar.proofs.MarkLaws.{joins, parts}
 use Rattle.js_grammar.proofs.TokenLaws.{expect_sound, expect_again, fresh_sound}
 use Rattle.js_grammar.proofs.PartSound.{seq_sound, declarators_sound}
 use Rattle.js_grammar.proofs.StatementSound.{no_function, on_line_is, behind_if, no_open_if, let_is, tails_are, next_optional, given_on_line, catch_items, handler_sound, finally_handled, try_items, declares_none, no_brace}
-use Rattle.js_grammar.proofs.AliveTools.{bind_err, cond_err, Counts, stuck_counts, a_token, a_near_token, Anything, Nothing, IsZero, Starts, nothing_softer, is_firm, firm_behind, firm_append, Lives, fills, grows, anything, from_nothing, ends_in, around, around_softly, stopped, renamed, behind, begun}
+use Rattle.js_grammar.proofs.AliveTools.{bind_err, cond_err, Counts, stuck_counts, Added, added, a_token, a_near_token, Anything, Nothing, IsZero, Starts, nothing_softer, is_firm, firm_behind, firm_append, Lives, fills, grows, anything, from_nothing, ends_in, around, around_softly, stopped, renamed, behind, begun}
 use Rattle.js_grammar.proofs.AliveParts.{AliveBelow, IsStatement, IsItem, flat_block, zero_statement, fresh_lives, semicolon_err, opened_lives, code_lives, declarators_lives, flat_ended, ended_lives, seq_lives, lively, known_lives, made_err}
 use Rattle.js_grammar.proofs.AliveAssignments.{other_kind}
 use Rattle.js_grammar.proofs.FirmTrees.{declarators_firm, firm_braces, firm_nil}
@@ -206,7 +206,7 @@ IsHandler context h = WellHandler context h × (is_handled h trees.no_finally �
 abbrev pub empty_braces : List Mark
 empty_braces = token (fixed kinds.LeftBrace) ∷ token (fixed kinds.RightBrace) ∷ []
 
-abbrev pub empty_brace_tokens : List Token
+abbrev pub empty_brace_tokens : List Added
 empty_brace_tokens = a_token kinds.LeftBrace ∷ a_token kinds.RightBrace ∷ []
 
 catch_lives : (n : ℕ) (b : Below) → SoundBelow n b → AliveBelow b → (context : Context) (c : Bool) (ts : List Token) (e : Fault) → IsNext (fixed kinds.Catch) (head_of ts) → catch_by b context c (tail_of ts) ≡ Err e → Lives Nothing flat_handler (IsHandler context) ts e
@@ -312,7 +312,7 @@ block_lives n b s a context ts e f p = elim (bind_err (braces b context [] ts) (
 -- an expression that is no block and no function
 expression_statement_lives : (context : Context) (ts : List Token) (e : Fault) → is_kind kinds.LeftBrace (head_of ts) ≡ false → is_kind kinds.Function (head_of ts) ≡ false → Lives IsZero flat_ended Well ts e → Lives IsZero flat_statement (IsStatement context) ts e
 expression_statement_lives context ts e f g l =
-    let us = l.before ++ (l.rest ++ []) in
+    let us = l.before ++ (added l.rest ++ []) in
     let m = parts (flat l.tree) (semicolon (after_expression (edge l.tree)) ∷ []) us [] (l.spelled []) in
     let brace = other_kind kinds.LeftBrace ts us refl f (l.starts []) in
     let word = other_kind kinds.Function ts us refl g (l.starts []) in

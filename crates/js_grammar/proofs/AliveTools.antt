@@ -3,10 +3,13 @@ use Rattle.std.proofs.Common.{◌≡◌, ℕ, Bool, true, false, cond, List, [],
 use Rattle.std.proofs.lemmas.List.{append-nil}
 use Rattle.js_lexer.specs.declared.token.TokenKind.{TokenKind}
 use Rattle.js_lexer.specs.declared.token.TokenKind.TheVariants as kinds
+use Rattle.js_lexer.specs.Written.{Written}
 use Rattle.js_language.specs.Tokens.{Token, Mark, token, beside, semicolon, trailing_comma, End, after_expression, after_word, after_do, plain, braces, update, absent, head_of, Matches}
 use Rattle.js_syntax.specs.Reading.{Fault, stuck, deep, Read, ◌>>=◌}
+use Rattle.js_grammar.specs.Exact.{written_view}
 use Rattle.js_grammar.proofs.MarkLaws.{joins}
 use Rattle.js_grammar.proofs.TokenLaws.{faulty}
+use Rattle.js_grammar.proofs.SpelledKinds.{text_of_kind, is_free}
 
 -- ---- faults
 
@@ -34,17 +37,29 @@ deep_counts {A} left e h = subst (λ (e : Fault). Counts e left) (fault_is {A = 
 
 -- ---- tokens that are added
 
--- a token of a kind on a new line
-abbrev pub a_token : TokenKind → Token
-a_token k = record { kind = k; string_value = []; numeric_value = 0; newline_before = true; start = 0; end = 0 }
+-- a token that is added: of a kind on a new line, of a kind on the line of the one before it, or a name on a new line
+pub data Added : Type 0 where
+  a_token : TokenKind → Added
+  a_near_token : TokenKind → Added
+  a_name_token : (n : List ℕ) → is_free n ≡ true → Added
 
--- a token of a kind on the line of the one before it
-abbrev pub a_near_token : TokenKind → Token
-a_near_token k = record { kind = k; string_value = []; numeric_value = 0; newline_before = false; start = 0; end = 0 }
+-- as it is written
+abbrev pub as_written : Added → Written
+as_written (a_token k) = record { kind = k; text = text_of_kind k; newline_before = true }
+as_written (a_near_token k) = record { kind = k; text = text_of_kind k; newline_before = false }
+as_written (a_name_token n f) = record { kind = kinds.Name; text = n; newline_before = true }
 
--- a name on a new line
-abbrev pub a_name_token : List ℕ → Token
-a_name_token n = record { kind = kinds.Name; string_value = n; numeric_value = 0; newline_before = true; start = 0; end = 0 }
+-- as the grammar sees it
+abbrev pub as_token : Added → Token
+as_token a = written_view (as_written a)
+
+abbrev pub added : List Added → List Token
+added [] = []
+added (a ∷ more) = as_token a ∷ added more
+
+pub added_append : (front back : List Added) → added (front ++ back) ≡ added front ++ added back
+added_append [] back = refl
+added_append (a ∷ front) back = ap (λ (us : List Token). as_token a ∷ us) (added_append front back)
 
 -- what the first token of an added text may be: anything, nothing, the number 0 on a new line, a token of a kind on a new line
 abbrev pub Anything : Option Token → Type 0
@@ -54,7 +69,7 @@ abbrev pub Nothing : Option Token → Type 0
 Nothing o = ⊥
 
 abbrev pub IsAdded : TokenKind → Option Token → Type 0
-IsAdded k o = o ≡ Some (a_token k)
+IsAdded k o = o ≡ Some (as_token (a_token k))
 
 abbrev pub IsZero : Option Token → Type 0
 IsZero o = IsAdded kinds.Number o
@@ -67,21 +82,21 @@ Starts First ts us = (head_of us ≡ head_of ts) ⊎ First (head_of us)
 abbrev pub Softer : List Token → List Token → Type 0
 Softer ts us = (end : End) → absent end (head_of ts) ≡ true → absent end (head_of us) ≡ true
 
-zero_soft : (end : End) → absent end (Some (a_token kinds.Number)) ≡ true
+zero_soft : (end : End) → absent end (Some (as_token (a_token kinds.Number))) ≡ true
 zero_soft (after_expression plain) = refl
 zero_soft (after_expression braces) = refl
 zero_soft (after_expression update) = refl
 zero_soft after_word = refl
 zero_soft after_do = refl
 
-while_soft : (end : End) → absent end (Some (a_token kinds.While)) ≡ true
+while_soft : (end : End) → absent end (Some (as_token (a_token kinds.While))) ≡ true
 while_soft (after_expression plain) = refl
 while_soft (after_expression braces) = refl
 while_soft (after_expression update) = refl
 while_soft after_word = refl
 while_soft after_do = refl
 
-brace_soft : (end : End) → absent end (Some (a_token kinds.RightBrace)) ≡ true
+brace_soft : (end : End) → absent end (Some (as_token (a_token kinds.RightBrace))) ≡ true
 brace_soft (after_expression plain) = refl
 brace_soft (after_expression braces) = refl
 brace_soft (after_expression update) = refl
@@ -101,7 +116,7 @@ while_softer ts us s = softer_by (IsAdded kinds.While) (λ o is end. ap (λ (o :
 pub nothing_softer : (ts us : List Token) → Starts Nothing ts us → Softer ts us
 nothing_softer ts us s = softer_by Nothing (λ o is. absurd is) ts us s
 
-pub brace_softer : (ts us : List Token) → Softer ts (a_token kinds.RightBrace ∷ us)
+pub brace_softer : (ts us : List Token) → Softer ts (as_token (a_token kinds.RightBrace) ∷ us)
 brace_softer ts us = λ end h. brace_soft end
 
 -- ---- marks before other tokens
@@ -225,9 +240,9 @@ pub record Lives {A : Type 0} (First : Option Token → Type 0) (flat_of : A →
   pub counted : Counts e left
   pub tree : A
   pub good : Good tree
-  pub rest : List Token
-  pub spelled : (r : List Token) → Matches (flat_of tree) (before ++ (rest ++ r)) r
-  pub starts : (r : List Token) → Starts First ts (before ++ (rest ++ r))
+  pub rest : List Added
+  pub spelled : (r : List Token) → Matches (flat_of tree) (before ++ (added rest ++ r)) r
+  pub starts : (r : List Token) → Starts First ts (before ++ (added rest ++ r))
 
 -- tokens that begin with a token of theirs
 pub same_start : (First : Option Token → Type 0) (t : Token) (ts before left us : List Token) → ts ≡ (t ∷ before) ++ left → Starts First ts ((t ∷ before) ++ us)
@@ -239,18 +254,18 @@ start_behind First [] ts left us parts s = subst (λ (ts : List Token). Starts F
 start_behind First (t ∷ before) ts left us parts s = same_start First t ts before left us parts
 
 -- nothing was read
-pub fills : {A : Type 0} {First : Option Token → Type 0} {flat_of : A → List Mark} {Good : A → Type 0} (ts : List Token) (e : Fault) → Counts e ts → (tree : A) → Good tree → (rest : List Token)
-    → ((r : List Token) → Matches (flat_of tree) (rest ++ r) r) → ((r : List Token) → First (head_of (rest ++ r))) → Lives First flat_of Good ts e
+pub fills : {A : Type 0} {First : Option Token → Type 0} {flat_of : A → List Mark} {Good : A → Type 0} (ts : List Token) (e : Fault) → Counts e ts → (tree : A) → Good tree → (rest : List Added)
+    → ((r : List Token) → Matches (flat_of tree) (added rest ++ r) r) → ((r : List Token) → First (head_of (added rest ++ r))) → Lives First flat_of Good ts e
 fills ts e c tree good rest spelled first = record { before = []; left = ts; parts = refl; counted = c; tree = tree; good = good; rest = rest; spelled = spelled; starts = λ r. inr (first r) }
 
 -- The tree of a part, in a tree with tokens before the part and tokens behind it.
 pub grows : {A B : Type 0} {First Other : Option Token → Type 0} {flat_of : A → List Mark} {Good : A → Type 0} {flat_as : B → List Mark} {Fine : B → Type 0} {mid : List Token} {e : Fault}
-    → (l : Lives First flat_of Good mid e) → (ts front : List Token) → ts ≡ front ++ mid → (tree : B) → Fine tree → (more : List Token)
-    → ((us r : List Token) → Starts First mid us → Matches (flat_of l.tree) us (more ++ r) → Matches (flat_as tree) (front ++ us) r)
+    → (l : Lives First flat_of Good mid e) → (ts front : List Token) → ts ≡ front ++ mid → (tree : B) → Fine tree → (more : List Added)
+    → ((us r : List Token) → Starts First mid us → Matches (flat_of l.tree) us (added more ++ r) → Matches (flat_as tree) (front ++ us) r)
     → ((us : List Token) → Starts First mid us → Starts Other ts (front ++ us))
     → Lives Other flat_as Fine ts e
 grows {A} {B} {First} {Other} {flat_of} {Good} {flat_as} {Fine} {mid} {e} l ts front parts tree fine more spelled starts =
-    let whole : (r : List Token) → (front ++ l.before) ++ ((l.rest ++ more) ++ r) ≡ front ++ (l.before ++ (l.rest ++ (more ++ r))) = λ r. append_assoc front l.before ((l.rest ++ more) ++ r) ∙ ap (λ (us : List Token). front ++ (l.before ++ us)) (append_assoc l.rest more r) in
+    let whole : (r : List Token) → (front ++ l.before) ++ (added (l.rest ++ more) ++ r) ≡ front ++ (l.before ++ (added l.rest ++ (added more ++ r))) = λ r. append_assoc front l.before (added (l.rest ++ more) ++ r) ∙ ap (λ (us : List Token). front ++ (l.before ++ us)) (ap (λ (us : List Token). us ++ r) (added_append l.rest more) ∙ append_assoc (added l.rest) (added more) r) in
     record {
       before = front ++ l.before;
       left = l.left;
@@ -259,8 +274,8 @@ grows {A} {B} {First} {Other} {flat_of} {Good} {flat_as} {Fine} {mid} {e} l ts f
       tree = tree;
       good = fine;
       rest = l.rest ++ more;
-      spelled = λ r. subst (λ (us : List Token). Matches (flat_as tree) us r) (sym (whole r)) (spelled (l.before ++ (l.rest ++ (more ++ r))) r (l.starts (more ++ r)) (l.spelled (more ++ r)));
-      starts = λ r. subst (λ (us : List Token). Starts Other ts us) (sym (whole r)) (starts (l.before ++ (l.rest ++ (more ++ r))) (l.starts (more ++ r)));
+      spelled = λ r. subst (λ (us : List Token). Matches (flat_as tree) us r) (sym (whole r)) (spelled (l.before ++ (added l.rest ++ (added more ++ r))) r (l.starts (added more ++ r)) (l.spelled (added more ++ r)));
+      starts = λ r. subst (λ (us : List Token). Starts Other ts us) (sym (whole r)) (starts (l.before ++ (added l.rest ++ (added more ++ r))) (l.starts (added more ++ r)));
     }
 
 -- what may come first may also be more
@@ -274,7 +289,7 @@ widens {A} {First} {Other} {flat_of} {Good} {ts} {e} more l = record {
   good = l.good;
   rest = l.rest;
   spelled = l.spelled;
-  starts = λ r. wider (head_of (l.before ++ (l.rest ++ r))) (l.starts r);
+  starts = λ r. wider (head_of (l.before ++ (added l.rest ++ r))) (l.starts r);
 }
   where
     wider : (o : Option Token) → (o ≡ head_of ts) ⊎ First o → (o ≡ head_of ts) ⊎ Other o
@@ -286,32 +301,32 @@ from_nothing l = widens (λ o n. absurd n) l
 
 -- the tree of a part at the front, with marks behind it
 pub ends_in : {A B : Type 0} {First : Option Token → Type 0} {flat_of : A → List Mark} {Good : A → Type 0} {flat_as : B → List Mark} {Fine : B → Type 0} {ts : List Token} {e : Fault}
-    → (l : Lives First flat_of Good ts e) → (tree : B) → Fine tree → (ns : List Mark) (more : List Token) → ((r : List Token) → Matches ns (more ++ r) r) → flat_of l.tree ++ ns ≡ flat_as tree → Lives First flat_as Fine ts e
+    → (l : Lives First flat_of Good ts e) → (tree : B) → Fine tree → (ns : List Mark) (more : List Added) → ((r : List Token) → Matches ns (added more ++ r) r) → flat_of l.tree ++ ns ≡ flat_as tree → Lives First flat_as Fine ts e
 ends_in {A} {B} {First} {flat_of} {Good} {flat_as} {Fine} {ts} {e} l tree fine ns more spelled same =
-    grows l ts [] refl tree fine more (λ us r s k. subst (λ (ms : List Mark). Matches ms us r) same (joins (flat_of l.tree) ns us (more ++ r) r k (spelled r))) (λ us s. s)
+    grows l ts [] refl tree fine more (λ us r s k. subst (λ (ms : List Mark). Matches ms us r) same (joins (flat_of l.tree) ns us (added more ++ r) r k (spelled r))) (λ us s. s)
 
 -- the tree of a part behind marks that end in a token, with marks behind it
 pub around : {A B : Type 0} {First : Option Token → Type 0} {flat_of : A → List Mark} {Good : A → Type 0} {flat_as : B → List Mark} {Fine : B → Type 0} {mid : List Token} {e : Fault}
-    → (l : Lives First flat_of Good mid e) → (ms : List Mark) → is_firm ms ≡ true → (ts : List Token) → Matches ms ts mid → (tree : B) → Fine tree → (ns : List Mark) (more : List Token) → ((r : List Token) → Matches ns (more ++ r) r)
+    → (l : Lives First flat_of Good mid e) → (ms : List Mark) → is_firm ms ≡ true → (ts : List Token) → Matches ms ts mid → (tree : B) → Fine tree → (ns : List Mark) (more : List Added) → ((r : List Token) → Matches ns (added more ++ r) r)
     → ms ++ (flat_of l.tree ++ ns) ≡ flat_as tree → Lives Nothing flat_as Fine ts e
 around {A} {B} {First} {flat_of} {Good} {flat_as} {Fine} {mid} {e} l ms firm ts m tree fine ns more spelled same =
     let f = firmly ms firm ts mid m in
     grows l ts (f.next ∷ f.before) f.parts tree fine more
-    (λ us r s k. subst (λ (ms : List Mark). Matches ms ((f.next ∷ f.before) ++ us) r) same (joins ms (flat_of l.tree ++ ns) ((f.next ∷ f.before) ++ us) us r (f.other us) (joins (flat_of l.tree) ns us (more ++ r) r k (spelled r))))
+    (λ us r s k. subst (λ (ms : List Mark). Matches ms ((f.next ∷ f.before) ++ us) r) same (joins ms (flat_of l.tree ++ ns) ((f.next ∷ f.before) ++ us) us r (f.other us) (joins (flat_of l.tree) ns us (added more ++ r) r k (spelled r))))
     (λ us s. same_start Nothing f.next ts f.before mid us f.parts)
 
 -- the tree of a part behind marks that may end in an absent semicolon, with marks behind it
 pub around_softly : {A B : Type 0} {First : Option Token → Type 0} {flat_of : A → List Mark} {Good : A → Type 0} {flat_as : B → List Mark} {Fine : B → Type 0} {mid : List Token} {e : Fault}
-    → (l : Lives First flat_of Good mid e) → ((us : List Token) → Starts First mid us → Softer mid us) → (ms : List Mark) → (ts : List Token) → Matches ms ts mid → (tree : B) → Fine tree → (ns : List Mark) (more : List Token) → ((r : List Token) → Matches ns (more ++ r) r)
+    → (l : Lives First flat_of Good mid e) → ((us : List Token) → Starts First mid us → Softer mid us) → (ms : List Mark) → (ts : List Token) → Matches ms ts mid → (tree : B) → Fine tree → (ns : List Mark) (more : List Added) → ((r : List Token) → Matches ns (added more ++ r) r)
     → ms ++ (flat_of l.tree ++ ns) ≡ flat_as tree → Lives First flat_as Fine ts e
 around_softly {A} {B} {First} {flat_of} {Good} {flat_as} {Fine} {mid} {e} l soft ms ts m tree fine ns more spelled same =
     let f = softens ms ts mid m in
     grows l ts f.before f.parts tree fine more
-    (λ us r s k. subst (λ (ms : List Mark). Matches ms (f.before ++ us) r) same (joins ms (flat_of l.tree ++ ns) (f.before ++ us) us r (f.other us (soft us s)) (joins (flat_of l.tree) ns us (more ++ r) r k (spelled r))))
+    (λ us r s k. subst (λ (ms : List Mark). Matches ms (f.before ++ us) r) same (joins ms (flat_of l.tree ++ ns) (f.before ++ us) us r (f.other us (soft us s)) (joins (flat_of l.tree) ns us (added more ++ r) r k (spelled r))))
     (λ us s. start_behind First f.before ts mid us f.parts s)
 
 -- marks that end in a token were read, and the others are added
-pub stopped : {B : Type 0} {flat_as : B → List Mark} {Fine : B → Type 0} (ms : List Mark) → is_firm ms ≡ true → (ts mid : List Token) → Matches ms ts mid → (e : Fault) → Counts e mid → (tree : B) → Fine tree → (ns : List Mark) (more : List Token) → ((r : List Token) → Matches ns (more ++ r) r)
+pub stopped : {B : Type 0} {flat_as : B → List Mark} {Fine : B → Type 0} (ms : List Mark) → is_firm ms ≡ true → (ts mid : List Token) → Matches ms ts mid → (e : Fault) → Counts e mid → (tree : B) → Fine tree → (ns : List Mark) (more : List Added) → ((r : List Token) → Matches ns (added more ++ r) r)
     → ms ++ ns ≡ flat_as tree → Lives Nothing flat_as Fine ts e
 stopped {B} {flat_as} {Fine} ms firm ts mid m e c tree fine ns more spelled same =
     let f = firmly ms firm ts mid m in
@@ -323,8 +338,8 @@ stopped {B} {flat_as} {Fine} ms firm ts mid m e c tree fine ns more spelled same
       tree = tree;
       good = fine;
       rest = more;
-      spelled = λ r. subst (λ (ms : List Mark). Matches ms ((f.next ∷ f.before) ++ (more ++ r)) r) same (joins ms ns ((f.next ∷ f.before) ++ (more ++ r)) (more ++ r) r (f.other (more ++ r)) (spelled r));
-      starts = λ r. same_start Nothing f.next ts f.before mid (more ++ r) f.parts;
+      spelled = λ r. subst (λ (ms : List Mark). Matches ms ((f.next ∷ f.before) ++ (added more ++ r)) r) same (joins ms ns ((f.next ∷ f.before) ++ (added more ++ r)) (added more ++ r) r (f.other (added more ++ r)) (spelled r));
+      starts = λ r. same_start Nothing f.next ts f.before mid (added more ++ r) f.parts;
     }
 
 -- what comes first may be anything
@@ -357,6 +372,6 @@ begun {A} {First} {flat_of} {Good} {ts} {e} l = by_before l.before refl
           tree = l.tree;
           good = l.good;
           rest = l.rest;
-          spelled = λ r. subst (λ (us : List Token). Matches (flat_of l.tree) (us ++ (l.rest ++ r)) r) is (l.spelled r);
-          starts = λ r. same_start Nothing t ts before l.left (l.rest ++ r) parts;
+          spelled = λ r. subst (λ (us : List Token). Matches (flat_of l.tree) (us ++ (added l.rest ++ r)) r) is (l.spelled r);
+          starts = λ r. same_start Nothing t ts before l.left (added l.rest ++ r) parts;
         })

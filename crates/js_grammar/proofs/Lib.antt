@@ -18,6 +18,7 @@ pub mod FollowsExpressions
 pub mod FollowsArrows
 pub mod FollowsAssignments
 pub mod StatementSound
+pub mod SpelledKinds
 pub mod AliveTools
 pub mod AliveLists
 pub mod FirmTrees
@@ -59,3 +60,4 @@ pub mod DeepBottom
 pub mod DeepRooms
 pub mod DeepWhole
 pub mod DeepPlaces
+pub mod BegunLaws

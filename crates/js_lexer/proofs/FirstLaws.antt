@@ -19,7 +19,7 @@ use Rattle.js_lexer.specs.Pieces.{Each, run}
 use Rattle.js_lexer.specs.Tokens.{IsListed, Lent}
 use Rattle.js_lexer.specs.Scanning.{gap_piece, gap_len, number_of, word_token, number_token, string_token, token_at, items}
 use Rattle.js_lexer.specs.State.{items_of}
-use Rattle.js_lexer.specs.Written.{blank_before, written, tokens_then, First}
+use Rattle.js_lexer.specs.Written.{Written, AreTokens, blank_before, written, lent, tokens_then, end_after}
 use Rattle.js_lexer.proofs.Leading.{leading_all, leading_stops, leading_exact}
 use Rattle.js_lexer.proofs.Runs.{run_exact}
 use Rattle.js_lexer.proofs.Gaps.{gap_knows}
@@ -266,6 +266,8 @@ record Cut (at : ℕ) (us : List ℕ) (before : List Lent) : Type 0 where
   front : List ℕ
   rest : List ℕ
   parts : us ≡ front ++ rest
+  -- the last of them ends here
+  place : at + length front ≡ end_after at before
   again : (more : List ℕ) → Breaks more → items (suc (length (front ++ more))) at (front ++ more) ≡ tokens_then before (items (suc (length more)) (at + length front) more)
 
 abbrev token_here : ℕ → List ℕ → TokenKind → ℕ → Lent
@@ -301,13 +303,14 @@ cut_token at us k n bs e c =
     let wide : length (take g us) ≡ g = taken g us (gap_within us) in
     let long : length (take n here) ≡ n = taken n here f.0 in
     let joined : (more : List ℕ) → (take g us ++ (take n here ++ c.front)) ++ more ≡ take g us ++ (take n here ++ (c.front ++ more)) = λ more. append_assoc (take g us) (take n here ++ c.front) more ∙ ap (λ l. take g us ++ l) (append_assoc (take n here) c.front more) in
+    let place : at + g + n + length c.front ≡ at + length (take g us ++ (take n here ++ c.front)) = omega (arith, length-append (take g us) (take n here ++ c.front), length-append (take n here) c.front, wide, long) in
     record {
       front = take g us ++ (take n here ++ c.front);
       rest = c.rest;
       parts = sym (take-append-drop g us) ∙ (ap (λ l. take g us ++ l) (sym (take-append-drop n here) ∙ ap (λ l. take n here ++ l) c.parts) ∙ sym (joined c.rest));
+      place = sym place ∙ (c.place ∙ ap (λ k. end_after (at + g + k) bs) (sym long));
       again = λ more b.
           let agree : Agree (drop n here) (c.front ++ more) = subst (λ (us : List ℕ). Agree us (c.front ++ more)) (sym c.parts) (agree_behind c.front c.rest more (agree_breaks c.rest more b)) in
-          let place : at + g + n + length c.front ≡ at + length (take g us ++ (take n here ++ c.front)) = omega (arith, length-append (take g us) (take n here ++ c.front), length-append (take n here) c.front, wide, long) in
           let step = step_again at us (c.front ++ more) k n e agree in
           let all = take g us ++ (take n here ++ (c.front ++ more)) in
           let left = items (suc (length more)) (at + length (take g us ++ (take n here ++ c.front))) more in
@@ -334,11 +337,14 @@ cut_by at us b bs left e go (Some t) h =
     subst (λ (b : Lent). Cut at us (b ∷ bs)) first (cut_token at us t.0 t.1 bs h (go (at + gap_len us + t.1) rest later))
 
 cut : (before : List Lent) (at : ℕ) (us : List ℕ) (left : List (Result Lent ℕ)) → items (suc (length us)) at us ≡ tokens_then before left → Cut at us before
-cut [] at us left e = record { front = []; rest = us; parts = refl; again = λ more b. ap (λ at. items (suc (length more)) at more) (omega arith) }
+cut [] at us left e = record { front = []; rest = us; parts = refl; place = omega arith; again = λ more b. ap (λ at. items (suc (length more)) at more) (omega arith) }
 cut (b ∷ bs) at us left e = cut_by at us b bs left e (λ at us e. cut bs at us left e) (token_at (drop (gap_len us) us)) refl
 
-pub first_tokens : (source : List ℕ) (before : List Lent) (left : List (Result Lent ℕ)) → items_of source ≡ tokens_then before left → First before
-first_tokens source before left e =
+pub first_tokens : (source : List ℕ) (before : List Lent) (left : List (Result Lent ℕ)) → items_of source ≡ tokens_then before left
+    → (ts : List Written) → AreTokens ts → items_of (take (end_after 0 before) source ++ written ts) ≡ tokens_then before (lent (end_after 0 before) ts)
+first_tokens source before left e ts h =
     let c = cut before 0 source left e in
-    let place : 0 + length c.front ≡ length c.front = omega arith in
-    record { units = c.front; goes_on = λ ts h. c.again (written ts) (breaks ts) ∙ (ap (λ at. tokens_then before (items (suc (length (written ts))) at (written ts))) place ∙ ap (λ (is : List (Result Lent ℕ)). tokens_then before is) (written_are (length c.front) ts h)) }
+    let place : 0 + length c.front ≡ end_after 0 before = c.place in
+    let wide : length c.front ≡ end_after 0 before = omega (arith, place) in
+    let front : take (end_after 0 before) source ≡ c.front = ap (λ n. take n source) (sym wide) ∙ (ap (λ us. take (length c.front) us) c.parts ∙ take-append_seam c.front c.rest) in
+    ap (λ us. items_of (us ++ written ts)) front ∙ (c.again (written ts) (breaks ts) ∙ (ap (λ at. tokens_then before (items (suc (length (written ts))) at (written ts))) place ∙ ap (λ (is : List (Result Lent ℕ)). tokens_then before is) (written_are (end_after 0 before) ts h)))

@@ -1,7 +1,6 @@
 -- Tokens written one after another.
-use Rattle.std.specs.Prelude.{◌≡◌, ℕ, ◌+◌, Bool, true, false, List, [], ◌∷◌, ◌++◌, length, Result, Ok}
+use Rattle.std.specs.Prelude.{ℕ, ◌+◌, Bool, true, false, List, [], ◌∷◌, ◌++◌, length, Result, Ok}
 use Rattle.js_lexer.specs.declared.token.TokenKind.{TokenKind}
-use Rattle.js_lexer.specs.State.{items_of}
 use Rattle.js_lexer.specs.Tokens.{Lent, IsToken}
 
 -- a token that is to be written, on a new line or on the line of the one before it
@@ -36,7 +35,7 @@ abbrev pub tokens_then : List Lent → List (Result Lent ℕ) → List (Result L
 tokens_then [] is = is
 tokens_then (t ∷ ts) is = Ok t ∷ tokens_then ts is
 
--- The tokens are the first ones of a text that begins with some units, whatever tokens are written behind these.
-pub record First (before : List Lent) : Type 0 where
-  pub units : List ℕ
-  pub goes_on : (ts : List Written) → AreTokens ts → items_of (units ++ written ts) ≡ tokens_then before (lent (length units) ts)
+-- where the last of these tokens ends; of none, this place
+abbrev pub end_after : ℕ → List Lent → ℕ
+end_after at [] = at
+end_after at (t ∷ ts) = end_after (t.start + length t.text) ts

@@ -7,3 +7,4 @@ pub mod PlaceLemmas
 pub mod ReadLemmas
 pub mod SpanLemmas
 pub mod NumberLemmas
+pub mod TextLemmas

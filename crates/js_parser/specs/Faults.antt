@@ -8,7 +8,7 @@ use Rattle.js_grammar.specs.Exact.{Leaves, TooDeepFrom}
 use Rattle.js_parser.specs.Sources.{most_units, most_tokens, most_height, tokens_of, bad_place, HasDeepTree}
 
 -- ---- causes
--- Tokens begin a language where some tokens behind them, of whatever number, make them one of its sources (Begins). The greatest numbers of tokens and of code units play no part in that.
+-- Tokens begin a language where some tokens behind them, of whatever number, make them one of its sources (Begins). The greatest numbers of tokens and of code units play no part in that. Of the first tokens of a source that says as much as that a text of the language begins with them (BeginsText, and the clause texts of each call).
 
 -- where the first of these last tokens of a source begins; where none is left, the end of the source, none of whose tokens is bad
 abbrev pub IsPlace : List ℕ → List Token → ℕ → Type 0

@@ -3,3 +3,4 @@ pub mod Faults
 pub mod Lexing
 pub mod Sources
 pub mod Spans
+pub mod Texts

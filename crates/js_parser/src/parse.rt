@@ -1,17 +1,18 @@
 //! Sources parsed: scripts, expressions and functions (ECMA-262, 16.1, 13.16, 15.2 and 15.3).
 
-ghost use Rattle.std.specs.Prelude.{◌≡◌, ◌<◌, length, Err, IfErr, IfOk};
+ghost use Rattle.std.specs.Prelude.{◌++◌, ◌≡◌, ◌<◌, length, Err, IfErr, IfOk};
 ghost use Rattle.std.specs.List.{range_with_len};
 ghost use Rattle.cdp_text.specs.Units.{utf16_of};
 ghost use Rattle.js_tree.specs.Height.{height, height_of_statements};
-ghost use Rattle.js_language.specs.Language.{IsExpression, IsFunction, IsScript};
+ghost use Rattle.js_language.specs.Language.{Begins, IsExpression, IsFunction, IsScript};
 ghost use Rattle.js_language.specs.Places.{expression_places, numbers_of, statements_places};
 ghost use Rattle.js_tree.specs.Views.{expression_view, statements_view};
 ghost use Rattle.js_syntax.specs.declared.fault.ParseFault.TheVariants.{TooLong};
 ghost use Rattle.js_parser.specs.Answers.{FailsBy, OkOrMemory};
 ghost use Rattle.js_parser.specs.Faults.{Caused, ComesFirst, IsCause, Stands};
-ghost use Rattle.js_parser.specs.Sources.{IsSource, most_units};
+ghost use Rattle.js_parser.specs.Sources.{IsSource, most_units, tokens_of};
 ghost use Rattle.js_parser.specs.Spans.{AreSpansIn};
+ghost use Rattle.js_parser.specs.Texts.{BeginsText};
 
 use crate::kept::{spans_of, text_of, url_of};
 use crate::trees::{expression_tree, function_tree, script_tree};
@@ -26,7 +27,7 @@ use std::alloc::Global;
 /// # Errors
 ///
 /// As the fault says, the one that stands first in the source; `TooLong` before all else.
-#[tactic(auto, using(js_grammar::proofs::Completeness::one_expression))]
+#[tactic(auto, using(js_grammar::proofs::Completeness::one_expression, crate::proofs::TextLemmas::expression_texts))]
 pub fn parse_expression(alloc: Global, source: &[u16]) -> Result<Expression, ParseFault>
     // What is answered is the source's tree.
     ensures found { IfOk result (λ x. IsSource IsExpression height source.now (expression_view x.tree)) }
@@ -42,6 +43,8 @@ pub fn parse_expression(alloc: Global, source: &[u16]) -> Result<Expression, Par
     ensures long { most_units < length source.now → result ≡ Err (TooLong (length source.now)) }
     // A fault that is answered stands in the source.
     ensures faults { IfErr result (λ f. Caused IsExpression height source.now f) }
+    // Where first tokens of the source begin the language, the source, cut where the last of them ends, begins a text that is in it.
+    ensures texts { (before : _) (left : _) → tokens_of source.now ≡ before ++ left → Begins IsExpression before → BeginsText IsExpression source.now before }
     // Of those that have a place, it is the first for which the source has a cause.
     ensures first { (g : _) → IsCause IsExpression source.now g → IfErr result (λ f. ComesFirst f g) }
     // The fault that stands in a source is answered, unless memory runs out or a tree would be too deep.
@@ -64,7 +67,7 @@ pub fn parse_expression(alloc: Global, source: &[u16]) -> Result<Expression, Par
 /// # Errors
 ///
 /// As the fault says, the one that stands first in the source; `TooLong` before all else.
-#[tactic(auto, using(js_grammar::proofs::Completeness::one_function))]
+#[tactic(auto, using(js_grammar::proofs::Completeness::one_function, crate::proofs::TextLemmas::function_texts))]
 pub fn parse_function(alloc: Global, source: &[u16]) -> Result<FunctionCode, ParseFault>
     // What is answered is the source's tree.
     ensures found { IfOk result (λ x. IsSource IsFunction height source.now (expression_view x.tree)) }
@@ -80,6 +83,8 @@ pub fn parse_function(alloc: Global, source: &[u16]) -> Result<FunctionCode, Par
     ensures long { most_units < length source.now → result ≡ Err (TooLong (length source.now)) }
     // A fault that is answered stands in the source.
     ensures faults { IfErr result (λ f. Caused IsFunction height source.now f) }
+    // Where first tokens of the source begin the language, the source, cut where the last of them ends, begins a text that is in it.
+    ensures texts { (before : _) (left : _) → tokens_of source.now ≡ before ++ left → Begins IsFunction before → BeginsText IsFunction source.now before }
     // Of those that have a place, it is the first for which the source has a cause.
     ensures first { (g : _) → IsCause IsFunction source.now g → IfErr result (λ f. ComesFirst f g) }
     // The fault that stands in a source is answered, unless memory runs out or a tree would be too deep.
@@ -102,7 +107,7 @@ pub fn parse_function(alloc: Global, source: &[u16]) -> Result<FunctionCode, Par
 /// # Errors
 ///
 /// As the fault says, the one that stands first in the source; `TooLong` before all else.
-#[tactic(auto, using(js_grammar::proofs::Completeness::one_script))]
+#[tactic(auto, using(js_grammar::proofs::Completeness::one_script, crate::proofs::TextLemmas::script_texts))]
 pub fn parse_script(
     alloc: Global,
     source: &[u16],
@@ -124,6 +129,8 @@ pub fn parse_script(
     ensures long { most_units < length source.now → result ≡ Err (TooLong (length source.now)) }
     // A fault that is answered stands in the source.
     ensures faults { IfErr result (λ f. Caused (IsScript declared.now) height_of_statements source.now f) }
+    // Where first tokens of the source begin the language, the source, cut where the last of them ends, begins a text that is in it.
+    ensures texts { (before : _) (left : _) → tokens_of source.now ≡ before ++ left → Begins (IsScript declared.now) before → BeginsText (IsScript declared.now) source.now before }
     // Of those that have a place, it is the first for which the source has a cause.
     ensures first { (g : _) → IsCause (IsScript declared.now) source.now g → IfErr result (λ f. ComesFirst f g) }
     // The fault that stands in a source is answered, unless memory runs out or a tree would be too deep.

@@ -1,6 +1,7 @@
 use Rattle.js_grammar.proofs.Soundness.{expression_read}
 use Rattle.js_grammar.proofs.Exactness.{expression_leaves_at}
 use Rattle.js_grammar.proofs.DeepWhole.{expression_too_deep}
+use Rattle.js_grammar.proofs.BegunLaws.{expression_written, expression_alike}
 use Rattle.js_grammar.proofs.laws.expressions.Goals as goal
 
 pub returns-clause-sound : goal.returns-clause-sound
@@ -11,3 +12,9 @@ returns-clause-stuck c = expression_leaves_at
 
 pub returns-clause-deep : goal.returns-clause-deep
 returns-clause-deep c = expression_too_deep
+
+pub returns-clause-written : goal.returns-clause-written
+returns-clause-written c = expression_written
+
+pub returns-clause-alike : goal.returns-clause-alike
+returns-clause-alike c = expression_alike

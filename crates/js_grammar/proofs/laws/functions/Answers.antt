@@ -1,6 +1,7 @@
 use Rattle.js_grammar.proofs.Soundness.{function_read}
 use Rattle.js_grammar.proofs.Exactness.{function_leaves_at}
 use Rattle.js_grammar.proofs.DeepWhole.{function_too_deep}
+use Rattle.js_grammar.proofs.BegunLaws.{function_written, function_alike}
 use Rattle.js_grammar.proofs.laws.functions.Goals as goal
 
 pub returns-clause-sound : goal.returns-clause-sound
@@ -11,3 +12,9 @@ returns-clause-stuck c = function_leaves_at
 
 pub returns-clause-deep : goal.returns-clause-deep
 returns-clause-deep c = function_too_deep
+
+pub returns-clause-written : goal.returns-clause-written
+returns-clause-written c = function_written
+
+pub returns-clause-alike : goal.returns-clause-alike
+returns-clause-alike c = function_alike

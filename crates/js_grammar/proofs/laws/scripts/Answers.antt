@@ -1,6 +1,7 @@
 use Rattle.js_grammar.proofs.Soundness.{script_read}
 use Rattle.js_grammar.proofs.Exactness.{script_leaves_at}
 use Rattle.js_grammar.proofs.DeepWhole.{script_too_deep}
+use Rattle.js_grammar.proofs.BegunLaws.{script_written, script_alike}
 use Rattle.js_grammar.proofs.laws.scripts.Goals as goal
 
 pub returns-clause-sound : goal.returns-clause-sound
@@ -11,3 +12,9 @@ returns-clause-stuck c = script_leaves_at
 
 pub returns-clause-deep : goal.returns-clause-deep
 returns-clause-deep c = script_too_deep
+
+pub returns-clause-written : goal.returns-clause-written
+returns-clause-written c = script_written
+
+pub returns-clause-alike : goal.returns-clause-alike
+returns-clause-alike c = script_alike
