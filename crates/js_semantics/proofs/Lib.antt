@@ -14,3 +14,4 @@ pub mod EvaluationLemmas
 pub mod StartLemmas
 pub mod UntouchedLemmas
 pub mod SourceLemmas
+pub mod SafeLemmas

@@ -14,3 +14,4 @@ pub mod Evaluation
 pub mod Sound
 pub mod Sources
 pub mod Untouched
+pub mod Safe

@@ -12,6 +12,11 @@ ghost use Rattle.js_semantics.specs.Next.{next};
 ghost use Rattle.js_semantics.specs.Run.{Run, Finish, over, program_of, state_of, steps_in, plain, out};
 ghost use Rattle.js_heap.specs.declared.value.Value.{Value};
 ghost use Rattle.js_heap.specs.World.{World};
+ghost use Rattle.js_heap.specs.Operators.{binary_result, unary_result, update_result};
+ghost use Rattle.js_tree.specs.declared.operator.BinaryOperator.{BinaryOperator};
+ghost use Rattle.js_tree.specs.declared.operator.UnaryOperator.{UnaryOperator};
+ghost use Rattle.js_tree.specs.declared.operator.UpdateOperator.{UpdateOperator};
+ghost use Rattle.js_semantics.specs.Safe.{IsSafe, AnswersSafe};
 ghost use Rattle.js_semantics.specs.Untouched.{AreUntouched};
 ghost use Rattle.js_semantics.specs.Evaluation.{ScratchSpace, Argument, evaluate, evaluate_call};
 ghost use Rattle.js_heap.specs.Worlds.{SoundScope};
@@ -71,4 +76,11 @@ pub fn a_plain_run_is_sound()
 /// So is each configuration of the run of the parser's scripts.
 pub fn a_run_of_trees_is_sound()
     ensures { (k : ℕ) (scripts : List Script) (input : List (List ℕ)) → SoundRun (program_of (terms_of_scripts scripts)) (plain k (terms_of_scripts scripts) input) }
+{}
+
+/// Operators answer safe integers, as their definitions test; `+` and `-` of one operand do of an operand that is one.
+pub fn operators_answer_safe_integers()
+    ensures binary { (w : World) (o : BinaryOperator) (v u : Value) → AnswersSafe (binary_result w o v u) }
+    ensures unary { (w : World) (o : UnaryOperator) (v : Value) → IsSafe v → AnswersSafe (unary_result w o v) }
+    ensures update { (o : UpdateOperator) (v : Value) → AnswersSafe (update_result o v) }
 {}
