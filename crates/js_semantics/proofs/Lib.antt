@@ -15,3 +15,7 @@ pub mod StartLemmas
 pub mod UntouchedLemmas
 pub mod SourceLemmas
 pub mod SafeLemmas
+pub mod ShapeLemmas
+pub mod ShapeRows
+pub mod ShapeMakers
+pub mod ShapeStart

@@ -15,3 +15,4 @@ pub mod Sound
 pub mod Sources
 pub mod Untouched
 pub mod Safe
+pub mod Shapes

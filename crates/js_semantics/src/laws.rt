@@ -17,6 +17,7 @@ ghost use Rattle.js_tree.specs.declared.operator.BinaryOperator.{BinaryOperator}
 ghost use Rattle.js_tree.specs.declared.operator.UnaryOperator.{UnaryOperator};
 ghost use Rattle.js_tree.specs.declared.operator.UpdateOperator.{UpdateOperator};
 ghost use Rattle.js_semantics.specs.Safe.{IsSafe, AnswersSafe};
+ghost use Rattle.js_semantics.specs.Shapes.{IsShaped, ShapedProgram, ShapedMove, ShapedRun};
 ghost use Rattle.js_semantics.specs.Untouched.{AreUntouched};
 ghost use Rattle.js_semantics.specs.Evaluation.{ScratchSpace, Argument, evaluate, evaluate_call};
 ghost use Rattle.js_heap.specs.Worlds.{SoundScope};
@@ -83,4 +84,19 @@ pub fn operators_answer_safe_integers()
     ensures binary { (w : World) (o : BinaryOperator) (v u : Value) → AnswersSafe (binary_result w o v u) }
     ensures unary { (w : World) (o : UnaryOperator) (v : Value) → IsSafe v → AnswersSafe (unary_result w o v) }
     ensures update { (o : UpdateOperator) (v : Value) → AnswersSafe (update_result o v) }
+{}
+
+/// A step keeps a term well-shaped: each form in it has the parts that its row takes.
+pub fn a_step_keeps_shape()
+    ensures { (p : Program) (scope : Addr) (t : Term) (s : State) → ShapedProgram p → IsShaped t → ShapedMove (next p scope t s) }
+{}
+
+/// So do any number of steps of a run.
+pub fn steps_keep_shape()
+    ensures { (k : ℕ) (p : Program) (scope : Addr) (r : Run) → ShapedProgram p → ShapedRun r → ShapedRun (steps_in k p scope r) }
+{}
+
+/// Each configuration of the run of the parser's scripts is well-shaped.
+pub fn a_run_of_trees_is_well_shaped()
+    ensures { (k : ℕ) (scripts : List Script) (input : List (List ℕ)) → ShapedRun (plain k (terms_of_scripts scripts) input) }
 {}
