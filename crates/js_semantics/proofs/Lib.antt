@@ -15,7 +15,10 @@ pub mod StartLemmas
 pub mod UntouchedLemmas
 pub mod SourceLemmas
 pub mod SafeLemmas
+pub mod GiveLemmas
 pub mod ShapeLemmas
 pub mod ShapeRows
 pub mod ShapeMakers
 pub mod ShapeStart
+pub mod DepthLemmas
+pub mod DepthLaws

@@ -1,46 +1,51 @@
 -- Every row of the tables goes on with well-shaped terms; so does every step, and every run.
 use Rattle.std.proofs.Common.{◌≡◌, ℕ, zero, suc, ◌+◌, ◌≤◌, Bool, true, false, List, [], ◌∷◌, Option, None, Some, length, refl, sym, ap, ◌∙◌, subst, arith, if◌then◌else◌}
-use Rattle.std.specs.Prelude.{slice_get, pos, negsuc, nat_eq, nat_lt, codes}
+use Rattle.std.specs.Prelude.{nat_eq, nat_lt, codes}
 use Rattle.js_tree.specs.declared.operator.BinaryOperator.{BinaryOperator}
-use Rattle.js_tree.specs.declared.operator.UpdateOperator.{UpdateOperator}
 use Rattle.js_heap.specs.declared.value.Addr.{Addr}
 use Rattle.js_heap.specs.declared.value.Value.{Value}
 use Rattle.js_heap.specs.declared.value.Value.TheVariants as values
-use Rattle.js_heap.specs.declared.built_in.BuiltIn.{BuiltIn}
-use Rattle.js_heap.specs.declared.built_in.BuiltIn.TheVariants as built_ins
 use Rattle.js_heap.specs.declared.built_in.Code.TheVariants as code
 use Rattle.js_heap.specs.declared.built_in.ErrorClass.{ErrorClass}
 use Rattle.js_heap.specs.declared.built_in.ErrorClass.TheVariants as classes
 use Rattle.js_heap.specs.declared.cell.Cell.{Cell}
 use Rattle.js_heap.specs.declared.cell.Cell.TheVariants as cells
 use Rattle.js_heap.specs.declared.cell.Binding.{Binding}
-use Rattle.js_heap.specs.declared.cell.Property.{Property}
 use Rattle.js_heap.specs.World.{World, read_cell}
-use Rattle.js_heap.specs.Values.{text_of, units_at, is_truthy, type_text, key_of}
-use Rattle.js_heap.specs.Operators.{not_numbers, not_a_text, not_safe, binary_result, unary_result, update_result}
-use Rattle.js_heap.specs.Properties.{bad_key, property_written, property_deleted}
+use Rattle.js_heap.specs.Values.{is_truthy, key_of}
+use Rattle.js_heap.specs.Operators.{binary_result, unary_result}
 use Rattle.js_heap.specs.declared.computed.Computed.{Computed as Result}
 use Rattle.js_heap.specs.declared.computed.Computed.TheVariants.{Value as a_value, Text as a_text, Error as an_error}
-use Rattle.js_heap.specs.declared.computed.Written.{Written}
-use Rattle.js_heap.specs.declared.computed.Written.TheVariants.{Change as a_change, Refused as refused}
-use Rattle.js_semantics.specs.Terms.{Source, script_source, kept_source, Mark, Completion, throws, returns, breaks, continues, Reference, to_name, to_member, to_index, FunctionForm, Member, Stage, first, doing, testing, body, updating, Form, script, enter, enter_debugger, enter_for, enter_for_of, block, scoped, frame, initialize, choose, both, either, loop, list_of, turn_of, body_of, catching, finishing, ending, this, read, typeof_name, unary, binary, comma, function, array, object, method, assign, compound, update, delete, call, call_of, Term, done, standing, part, Terms, end, more, one, joined, dones, settled, settle}
-use Rattle.js_semantics.specs.State.{State, Move, goes, travels, has_effect, is_full, inside, Action, go, make, give, make_text, fail, this_of}
-use Rattle.js_semantics.specs.References.{Found, found, value_of_found, name_written, with_result, with_written, with_key, read_result, put, remove}
-use Rattle.js_semantics.specs.BuiltIns.{argument, wrong_type, line_value, error_of, text_or_fail, string_of, keys_of_cell, make_texts, new_array, keys_of, push_all, last_of, pop_last, joined_or_fail, joined_parts, join, slice_places, array_or_wrong, text_or_wrong, occurrence_of, unit_or_fail, unit_at, array_call, on_array_cell, on_array, string_call, on_string, built_in_call, is_array}
-use Rattle.js_semantics.specs.Functions.{Program, FunctionCode, first_code, code_if, code_here, function_in, function_in_all, same_source, function_at, function_cell, receiver_of, named_function, function_row, with_functions, with_names, too_deep, called_this, frame_entered, entered, frame_limit, call_code, call_cell, call_value, call_row}
-use Rattle.js_semantics.specs.Rows.{only, script_row, enter_row, block_row, chosen, kept_or, otherwise, turn_or_end, loop_row, for_in, enter_for_of_row, list_row, elements_of, body_part, turn_row, type_of_found, comma_row, compound_row, update_value, updated_by, update_row, callee_this, callee_row, properties_from, object_or_fail, object_row, ending_row, row, catch_row, taken}
+use Rattle.js_semantics.specs.Terms.{Source, script_source, kept_source, Mark, Completion, throws, returns, breaks, continues, Reference, FunctionForm, Member, Stage, first, doing, testing, body, updating, Form, script, enter, enter_debugger, enter_for, enter_for_of, block, scoped, frame, initialize, choose, both, either, loop, list_of, turn_of, body_of, catching, finishing, ending, this, read, typeof_name, unary, binary, comma, function, array, object, method, assign, compound, update, delete, call, call_of, Term, done, standing, part, Terms, end, more, one, joined, dones, settled, settle}
+use Rattle.js_semantics.specs.State.{State, Move, goes, travels, has_effect, is_full, inside, Action, go, raise, leave, make, write, print, take_line, set_here, push_frame, pop_frame, give, make_text, fail}
+use Rattle.js_semantics.specs.References.{found, with_result, with_key, read_result, remove}
+use Rattle.js_semantics.specs.BuiltIns.{argument, last_of, built_in_call, is_array}
+use Rattle.js_semantics.specs.Functions.{Program, FunctionCode, first_code, code_if, code_here, function_in, function_in_all, same_source, function_at, function_cell, function_row, with_functions, with_names, too_deep, called_this, frame_entered, entered, frame_limit, call_code, call_cell, call_value, call_row}
+use Rattle.js_semantics.specs.Rows.{assign_row, only, script_row, enter_row, block_row, chosen, kept_or, otherwise, turn_or_end, loop_row, for_in, enter_for_of_row, list_row, elements_of, body_part, turn_row, type_of_found, comma_row, compound_row, update_row, callee_this, callee_row, properties_from, object_or_fail, object_row, ending_row, row, catch_row, taken}
 use Rattle.js_semantics.specs.Next.{Walked, all_values, moved, with_value, scope_in, around, next, walk}
 use Rattle.js_semantics.specs.Run.{Run, running, over, run_of, run_after, step_in, steps_in}
 use Rattle.js_semantics.specs.Shapes.{size, reference_size, Shape, IsShaped, AreShaped, ShapedProgram, ShapedAction, ShapedMove, ShapedRun}
+use Rattle.js_semantics.proofs.GiveLemmas.{GivesValues, put-gives, remove-gives, built_in-gives, type_of-gives, update_row-gives, made-gives, function_row-gives}
 use Rattle.js_semantics.proofs.ShapeLemmas.{at_test-shaped, at_update-shaped, at_body-shaped, settled-shaped, settle-shaped, scoped-shaped, joined-shaped, dones-shaped, size-joined, size-dones, perform-shaped}
 
--- ---- results and references
+-- ---- what goes on with values alone, results and keys
+
+gives-shaped : (a : Action) → GivesValues a → ShapedAction a
+gives-shaped (go (done v)) h = tt
+gives-shaped (go (standing v place)) h = absurd h
+gives-shaped (go (part f now later)) h = absurd h
+gives-shaped (raise v) h = tt
+gives-shaped (leave c) h = tt
+gives-shaped (make c k) h = λ a. gives-shaped (k a) (h a)
+gives-shaped (write a c k) h = gives-shaped k h
+gives-shaped (print vs text) h = tt
+gives-shaped (take_line k) h = λ line. gives-shaped (k line) (h line)
+gives-shaped (set_here m k) h = gives-shaped k h
+gives-shaped (push_frame f k) h = absurd h
+gives-shaped (pop_frame k) h = absurd h
 
 abbrev ShapedK : (Value → Action) → Type 0
 ShapedK k = (x : Value) → ShapedAction (k x)
-
-give-shaped : ShapedK give
-give-shaped x = tt
 
 fail-shaped : (class : ErrorClass) (message : List ℕ) → ShapedAction (fail class message)
 fail-shaped class message = λ a b. tt
@@ -53,152 +58,9 @@ result-shaped (a_value v) k h = h v
 result-shaped (a_text us) k h = text-shaped us k h
 result-shaped (an_error class message) k h = fail-shaped class message
 
-written-shaped : (r : Written) (k : Action) → ShapedAction k → ShapedAction (with_written r k)
-written-shaped (a_change a c) k h = h
-written-shaped (refused class message) k h = fail-shaped class message
-
 key-shaped : (o : Option (List ℕ)) (k : List ℕ → Action) → ((key : List ℕ) → ShapedAction (k key)) → ShapedAction (with_key o k)
-key-shaped None k h = result-shaped bad_key give give-shaped
+key-shaped None k h = fail-shaped classes.TypeError (codes "Property key must be a string or a number")
 key-shaped (Some key) k h = h key
-
-put-shaped : (w : World) (scope : Addr) (r : Reference) (vs : List Value) (x : Value) (k : Action) → ShapedAction k → ShapedAction (put w scope r vs x k)
-put-shaped w scope (to_name n) vs x k h = written-shaped (name_written n (found w scope n) x) k h
-put-shaped w scope (to_member key) [] x k h = tt
-put-shaped w scope (to_member key) (o ∷ vs) x k h = written-shaped (property_written w o key x) k h
-put-shaped w scope to_index [] x k h = tt
-put-shaped w scope to_index (o ∷ []) x k h = tt
-put-shaped w scope to_index (o ∷ i ∷ vs) x k h = key-shaped (key_of w i) (λ key. with_written (property_written w o key x) k) (λ key. written-shaped (property_written w o key x) k h)
-
-remove-shaped : (w : World) (r : Reference) (vs : List Value) (k : Action) → ShapedAction k → ShapedAction (remove w r vs k)
-remove-shaped w (to_name n) vs k h = tt
-remove-shaped w (to_member key) [] k h = tt
-remove-shaped w (to_member key) (o ∷ vs) k h = written-shaped (property_deleted w o key) k h
-remove-shaped w to_index [] k h = tt
-remove-shaped w to_index (o ∷ []) k h = tt
-remove-shaped w to_index (o ∷ i ∷ vs) k h = key-shaped (key_of w i) (λ key. with_written (property_deleted w o key) k) (λ key. written-shaped (property_deleted w o key) k h)
-
--- ---- built-in functions give values
-
-wrong-shaped : ShapedAction wrong_type
-wrong-shaped = fail-shaped classes.TypeError (codes "Argument has a wrong type")
-
-line-shaped : (o : Option (List ℕ)) → ShapedAction (line_value o)
-line-shaped None = tt
-line-shaped (Some us) = text-shaped us give give-shaped
-
-error-shaped : (class : ErrorClass) (x : Value) → ShapedAction (error_of class x)
-error-shaped class (values.Text a) = λ b. tt
-error-shaped class values.Undefined = λ b. tt
-error-shaped class _ = wrong-shaped
-
-text_or_fail-shaped : (o : Option (List ℕ)) → ShapedAction (text_or_fail o)
-text_or_fail-shaped None = result-shaped not_a_text give give-shaped
-text_or_fail-shaped (Some us) = text-shaped us give give-shaped
-
-string-shaped : (w : World) (x : Value) → ShapedAction (string_of w x)
-string-shaped w (values.Text a) = tt
-string-shaped w values.Undefined = text_or_fail-shaped (text_of w values.Undefined)
-string-shaped w values.Null = text_or_fail-shaped (text_of w values.Null)
-string-shaped w (values.Bool b) = text_or_fail-shaped (text_of w (values.Bool b))
-string-shaped w (values.Number z) = text_or_fail-shaped (text_of w (values.Number z))
-string-shaped w (values.Object a) = text_or_fail-shaped (text_of w (values.Object a))
-
-texts-shaped : (ts : List (List ℕ)) (k : List Value → Action) → ((xs : List Value) → ShapedAction (k xs)) → ShapedAction (make_texts ts k)
-texts-shaped [] k h = h []
-texts-shaped (t ∷ ts) k h = text-shaped t (λ x. make_texts ts (λ xs. k (x ∷ xs))) (λ x. texts-shaped ts (λ xs. k (x ∷ xs)) (λ xs. h (x ∷ xs)))
-
-keys-shaped : (w : World) (x : Value) → ShapedAction (keys_of w x)
-keys-shaped w (values.Object a) = texts-shaped (keys_of_cell (read_cell w a)) new_array (λ xs a. tt)
-keys-shaped w _ = wrong-shaped
-
-push-shaped : (a : Addr) (l : ℕ) (xs : List Value) → ShapedAction (push_all a l xs)
-push-shaped a l [] = tt
-push-shaped a l (x ∷ xs) = push-shaped a (l + 1) xs
-
-pop-shaped : (a : Addr) (xs : List Value) → ShapedAction (pop_last a xs)
-pop-shaped a [] = tt
-pop-shaped a (x ∷ xs) = tt
-
-joined_texts-shaped : (us : List ℕ) (o : Option (List (List ℕ))) → ShapedAction (joined_or_fail us o)
-joined_texts-shaped us None = result-shaped not_a_text give give-shaped
-joined_texts-shaped us (Some ts) = λ a. tt
-
-join-shaped : (w : World) (vs : List Value) (x : Value) → ShapedAction (join w vs x)
-join-shaped w vs values.Undefined = joined_texts-shaped (codes ",") (joined_parts w vs)
-join-shaped w vs (values.Text a) = joined_texts-shaped (units_at w a) (joined_parts w vs)
-join-shaped w vs _ = wrong-shaped
-
-array_or_wrong-shaped : (o : Option (List Value)) → ShapedAction (array_or_wrong o)
-array_or_wrong-shaped None = wrong-shaped
-array_or_wrong-shaped (Some vs) = λ a. tt
-
-text_or_wrong-shaped : (o : Option (List ℕ)) → ShapedAction (text_or_wrong o)
-text_or_wrong-shaped None = wrong-shaped
-text_or_wrong-shaped (Some us) = λ a. tt
-
-occurrence-shaped : (w : World) (us : List ℕ) (x : Value) → ShapedAction (occurrence_of w us x)
-occurrence-shaped w us (values.Text b) = tt
-occurrence-shaped w us _ = wrong-shaped
-
-unit_or_fail-shaped : (o : Option ℕ) → ShapedAction (unit_or_fail o)
-unit_or_fail-shaped (Some u) = tt
-unit_or_fail-shaped None = result-shaped not_safe give give-shaped
-
-unit_at-shaped : (us : List ℕ) (x : Value) → ShapedAction (unit_at us x)
-unit_at-shaped us (values.Number (pos i)) = unit_or_fail-shaped (slice_get us i)
-unit_at-shaped us (values.Number (negsuc i)) = unit_or_fail-shaped None
-unit_at-shaped us values.Undefined = wrong-shaped
-unit_at-shaped us values.Null = wrong-shaped
-unit_at-shaped us (values.Bool b) = wrong-shaped
-unit_at-shaped us (values.Text a) = wrong-shaped
-unit_at-shaped us (values.Object a) = wrong-shaped
-
-array_call-shaped : (w : World) (f : BuiltIn) (a : Addr) (vs args : List Value) → ShapedAction (array_call w f a vs args)
-array_call-shaped w built_ins.ArrayPush a vs args = push-shaped a (length vs) args
-array_call-shaped w built_ins.ArrayPop a vs args = pop-shaped a vs
-array_call-shaped w built_ins.ArrayIndexOf a vs args = tt
-array_call-shaped w built_ins.ArrayJoin a vs args = join-shaped w vs (argument args 0)
-array_call-shaped w built_ins.ArraySlice a vs args = array_or_wrong-shaped (slice_places vs args)
-array_call-shaped w _ a vs args = wrong-shaped
-
-on_cell-shaped : (w : World) (f : BuiltIn) (a : Addr) (o : Option Cell) (args : List Value) → ShapedAction (on_array_cell w f a o args)
-on_cell-shaped w f a None args = wrong-shaped
-on_cell-shaped w f a (Some (cells.Array vs)) args = array_call-shaped w f a vs args
-on_cell-shaped w f a (Some (cells.Object ps)) args = wrong-shaped
-on_cell-shaped w f a (Some (cells.Error class ps)) args = wrong-shaped
-on_cell-shaped w f a (Some (cells.Function code n l s t)) args = wrong-shaped
-on_cell-shaped w f a (Some (cells.Text us)) args = wrong-shaped
-on_cell-shaped w f a (Some (cells.Bindings kind n o ns)) args = wrong-shaped
-
-on_array-shaped : (w : World) (f : BuiltIn) (x : Value) (args : List Value) → ShapedAction (on_array w f x args)
-on_array-shaped w f (values.Object a) args = on_cell-shaped w f a (read_cell w a) args
-on_array-shaped w f _ args = wrong-shaped
-
-string_call-shaped : (w : World) (f : BuiltIn) (us : List ℕ) (args : List Value) → ShapedAction (string_call w f us args)
-string_call-shaped w built_ins.StringIndexOf us args = occurrence-shaped w us (argument args 0)
-string_call-shaped w built_ins.StringSlice us args = text_or_wrong-shaped (slice_places us args)
-string_call-shaped w built_ins.StringCharCodeAt us args = unit_at-shaped us (argument args 0)
-string_call-shaped w _ us args = wrong-shaped
-
-on_string-shaped : (w : World) (f : BuiltIn) (x : Value) (args : List Value) → ShapedAction (on_string w f x args)
-on_string-shaped w f (values.Text a) args = string_call-shaped w f (units_at w a) args
-on_string-shaped w f _ args = wrong-shaped
-
-built_in-shaped : (w : World) (f : BuiltIn) (x : Value) (args : List Value) → ShapedAction (built_in_call w f x args)
-built_in-shaped w built_ins.ConsoleLog x args = tt
-built_in-shaped w built_ins.ReadLine x args = λ line. line-shaped line
-built_in-shaped w (built_ins.MakeError class) x args = error-shaped class (argument args 0)
-built_in-shaped w built_ins.ObjectKeys x args = keys-shaped w (argument args 0)
-built_in-shaped w built_ins.ArrayIsArray x args = tt
-built_in-shaped w built_ins.MakeString x args = string-shaped w (argument args 0)
-built_in-shaped w built_ins.StringIndexOf x args = on_string-shaped w built_ins.StringIndexOf x args
-built_in-shaped w built_ins.StringSlice x args = on_string-shaped w built_ins.StringSlice x args
-built_in-shaped w built_ins.StringCharCodeAt x args = on_string-shaped w built_ins.StringCharCodeAt x args
-built_in-shaped w built_ins.ArrayPush x args = on_array-shaped w built_ins.ArrayPush x args
-built_in-shaped w built_ins.ArrayPop x args = on_array-shaped w built_ins.ArrayPop x args
-built_in-shaped w built_ins.ArrayIndexOf x args = on_array-shaped w built_ins.ArrayIndexOf x args
-built_in-shaped w built_ins.ArrayJoin x args = on_array-shaped w built_ins.ArrayJoin x args
-built_in-shaped w built_ins.ArraySlice x args = on_array-shaped w built_ins.ArraySlice x args
 
 -- ---- code
 
@@ -256,10 +118,6 @@ names-shaped : (scope : Addr) (bs : List Binding) (k : Action) → ShapedAction 
 names-shaped scope [] k h = h
 names-shaped scope (b ∷ bs) k h = names-shaped scope bs k h
 
-function_row-shaped : (s : State) (scope : Addr) (f : FunctionForm) → ShapedAction (function_row s scope f)
-function_row-shaped s scope f =
-    choose_action f.is_named (named_function f scope) (make (function_cell f f.name scope (receiver_of f (this_of s))) (λ a. give (values.Object a))) (λ a b. tt) (λ a. tt)
-
 code-shaped : (s : State) (o : Option FunctionCode) (source : Source) (a : Addr) (name : List ℕ) (outer : Option Addr) (x y : Value) (args : List Value) → ShapedCode o → ShapedAction (call_code s o source a name outer x y args)
 code-shaped s None source a name outer x y args h = fail-shaped classes.TypeError (codes "Value is not a function")
 code-shaped s (Some c) source a name None x y args h = fail-shaped classes.TypeError (codes "Value is not a function")
@@ -270,7 +128,7 @@ code-shaped s (Some c) source a name (Some outer) x y args h =
 
 cell-shaped : (p : Program) (s : State) (a : Addr) (o : Option Cell) (y : Value) (args : List Value) → ShapedProgram p → ShapedAction (call_cell p s a o y args)
 cell-shaped p s a None y args h = fail-shaped classes.TypeError (codes "Value is not a function")
-cell-shaped p s a (Some (cells.Function (code.BuiltIn f) n l outer x)) y args h = built_in-shaped s.world f y args
+cell-shaped p s a (Some (cells.Function (code.BuiltIn f) n l outer x)) y args h = gives-shaped (built_in_call s.world f y args) (built_in-gives s.world f y args)
 cell-shaped p s a (Some (cells.Function (code.Script number node) n l outer x)) y args h =
     code-shaped s (function_at p (script_source number) node) (script_source number) a n outer x y args (function_at-shaped p (script_source number) node h)
 cell-shaped p s a (Some (cells.Function (code.Kept at node) n l outer x)) y args h =
@@ -366,10 +224,6 @@ turn-shaped scope b i (Some x) later h k =
 
 -- ---- expressions
 
-type_of-shaped : (w : World) (n : List ℕ) (o : Option Found) → ShapedAction (type_of_found w n o)
-type_of-shaped w n None = λ a. tt
-type_of-shaped w n (Some f) = result-shaped (value_of_found n (Some f)) (λ v. make_text (type_text w v) give) (λ v a. tt)
-
 comma-shaped : (later : Terms) → AreShaped later → ShapedAction (comma_row later)
 comma-shaped end k = tt
 comma-shaped (more t end) k = k.0
@@ -385,26 +239,13 @@ compound-shaped w scope o r vs (more e ts) h k =
       tt,
     ))
 
-updated_by-shaped : (o : UpdateOperator) (r : Result) (k : Value → Value → Action) → ((x y : Value) → ShapedAction (k x y)) → ShapedAction (updated_by o r k)
-updated_by-shaped o (a_value x) k h = result-shaped (update_result o x) (k x) (h x)
-updated_by-shaped o (a_text us) k h = result-shaped not_numbers give give-shaped
-updated_by-shaped o (an_error class message) k h = fail-shaped class message
-
-update_row-shaped : (w : World) (scope : Addr) (o : UpdateOperator) (prefix : Bool) (r : Reference) (vs : List Value) → ShapedAction (update_row w scope o prefix r vs)
-update_row-shaped w scope o prefix r vs =
-    updated_by-shaped o (read_result w scope r vs) (λ old new. put w scope r vs new (give (update_value prefix old new))) (λ x y. put-shaped w scope r vs y (give (update_value prefix x y)) tt)
-
 callee-shaped : (w : World) (scope : Addr) (r : Reference) (m : Mark) (node : ℕ) (vs : List Value) (later : Terms) → AreShaped later → ShapedAction (callee_row w scope r m node vs later)
 callee-shaped w scope r m node vs later k =
     result-shaped (read_result w scope r vs) (λ f. go (part (call m node) (more (done (callee_this r vs)) (more (done f) later)) end))
     (λ x. (record { reduced = omega arith; kept = omega arith; others = tt }, (tt, (tt, k)), tt))
 
-made-shaped : (o : Option (List Property)) → ShapedAction (object_or_fail o)
-made-shaped None = fail-shaped classes.TypeError (codes "Property key must be a string or a number")
-made-shaped (Some ps) = λ a. tt
-
 object-shaped : (w : World) (scope : Addr) (ms : List Member) (vs : List Value) (later : Terms) → Shape (object ms) (length vs) later → AreShaped later → ShapedAction (object_row w scope ms vs later)
-object-shaped w scope ms vs end h k = made-shaped (properties_from w [] ms vs)
+object-shaped w scope ms vs end h k = gives-shaped (object_or_fail (properties_from w [] ms vs)) (made-gives (properties_from w [] ms vs))
 object-shaped w scope ms vs (more (part (method f) now later) ts) h k =
     let o = h.others in
     key-shaped (key_of w (last_of vs)) (λ key. make (function_cell f key scope values.Undefined) (λ a. go (part (object ms) (joined (dones vs) (more (done (values.Object a)) now)) ts)))
@@ -436,18 +277,18 @@ row-shaped p s scope (loop stage a) vs later g h k = loop-shaped s.world stage a
 row-shaped p s scope (list_of b) vs later g h k = list-shaped s.world b (only vs) later h.kept k
 row-shaped p s scope (turn_of b i) vs later g h k = turn-shaped scope b i (elements_of s.world later i) later h.kept k
 row-shaped p s scope this vs later g h k = tt
-row-shaped p s scope (read r) vs later g h k = result-shaped (read_result s.world scope r vs) give give-shaped
-row-shaped p s scope (typeof_name x) vs later g h k = type_of-shaped s.world x (found s.world scope x)
-row-shaped p s scope (unary op) vs later g h k = result-shaped (unary_result s.world op (only vs)) give give-shaped
-row-shaped p s scope (binary op) vs later g h k = result-shaped (binary_result s.world op (argument vs 0) (argument vs 1)) give give-shaped
+row-shaped p s scope (read r) vs later g h k = result-shaped (read_result s.world scope r vs) give (λ x. tt)
+row-shaped p s scope (typeof_name x) vs later g h k = gives-shaped (type_of_found s.world x (found s.world scope x)) (type_of-gives s.world x (found s.world scope x))
+row-shaped p s scope (unary op) vs later g h k = result-shaped (unary_result s.world op (only vs)) give (λ x. tt)
+row-shaped p s scope (binary op) vs later g h k = result-shaped (binary_result s.world op (argument vs 0) (argument vs 1)) give (λ x. tt)
 row-shaped p s scope comma vs later g h k = comma-shaped later k
-row-shaped p s scope (function f) vs later g h k = function_row-shaped s scope f
+row-shaped p s scope (function f) vs later g h k = gives-shaped (function_row s scope f) (function_row-gives s scope f)
 row-shaped p s scope array vs later g h k = λ a. tt
 row-shaped p s scope (object ms) vs later g h k = object-shaped s.world scope ms vs later h k
 row-shaped p s scope (compound op r) vs later g h k = compound-shaped s.world scope op r vs later h.reduced k
-row-shaped p s scope (assign r) vs later g h k = put-shaped s.world scope r vs (last_of vs) (give (last_of vs)) tt
-row-shaped p s scope (update op prefix r) vs later g h k = update_row-shaped s.world scope op prefix r vs
-row-shaped p s scope (delete r) vs later g h k = remove-shaped s.world r vs (give (values.Bool true)) tt
+row-shaped p s scope (assign r) vs later g h k = gives-shaped (assign_row s.world scope r vs) (put-gives s.world scope r vs (last_of vs) (give (last_of vs)) tt)
+row-shaped p s scope (update op prefix r) vs later g h k = gives-shaped (update_row s.world scope op prefix r vs) (update_row-gives s.world scope op prefix r vs)
+row-shaped p s scope (delete r) vs later g h k = gives-shaped (remove s.world r vs (give (values.Bool true))) (remove-gives s.world r vs (give (values.Bool true)) tt)
 row-shaped p s scope (call m node) vs later g h k = call-shaped p s m vs g
 row-shaped p s scope (call_of r m node) vs later g h k = callee-shaped s.world scope r m node vs later k
 row-shaped p s scope (ending kept) vs later g h k = ending-shaped kept

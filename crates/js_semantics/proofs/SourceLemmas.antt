@@ -27,6 +27,8 @@ use Rattle.js_tree.specs.Views.{parameters_view}
 use Rattle.js_semantics.specs.Clean.{parameter_names}
 use Rattle.js_semantics.proofs.StartLemmas.{plain-sound}
 use Rattle.js_semantics.proofs.ShapeStart.{plain-shaped}
+use Rattle.js_semantics.specs.Depths.{RunListsFrames}
+use Rattle.js_semantics.proofs.DepthLaws.{plain-listed}
 use Rattle.js_semantics.proofs.ShapeMakers.{MadeShaped, ItemShaped, ItemsShaped, AllShaped, OptionalShaped, DeclaratorsShaped, KeyShaped, PropertyShaped, PropertiesShaped, plains-shaped, assignment-shaped, updated-shaped, unary-shaped, binary-shaped, comma-shaped, call-shaped, function-shaped, returned-shaped, arrow-shaped, and-shaped, block-shaped, script-shaped, lexical-shaped, if-shaped, if_then-shaped, while-shaped, do_while-shaped, for-shaped, for_lexical-shaped, for_of-shaped, return-shaped, try-shaped, function_item-shaped, object-shaped}
 use Rattle.js_semantics.proofs.UntouchedLemmas.{Fresh, FreshItem, FreshItems, AllFresh, FreshOptional, FreshDeclarators, FreshKey, FreshProperty, FreshProperties, plains-fresh, assignment-fresh, updated-fresh, unary-fresh, binary-fresh, comma-fresh, call-fresh, function-fresh, returned-fresh, arrow-fresh, and-fresh, block-fresh, script-fresh, lexical-fresh, if-fresh, if_then-fresh, while-fresh, do_while-fresh, for-fresh, for_lexical-fresh, for_of-fresh, return-fresh, try-fresh, function_item-fresh, object-fresh}
 
@@ -357,3 +359,6 @@ scripts-sound k scripts input = plain-sound k (terms_of_scripts scripts) input (
 
 pub scripts-shaped : (k : ℕ) (scripts : List Script) (input : List (List ℕ)) → ShapedRun (plain_run k (terms_of_scripts scripts) input)
 scripts-shaped k scripts input = plain-shaped k (terms_of_scripts scripts) input (scripts-well scripts)
+
+pub scripts-listed : (k : ℕ) (scripts : List Script) (input : List (List ℕ)) → RunListsFrames (plain_run k (terms_of_scripts scripts) input)
+scripts-listed k scripts input = plain-listed k (terms_of_scripts scripts) input (scripts-fresh scripts)

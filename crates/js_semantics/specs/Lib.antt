@@ -16,3 +16,4 @@ pub mod Sources
 pub mod Untouched
 pub mod Safe
 pub mod Shapes
+pub mod Depths

@@ -1,6 +1,6 @@
 //! The laws of steps and runs. Each function does nothing: its contract is the law, for every configuration.
 
-ghost use Rattle.std.specs.Prelude.{◌≡◌, ℕ, suc, ◌+◌, List};
+ghost use Rattle.std.specs.Prelude.{◌≡◌, ℕ, suc, ◌+◌, ◌≤◌, true, List, Some};
 ghost use Rattle.js_tree.specs.declared.script.Script.{Script};
 ghost use Rattle.js_semantics.specs.Sources.{terms_of_scripts};
 ghost use Rattle.js_heap.specs.declared.value.Addr.{Addr};
@@ -17,6 +17,10 @@ ghost use Rattle.js_tree.specs.declared.operator.BinaryOperator.{BinaryOperator}
 ghost use Rattle.js_tree.specs.declared.operator.UnaryOperator.{UnaryOperator};
 ghost use Rattle.js_tree.specs.declared.operator.UpdateOperator.{UpdateOperator};
 ghost use Rattle.js_semantics.specs.Safe.{IsSafe, AnswersSafe};
+ghost use Rattle.js_tree.specs.declared.node.Span.{Span};
+ghost use Rattle.js_semantics.specs.Terms.{Mark};
+ghost use Rattle.js_semantics.specs.Frames.{active, at, is_debugger};
+ghost use Rattle.js_semantics.specs.Depths.{ProgramHasNoFrame, Agrees, MoveAgrees, RunListsFrames};
 ghost use Rattle.js_semantics.specs.Shapes.{IsShaped, ShapedProgram, ShapedMove, ShapedRun};
 ghost use Rattle.js_semantics.specs.Untouched.{AreUntouched};
 ghost use Rattle.js_semantics.specs.Evaluation.{ScratchSpace, Argument, evaluate, evaluate_call};
@@ -99,4 +103,21 @@ pub fn steps_keep_shape()
 /// Each configuration of the run of the parser's scripts is well-shaped.
 pub fn a_run_of_trees_is_well_shaped()
     ensures { (k : ℕ) (scripts : List Script) (input : List (List ℕ)) → ShapedRun (plain k (terms_of_scripts scripts) input) }
+{}
+
+/// A step keeps the state's frames those of the term, one for each `frame` around the part about to be reduced, above
+/// the same others. What has no `frame` itself is uncovered, and a completion that passes takes the frames away.
+pub fn a_step_keeps_its_frames()
+    ensures { (b : ℕ) (p : Program) (scope : Addr) (t : Term) (s : State) → 1 ≤ b → ProgramHasNoFrame p → Agrees b t s → MoveAgrees b (next p scope t s) }
+{}
+
+/// In each configuration of the run of the parser's scripts each active frame has one scope, and there is a frame at
+/// each depth from the top.
+pub fn active_frames_are_listed()
+    ensures { (k : ℕ) (scripts : List Script) (input : List (List ℕ)) → RunListsFrames (plain k (terms_of_scripts scripts) input) }
+{}
+
+/// A configuration at a `debugger` statement is an arrival.
+pub fn a_debugger_statement_is_an_arrival()
+    ensures { (spans : List Span) (t : Term) → is_debugger (active t) ≡ true → (m : Mark) × (at spans t ≡ Some m) }
 {}
