@@ -14,3 +14,11 @@ pub mod EvaluationLemmas
 pub mod StartLemmas
 pub mod UntouchedLemmas
 pub mod SourceLemmas
+pub mod SafeLemmas
+pub mod GiveLemmas
+pub mod ShapeLemmas
+pub mod ShapeRows
+pub mod ShapeMakers
+pub mod ShapeStart
+pub mod DepthLemmas
+pub mod DepthLaws

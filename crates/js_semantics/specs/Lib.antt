@@ -14,3 +14,6 @@ pub mod Evaluation
 pub mod Sound
 pub mod Sources
 pub mod Untouched
+pub mod Safe
+pub mod Shapes
+pub mod Depths

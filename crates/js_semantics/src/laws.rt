@@ -1,6 +1,6 @@
 //! The laws of steps and runs. Each function does nothing: its contract is the law, for every configuration.
 
-ghost use Rattle.std.specs.Prelude.{◌≡◌, ℕ, suc, ◌+◌, List};
+ghost use Rattle.std.specs.Prelude.{◌≡◌, ℕ, suc, ◌+◌, ◌≤◌, true, List, Some};
 ghost use Rattle.js_tree.specs.declared.script.Script.{Script};
 ghost use Rattle.js_semantics.specs.Sources.{terms_of_scripts};
 ghost use Rattle.js_heap.specs.declared.value.Addr.{Addr};
@@ -12,6 +12,16 @@ ghost use Rattle.js_semantics.specs.Next.{next};
 ghost use Rattle.js_semantics.specs.Run.{Run, Finish, over, program_of, state_of, steps_in, plain, out};
 ghost use Rattle.js_heap.specs.declared.value.Value.{Value};
 ghost use Rattle.js_heap.specs.World.{World};
+ghost use Rattle.js_heap.specs.Operators.{binary_result, unary_result, update_result};
+ghost use Rattle.js_tree.specs.declared.operator.BinaryOperator.{BinaryOperator};
+ghost use Rattle.js_tree.specs.declared.operator.UnaryOperator.{UnaryOperator};
+ghost use Rattle.js_tree.specs.declared.operator.UpdateOperator.{UpdateOperator};
+ghost use Rattle.js_semantics.specs.Safe.{IsSafe, AnswersSafe};
+ghost use Rattle.js_tree.specs.declared.node.Span.{Span};
+ghost use Rattle.js_semantics.specs.Terms.{Mark};
+ghost use Rattle.js_semantics.specs.Frames.{active, at, is_debugger};
+ghost use Rattle.js_semantics.specs.Depths.{ProgramHasNoFrame, Agrees, MoveAgrees, RunListsFrames};
+ghost use Rattle.js_semantics.specs.Shapes.{IsShaped, ShapedProgram, ShapedMove, ShapedRun};
 ghost use Rattle.js_semantics.specs.Untouched.{AreUntouched};
 ghost use Rattle.js_semantics.specs.Evaluation.{ScratchSpace, Argument, evaluate, evaluate_call};
 ghost use Rattle.js_heap.specs.Worlds.{SoundScope};
@@ -71,4 +81,43 @@ pub fn a_plain_run_is_sound()
 /// So is each configuration of the run of the parser's scripts.
 pub fn a_run_of_trees_is_sound()
     ensures { (k : ℕ) (scripts : List Script) (input : List (List ℕ)) → SoundRun (program_of (terms_of_scripts scripts)) (plain k (terms_of_scripts scripts) input) }
+{}
+
+/// Operators answer safe integers, as their definitions test; `+` and `-` of one operand do of an operand that is one.
+pub fn operators_answer_safe_integers()
+    ensures binary { (w : World) (o : BinaryOperator) (v u : Value) → AnswersSafe (binary_result w o v u) }
+    ensures unary { (w : World) (o : UnaryOperator) (v : Value) → IsSafe v → AnswersSafe (unary_result w o v) }
+    ensures update { (o : UpdateOperator) (v : Value) → AnswersSafe (update_result o v) }
+{}
+
+/// A step keeps a term well-shaped: each form in it has the parts that its row takes.
+pub fn a_step_keeps_shape()
+    ensures { (p : Program) (scope : Addr) (t : Term) (s : State) → ShapedProgram p → IsShaped t → ShapedMove (next p scope t s) }
+{}
+
+/// So do any number of steps of a run.
+pub fn steps_keep_shape()
+    ensures { (k : ℕ) (p : Program) (scope : Addr) (r : Run) → ShapedProgram p → ShapedRun r → ShapedRun (steps_in k p scope r) }
+{}
+
+/// Each configuration of the run of the parser's scripts is well-shaped.
+pub fn a_run_of_trees_is_well_shaped()
+    ensures { (k : ℕ) (scripts : List Script) (input : List (List ℕ)) → ShapedRun (plain k (terms_of_scripts scripts) input) }
+{}
+
+/// A step keeps the state's frames those of the term, one for each `frame` around the part about to be reduced, above
+/// the same others. What has no `frame` itself is uncovered, and a completion that passes takes the frames away.
+pub fn a_step_keeps_its_frames()
+    ensures { (b : ℕ) (p : Program) (scope : Addr) (t : Term) (s : State) → 1 ≤ b → ProgramHasNoFrame p → Agrees b t s → MoveAgrees b (next p scope t s) }
+{}
+
+/// In each configuration of the run of the parser's scripts each active frame has one scope, and there is a frame at
+/// each depth from the top.
+pub fn active_frames_are_listed()
+    ensures { (k : ℕ) (scripts : List Script) (input : List (List ℕ)) → RunListsFrames (plain k (terms_of_scripts scripts) input) }
+{}
+
+/// A configuration at a `debugger` statement is an arrival.
+pub fn a_debugger_statement_is_an_arrival()
+    ensures { (spans : List Span) (t : Term) → is_debugger (active t) ≡ true → (m : Mark) × (at spans t ≡ Some m) }
 {}

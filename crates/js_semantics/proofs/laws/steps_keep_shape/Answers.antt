@@ -1,0 +1,5 @@
+use Rattle.js_semantics.proofs.ShapeRows.{steps-shaped}
+use Rattle.js_semantics.proofs.laws.steps_keep_shape.Goals as goal
+
+pub returns : goal.returns
+returns c = steps-shaped
