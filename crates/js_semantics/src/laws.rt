@@ -4,9 +4,9 @@ ghost use Rattle.std.specs.Prelude.{◌≡◌, ℕ, suc, ◌+◌, ◌≤◌, tru
 ghost use Rattle.js_tree.specs.declared.script.Script.{Script};
 ghost use Rattle.js_semantics.specs.Sources.{expression_source, terms_of_scripts};
 ghost use Rattle.js_heap.specs.declared.value.Addr.{Addr};
-ghost use Rattle.js_semantics.specs.Terms.{Mark, Term, Terms};
+ghost use Rattle.js_semantics.specs.Terms.{Mark, Term, Terms, script_source, kept_source};
 ghost use Rattle.js_semantics.specs.State.{State};
-ghost use Rattle.js_semantics.specs.Functions.{Program};
+ghost use Rattle.js_semantics.specs.Functions.{Program, function_in, function_at};
 ghost use Rattle.js_semantics.specs.Makers.{Made};
 ghost use Rattle.js_semantics.specs.Next.{next};
 ghost use Rattle.js_semantics.specs.Run.{Run, Finish, over, program_of, state_of, steps_in, plain, out};
@@ -25,7 +25,7 @@ ghost use Rattle.js_semantics.specs.Untouched.{AreUntouched};
 ghost use Rattle.js_tree.specs.declared.script.Expression.{Expression};
 ghost use Rattle.js_tree.specs.declared.script.FunctionCode.{FunctionCode};
 ghost use Rattle.js_heap.specs.BuiltIns.{script_scope};
-ghost use Rattle.js_semantics.specs.Evaluation.{ScratchSpace, Argument, copied_world, with_source, evaluate, evaluate_call, evaluate_expression, evaluate_function};
+ghost use Rattle.js_semantics.specs.Evaluation.{ScratchSpace, Argument, copied_world, next_kept, kept_tree, with_source, evaluate, evaluate_call, evaluate_expression, evaluate_function};
 ghost use Rattle.js_heap.specs.Worlds.{SoundScope};
 ghost use Rattle.js_semantics.specs.Sound.{SoundState, SoundTerm, SoundMove, SoundRun, SoundArguments, IsReady, SoundAnswer};
 ghost use Rattle.js_semantics.specs.Laws.{IsPrefix, MoveFollows, RunFollows, AnswerKeeps};
@@ -84,6 +84,12 @@ pub fn an_evaluation_keeps_sound()
 /// So does a call of a function whose arguments are live, or are made of JSON values.
 pub fn an_evaluated_call_keeps_sound()
     ensures { (p : Program) (w : World) (x : ScratchSpace) (f : FunctionCode) (receiver : Value) (arguments : List Argument) → IsReady p (copied_world w x) script_scope receiver → SoundArguments (copied_world w x) arguments → SoundAnswer (with_source p x (expression_source f.tree)) (evaluate_function p w x f receiver arguments) }
+{}
+
+/// The code of a function that an evaluation makes is found in its source, and that of a script's function where it was.
+pub fn an_evaluation_finds_its_functions()
+    ensures own { (p : Program) (x : ScratchSpace) (e : Made) (node : ℕ) → function_at (with_source p x e) (kept_source (next_kept x)) node ≡ function_in node (kept_tree (next_kept x) e) }
+    ensures others { (p : Program) (x : ScratchSpace) (e : Made) (number node : ℕ) → function_at (with_source p x e) (script_source number) node ≡ function_at p (script_source number) node }
 {}
 
 /// Each configuration of a plain run is sound: its scripts hold no address before the first step.
