@@ -1,5 +1,6 @@
 -- An evaluation leaves the program's cells and those of earlier evaluations.
-use Rattle.std.proofs.Common.{◌≡◌, ℕ, ◌-◌, List, [], ◌∷◌, ◌++◌, length, take, Option, None, Some, refl, ap, ◌∙◌, subst, arith, length-append}
+use Rattle.std.proofs.Common.{◌≡◌, ℕ, ◌-◌, Bool, true, false, if◌then◌else◌, List, [], ◌∷◌, ◌++◌, length, take, Option, None, Some, refl, ap, ◌∙◌, subst, arith, length-append}
+use Rattle.std.proofs.lemmas.Bool.{eq-eqb}
 use Rattle.std.proofs.lemmas.List.{take-append-le}
 use Rattle.std.specs.Prelude.{slice_get, nat_le}
 use Rattle.js_heap.specs.declared.value.Addr.{Addr}
@@ -15,12 +16,12 @@ use Rattle.js_heap.specs.World.{Room, World, Tried, fine, effect, full, read_cel
 use Rattle.js_heap.specs.Worlds.{KindStays, OthersStay, Keeps, AfterFine}
 use Rattle.js_heap.specs.BuiltIns.{script_scope}
 use Rattle.js_heap.proofs.KeepLemmas.{stays-same, stays-append, keeps-same, keeps-trans, making-keeps, fine_if}
-use Rattle.js_semantics.specs.Terms.{Term}
+use Rattle.js_semantics.specs.Terms.{script_source, kept_source, Term}
 use Rattle.js_semantics.specs.State.{State}
-use Rattle.js_semantics.specs.Functions.{Program}
+use Rattle.js_semantics.specs.Functions.{Program, FunctionCode, same_source, function_in, function_at}
 use Rattle.js_semantics.specs.Makers.{Made}
 use Rattle.js_semantics.specs.Run.{ended, threw, by_effect, by_full, Run, running, over, run_of, state_of, steps_in, literals}
-use Rattle.js_semantics.specs.Evaluation.{ScratchSpace, copied_world, after_try, keep_source, make_literals, Json, json_null, json_bool, json_number, json_string, json_array, json_object, Jsons, no_jsons, a_json, Members, no_members, a_member, object_value, make_json, make_jsons, make_members, Argument, given, made_of, make_argument, make_arguments, budget, Answer, answer_of, evaluation_state, answered, kept_term, kept_tree, with_source, prepared, evaluated, evaluate, call_term, with_arguments, evaluate_call}
+use Rattle.js_semantics.specs.Evaluation.{ScratchSpace, copied_world, after_try, keep_source, make_literals, Json, json_null, json_bool, json_number, json_string, json_array, json_object, Jsons, no_jsons, a_json, Members, no_members, a_member, object_value, make_json, make_jsons, make_members, Argument, given, made_of, make_argument, make_arguments, budget, Answer, answer_of, evaluation_state, answered, next_kept, kept_term, kept_tree, with_source, prepared, evaluated, evaluate, call_term, with_arguments, evaluate_call}
 use Rattle.js_semantics.specs.Laws.{Follows, Undisturbed, AnswerKeeps}
 use Rattle.js_semantics.proofs.FollowLemmas.{steps-follows, run_of-state}
 
@@ -137,3 +138,17 @@ call-keeps p w x source callee receiver given_args =
     (then_keeps c (prepared w x source callee) (λ f v. after_try (make_arguments v given_args) (λ vs u. fine (call_term receiver f vs) u)) (prepared-keeps w x source callee)
     (λ f v. then_keeps v (make_arguments v given_args) (λ vs u. fine (call_term receiver f vs) u) (arguments-keep v given_args) (λ vs u. keeps-same u)))
     (λ v u k. evaluated-keeps (with_source p x callee) script_scope values.Undefined w x v u k)
+
+-- ---- functions that an evaluation makes
+
+found_if : (b : Bool) (o q : Option FunctionCode) → b ≡ true → (if b then o else q) ≡ o
+found_if true o q e = refl
+found_if false o q e = cc
+
+pub own-found : (p : Program) (x : ScratchSpace) (e : Made) (node : ℕ) → function_at (with_source p x e) (kept_source (next_kept x)) node ≡ function_in node (kept_tree (next_kept x) e)
+own-found p x e node =
+    found_if (same_source (kept_source (next_kept x)) (kept_source (next_kept x))) (function_in node (kept_tree (next_kept x) e)) (function_at p (kept_source (next_kept x)) node)
+    (eq-eqb (length x.cells) (length x.cells) refl)
+
+pub others-found : (p : Program) (x : ScratchSpace) (e : Made) (number node : ℕ) → function_at (with_source p x e) (script_source number) node ≡ function_at p (script_source number) node
+others-found p x e number node = refl

@@ -22,3 +22,4 @@ pub mod ShapeMakers
 pub mod ShapeStart
 pub mod DepthLemmas
 pub mod DepthLaws
+pub mod EvaluationSound

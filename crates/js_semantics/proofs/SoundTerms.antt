@@ -59,7 +59,7 @@ mutual
   sound-terms w v l end h = tt
   sound-terms w v l (more t ts) h = (sound-term w v l t h.0, sound-terms w v l ts h.1)
 
-sound-program : (w v : World) → Later w v → (p : Program) → SoundProgram w p → SoundProgram v p
+pub sound-program : (w v : World) → Later w v → (p : Program) → SoundProgram w p → SoundProgram v p
 sound-program w v l [] h = tt
 sound-program w v l (t ∷ ts) h = (sound-term w v l t.tree h.0, sound-program w v l ts h.1)
 

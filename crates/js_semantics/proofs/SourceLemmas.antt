@@ -338,7 +338,7 @@ properties-step x y is = subst (λ m. FreshProperties (m) × PropertiesShaped (m
 statements-step : (x : Level layers.Stmts-F) (y : Known layers.Stmts-F) → statements_trees y ≡ x → SomeStatements (views.roll-Stmts x)
 statements-step x y is = subst (λ m. FreshItems (m) × ItemsShaped (m)) (sym (statements_turn x)) (subst (λ (z : Level layers.Stmts-F). FreshItems (statements_layer (statements_parts z)) × ItemsShaped (statements_layer (statements_parts z))) is (statements-known y))
 
-expression-made : (e : Expr) → AnExpression e
+pub expression-made : (e : Expr) → AnExpression e
 expression-made = ind-Expr AnExpression AProperty AKey AStatement ABlock ACatch ADeclarator SomeDeclarators SomeExpressions SomeProperties SomeStatements expression-step property-step key-step statement-step block-step catch-step declarator-step declarators-step expressions-step properties-step statements-step
 
 items-made : (ss : Stmts) → SomeStatements ss

@@ -62,14 +62,14 @@ form-sound w f h = tt
 -- ---- the cells of literals
 
 -- the addresses from a number up to another lead to texts
-abbrev AreTexts : World → (ℕ → Addr) → ℕ → ℕ → Type 0
+abbrev pub AreTexts : World → (ℕ → Addr) → ℕ → ℕ → Type 0
 AreTexts w at low high = (i : ℕ) → low ≤ i → i < high → Leads IsTextKind (read_cell w (at i))
 
 texts-within : (w : World) (at : ℕ → Addr) (a b c d : ℕ) → a ≤ c → d ≤ b → AreTexts w at a b → AreTexts w at c d
 texts-within w at a b c d p q h i low high = h i (omega arith) (omega arith)
 
 mutual
-  placed-sound : (w : World) (at : ℕ → Addr) (n : ℕ) (t : Term) → IsUntouched t → AreTexts w at n (n + length (literals t)) → SoundTerm w (with_literals at n t)
+  pub placed-sound : (w : World) (at : ℕ → Addr) (n : ℕ) (t : Term) → IsUntouched t → AreTexts w at n (n + length (literals t)) → SoundTerm w (with_literals at n t)
   placed-sound w at n (done v) h k = value-sound w v h
   placed-sound w at n (standing v place) h k = absurd h
   placed-sound w at n (part (literal us) now later) h k = k n (omega arith) (omega arith)

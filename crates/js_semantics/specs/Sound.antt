@@ -1,6 +1,7 @@
 -- Sound configurations: all that a residual term, a frame or a completion names is live in the world and of the right kind.
 use Rattle.std.specs.Prelude.{◌≡◌, ℕ, List, [], ◌∷◌, Option, Some, None}
 use Rattle.js_heap.specs.declared.value.Addr.{Addr}
+use Rattle.js_heap.specs.declared.value.Value.{Value}
 use Rattle.js_heap.specs.declared.value.Value.TheVariants as values
 use Rattle.js_heap.specs.declared.built_in.BuiltIn.{BuiltIn}
 use Rattle.js_heap.specs.Cells.{kind_of}
@@ -10,6 +11,7 @@ use Rattle.js_heap.specs.BuiltIns.{script_scope, heap_full_error, function_value
 use Rattle.js_semantics.specs.Terms.{Completion, throws, returns, breaks, continues, Form, script, enter_for, enter_for_of, block, scoped, frame, loop, list_of, turn_of, body_of, ending, function, method, Term, done, standing, part, Terms, end, more}
 use Rattle.js_semantics.specs.State.{Frame, State, Action, go, raise, leave, make, write, print, take_line, set_here, push_frame, pop_frame, Move, goes, travels, has_effect, is_full}
 use Rattle.js_semantics.specs.Functions.{Program}
+use Rattle.js_semantics.specs.Evaluation.{Argument, given, made_of, Answer, a_result, a_throw}
 use Rattle.js_semantics.specs.Run.{Finish, ended, threw, by_effect, by_full, Run, running, over}
 
 abbrev pub SoundCompletion : World → Completion → Type 0
@@ -105,3 +107,25 @@ SoundFinish w (by_full what) = Unit {0}
 abbrev pub SoundRun : Program → Run → Type 0
 SoundRun p (running t s) = SoundState p s × SoundTerm s.world t
 SoundRun p (over f s) = SoundState p s × SoundFinish s.world f
+
+-- ---- evaluations
+
+-- what a given argument names is live; what is made of a JSON value will be
+abbrev pub SoundArguments : World → List Argument → Type 0
+SoundArguments w [] = Unit {0}
+SoundArguments w (given v ∷ rest) = SoundValue w v × SoundArguments w rest
+SoundArguments w (made_of j ∷ rest) = SoundArguments w rest
+
+-- a world, a program, a scope and a `this` in which an evaluation may begin
+pub record IsReady (p : Program) (w : World) (scope : Addr) (receiver : Value) : Type 0 where
+  pub world : IsSound w
+  pub built_ins : HasBuiltIns w
+  pub program : SoundProgram w p
+  pub scope_lives : SoundScope w (Some scope)
+  pub receiver_lives : SoundValue w receiver
+
+-- the answer's value is live in the world after it, which is sound, and so is the program of later evaluations
+abbrev pub SoundAnswer : Program → Answer → Type 0
+SoundAnswer p (a_result v w) = SoundValue w v × IsSound w × SoundProgram w p
+SoundAnswer p (a_throw v w) = SoundValue w v × IsSound w × SoundProgram w p
+SoundAnswer p _ = Unit {0}

@@ -2,11 +2,11 @@
 
 ghost use Rattle.std.specs.Prelude.{◌≡◌, ℕ, suc, ◌+◌, ◌≤◌, true, List, Some};
 ghost use Rattle.js_tree.specs.declared.script.Script.{Script};
-ghost use Rattle.js_semantics.specs.Sources.{terms_of_scripts};
+ghost use Rattle.js_semantics.specs.Sources.{expression_source, terms_of_scripts};
 ghost use Rattle.js_heap.specs.declared.value.Addr.{Addr};
-ghost use Rattle.js_semantics.specs.Terms.{Term, Terms};
+ghost use Rattle.js_semantics.specs.Terms.{Mark, Term, Terms, script_source, kept_source};
 ghost use Rattle.js_semantics.specs.State.{State};
-ghost use Rattle.js_semantics.specs.Functions.{Program};
+ghost use Rattle.js_semantics.specs.Functions.{Program, function_in, function_at};
 ghost use Rattle.js_semantics.specs.Makers.{Made};
 ghost use Rattle.js_semantics.specs.Next.{next};
 ghost use Rattle.js_semantics.specs.Run.{Run, Finish, over, program_of, state_of, steps_in, plain, out};
@@ -18,14 +18,16 @@ ghost use Rattle.js_tree.specs.declared.operator.UnaryOperator.{UnaryOperator};
 ghost use Rattle.js_tree.specs.declared.operator.UpdateOperator.{UpdateOperator};
 ghost use Rattle.js_semantics.specs.Safe.{IsSafe, AnswersSafe};
 ghost use Rattle.js_tree.specs.declared.node.Span.{Span};
-ghost use Rattle.js_semantics.specs.Terms.{Mark};
 ghost use Rattle.js_semantics.specs.Frames.{active, at, is_debugger};
 ghost use Rattle.js_semantics.specs.Depths.{ProgramHasNoFrame, Agrees, MoveAgrees, RunListsFrames};
 ghost use Rattle.js_semantics.specs.Shapes.{IsShaped, ShapedProgram, ShapedMove, ShapedRun};
 ghost use Rattle.js_semantics.specs.Untouched.{AreUntouched};
-ghost use Rattle.js_semantics.specs.Evaluation.{ScratchSpace, Argument, evaluate, evaluate_call};
+ghost use Rattle.js_tree.specs.declared.script.Expression.{Expression};
+ghost use Rattle.js_tree.specs.declared.script.FunctionCode.{FunctionCode};
+ghost use Rattle.js_heap.specs.BuiltIns.{script_scope};
+ghost use Rattle.js_semantics.specs.Evaluation.{ScratchSpace, Argument, copied_world, next_kept, kept_tree, with_source, evaluate, evaluate_call, evaluate_expression, evaluate_function};
 ghost use Rattle.js_heap.specs.Worlds.{SoundScope};
-ghost use Rattle.js_semantics.specs.Sound.{SoundState, SoundTerm, SoundMove, SoundRun};
+ghost use Rattle.js_semantics.specs.Sound.{SoundState, SoundTerm, SoundMove, SoundRun, SoundArguments, IsReady, SoundAnswer};
 ghost use Rattle.js_semantics.specs.Laws.{IsPrefix, MoveFollows, RunFollows, AnswerKeeps};
 
 /// A step leaves what was printed, and each cell with its kind; in an evaluation it leaves all cells that aren't its own.
@@ -71,6 +73,23 @@ pub fn an_evaluation_disturbs_nothing()
 /// So does a call of a function.
 pub fn an_evaluated_call_disturbs_nothing()
     ensures { (p : Program) (w : World) (x : ScratchSpace) (source : List ℕ) (callee : Made) (receiver : Value) (arguments : List Argument) → AnswerKeeps w x (evaluate_call p w x source callee receiver arguments) }
+{}
+
+/// An evaluation that begins in a sound world, in a live scope and with a live `this`, answers a live value in a sound
+/// world. The program of later evaluations, with the source that was kept, is sound there.
+pub fn an_evaluation_keeps_sound()
+    ensures { (p : Program) (w : World) (x : ScratchSpace) (scope : Addr) (receiver : Value) (e : Expression) → IsReady p (copied_world w x) scope receiver → SoundAnswer (with_source p x (expression_source e.tree)) (evaluate_expression p w x scope receiver e) }
+{}
+
+/// So does a call of a function whose arguments are live, or are made of JSON values.
+pub fn an_evaluated_call_keeps_sound()
+    ensures { (p : Program) (w : World) (x : ScratchSpace) (f : FunctionCode) (receiver : Value) (arguments : List Argument) → IsReady p (copied_world w x) script_scope receiver → SoundArguments (copied_world w x) arguments → SoundAnswer (with_source p x (expression_source f.tree)) (evaluate_function p w x f receiver arguments) }
+{}
+
+/// The code of a function that an evaluation makes is found in its source, and that of a script's function where it was.
+pub fn an_evaluation_finds_its_functions()
+    ensures own { (p : Program) (x : ScratchSpace) (e : Made) (node : ℕ) → function_at (with_source p x e) (kept_source (next_kept x)) node ≡ function_in node (kept_tree (next_kept x) e) }
+    ensures others { (p : Program) (x : ScratchSpace) (e : Made) (number node : ℕ) → function_at (with_source p x e) (script_source number) node ≡ function_at p (script_source number) node }
 {}
 
 /// Each configuration of a plain run is sound: its scripts hold no address before the first step.
