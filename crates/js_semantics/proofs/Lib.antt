@@ -23,3 +23,5 @@ pub mod ShapeStart
 pub mod DepthLemmas
 pub mod DepthLaws
 pub mod EvaluationSound
+pub mod WaitLemmas
+pub mod WaitMakers

@@ -17,3 +17,4 @@ pub mod Untouched
 pub mod Safe
 pub mod Shapes
 pub mod Depths
+pub mod Waiting

@@ -4,7 +4,7 @@ ghost use Rattle.std.specs.Prelude.{◌≡◌, ℕ, suc, ◌+◌, ◌≤◌, tru
 ghost use Rattle.js_tree.specs.declared.script.Script.{Script};
 ghost use Rattle.js_semantics.specs.Sources.{expression_source, terms_of_scripts};
 ghost use Rattle.js_heap.specs.declared.value.Addr.{Addr};
-ghost use Rattle.js_semantics.specs.Terms.{Mark, Term, Terms, script_source, kept_source};
+ghost use Rattle.js_semantics.specs.Terms.{Mark, Term, Terms, script_source, kept_source, all_done};
 ghost use Rattle.js_semantics.specs.State.{State};
 ghost use Rattle.js_semantics.specs.Functions.{Program, function_in, function_at};
 ghost use Rattle.js_semantics.specs.Makers.{Made};
@@ -20,6 +20,7 @@ ghost use Rattle.js_semantics.specs.Safe.{IsSafe, AnswersSafe};
 ghost use Rattle.js_tree.specs.declared.node.Span.{Span};
 ghost use Rattle.js_semantics.specs.Frames.{active, at, is_debugger};
 ghost use Rattle.js_semantics.specs.Depths.{ProgramHasNoFrame, Agrees, MoveAgrees, RunListsFrames};
+ghost use Rattle.js_semantics.specs.Waiting.{Waits, ProgramWaits, MoveWaits, RunWaits};
 ghost use Rattle.js_semantics.specs.Shapes.{IsShaped, ShapedProgram, ShapedMove, ShapedRun};
 ghost use Rattle.js_semantics.specs.Untouched.{AreUntouched};
 ghost use Rattle.js_tree.specs.declared.script.Expression.{Expression};
@@ -122,6 +123,16 @@ pub fn steps_keep_shape()
 /// Each configuration of the run of the parser's scripts is well-shaped.
 pub fn a_run_of_trees_is_well_shaped()
     ensures { (k : ℕ) (scripts : List Script) (input : List (List ℕ)) → ShapedRun (plain k (terms_of_scripts scripts) input) }
+{}
+
+/// A step leads to a term in which every form waits for its step: none is left that is finished without one.
+pub fn a_step_leaves_nothing_to_finish()
+    ensures { (p : Program) (scope : Addr) (t : Term) (s : State) → ProgramWaits p → Waits all_done t → MoveWaits (next p scope t s) }
+{}
+
+/// In each configuration of the run of the parser's scripts every form waits for its step.
+pub fn a_run_of_trees_waits_for_its_steps()
+    ensures { (k : ℕ) (scripts : List Script) (input : List (List ℕ)) → RunWaits (plain k (terms_of_scripts scripts) input) }
 {}
 
 /// A step keeps the state's frames those of the term, one for each `frame` around the part about to be reduced, above

@@ -1,0 +1,249 @@
+-- The terms that the makers give wait for their steps.
+use Rattle.std.proofs.Common.{ℕ, Bool, true, false, List, [], ◌∷◌, Option, None, Some, refl}
+use Rattle.js_tree.specs.declared.operator.UnaryOperator.{UnaryOperator}
+use Rattle.js_tree.specs.declared.operator.UnaryOperator.TheVariants as unaries
+use Rattle.js_tree.specs.declared.operator.UpdateOperator.{UpdateOperator}
+use Rattle.js_tree.specs.declared.operator.BinaryOperator.{BinaryOperator}
+use Rattle.js_tree.specs.declared.operator.BinaryOperator.TheVariants as binaries
+use Rattle.js_heap.specs.declared.value.Value.TheVariants as values
+use Rattle.js_semantics.specs.Terms.{Mark, to_name, first, doing, read, return_, function, choose, loop, Term, done, standing, part, Terms, end, more, one, joined}
+use Rattle.js_semantics.specs.Waiting.{all_ready, Waits, AllWait, PartsWait, RestWaits}
+use Rattle.js_semantics.specs.Makers.{Context, Made, Item, Items, entered, lexical_item, if_item, while_item, do_while_item, for_item, for_lexical_item, for_of_item, return_item, try_item, function_item, unnamed, naming, within, plain, plains, assigned_to, compounded, updated, deleted, type_of, assignment, unary_term, binary_term, comma_term, call_term, form_of, body_terms, function_term, returned_body, PropertyKey, fixed_key, computed_key, PropertyMade, value_property, method_property, Parts, property_parts, properties_parts, object_term, and_items, block_term, DeclaratorMade, initializer_terms, declarators_terms, optional_term, optional_terms, for_parts, CatchMade, caught, finally_term, script_term}
+
+-- ---- what is made waits
+
+abbrev Tight : Term → Type 0
+Tight t = Waits all_ready t
+
+abbrev Tights : Terms → Type 0
+Tights ts = AllWait all_ready ts
+
+abbrev Loose : Term → Type 0
+Loose t = PartsWait all_ready t
+
+pub made-loosened : (t : Term) → Waits all_ready t → PartsWait all_ready t
+made-loosened (done v) h = tt
+made-loosened (standing v place) h = tt
+made-loosened (part f now later) h = (h.1, h.2)
+
+abbrev pub MadeWaits : Made → Type 0
+MadeWaits e = (c : Context) → Waits all_ready (e.term c)
+
+pub record ItemWaits (i : Item) : Type 0 where
+  pub functions_wait : (c : Context) → AllWait all_ready (i.functions c)
+  pub term_waits : (c : Context) → Waits all_ready (i.term c)
+
+pub record ItemsWait (i : Items) : Type 0 where
+  pub functions_wait : (c : Context) → AllWait all_ready (i.functions c)
+  pub terms_wait : (c : Context) → AllWait all_ready (i.terms c)
+
+abbrev pub AllMadeWait : List Made → Type 0
+AllMadeWait [] = Unit {0}
+AllMadeWait (e ∷ es) = MadeWaits e × AllMadeWait es
+
+pub plains-waits : (es : List Made) (c : Context) → AllMadeWait es → AllWait all_ready (plains es c)
+plains-waits [] c h = tt
+plains-waits (e ∷ es) c h = (h.0 (unnamed c), plains-waits es c h.1)
+
+joined-tight : (ts us : Terms) → Tights ts → Tights us → Tights (joined ts us)
+joined-tight end us h k = k
+joined-tight (more t ts) us h k = (h.0, joined-tight ts us h.1 k)
+
+-- ---- references and operators
+
+assigned-waits : (t e : Term) → Tight t → Tight e → Tight (assigned_to t e)
+assigned-waits (done v) e h k = h
+assigned-waits (standing v place) e h k = h
+assigned-waits (part (read r) now later) e h k = (λ q. refl, joined-tight now (one e) h.1 (k, tt), tt)
+assigned-waits (part f now later) e h k = h
+
+compounded-waits : (o : BinaryOperator) (t e : Term) → Tight t → Tight e → Tight (compounded o t e)
+compounded-waits o (done v) e h k = h
+compounded-waits o (standing v place) e h k = h
+compounded-waits o (part (read r) now later) e h k = (λ q. refl, h.1, (k, tt))
+compounded-waits o (part f now later) e h k = h
+
+pub assignment-waits : (o : Option BinaryOperator) (t e : Term) → Waits all_ready t → Waits all_ready e → Waits all_ready (assignment o t e)
+assignment-waits None t e h k = assigned-waits t e h k
+assignment-waits (Some o) t e h k = compounded-waits o t e h k
+
+pub updated-waits : (o : UpdateOperator) (b : Bool) (t : Term) → Waits all_ready t → Waits all_ready (updated o b t)
+updated-waits o b (done v) h = h
+updated-waits o b (standing v place) h = h
+updated-waits o b (part (read r) now later) h = (λ q. refl, h.1, tt)
+updated-waits o b (part f now later) h = h
+
+deleted-waits : (t : Term) → Tight t → Tight (deleted t)
+deleted-waits (done v) h = h
+deleted-waits (standing v place) h = h
+deleted-waits (part (read r) now later) h = (λ q. refl, h.1, tt)
+deleted-waits (part f now later) h = h
+
+type-waits : (t : Term) → Tight t → Tight (type_of t)
+type-waits (done v) h = (λ q. refl, (h, tt), tt)
+type-waits (standing v place) h = (λ q. refl, (h, tt), tt)
+type-waits (part (read (to_name n)) now later) h = (λ q. refl, tt, tt)
+type-waits (part f now later) h = (λ q. refl, (h, tt), tt)
+
+pub unary-waits : (o : UnaryOperator) (t : Term) → Waits all_ready t → Waits all_ready (unary_term o t)
+unary-waits unaries.Typeof t h = type-waits t h
+unary-waits unaries.Delete t h = deleted-waits t h
+unary-waits unaries.Void t h = (λ q. refl, (h, tt), tt)
+unary-waits unaries.Plus t h = (λ q. refl, (h, tt), tt)
+unary-waits unaries.Minus t h = (λ q. refl, (h, tt), tt)
+unary-waits unaries.BitwiseNot t h = (λ q. refl, (h, tt), tt)
+unary-waits unaries.LogicalNot t h = (λ q. refl, (h, tt), tt)
+
+pub binary-waits : (o : BinaryOperator) (l r : Term) → Waits all_ready l → Waits all_ready r → Waits all_ready (binary_term o l r)
+binary-waits binaries.LogicalAnd l r h k = (λ q. refl, (h, tt), (k, tt))
+binary-waits binaries.LogicalOr l r h k = (λ q. refl, (h, tt), (k, tt))
+binary-waits o l r h k = (λ q. refl, (h, (k, tt)), tt)
+
+pub comma-waits : (ts : Terms) → AllWait all_ready ts → Waits all_ready (comma_term ts)
+comma-waits end h = tt
+comma-waits (more t ts) h = (λ q. refl, (h.0, tt), h.1)
+
+pub call-waits : (m : Mark) (node : ℕ) (t : Term) (args : Terms) → Waits all_ready t → AllWait all_ready args → Waits all_ready (call_term m node t args)
+call-waits m node (done v) args h k = (λ q. refl, (tt, (h, k)), tt)
+call-waits m node (standing v place) args h k = (λ q. refl, (tt, (h, k)), tt)
+call-waits m node (part (read r) now later) args h k = (λ q. refl, h.1, k)
+call-waits m node (part f now later) args h k = (λ q. refl, (tt, (h, k)), tt)
+
+-- ---- functions
+
+body-waits : (b : Items) (c : Context) → ItemsWait b → RestWaits all_ready (body_terms b c)
+body-waits b c h = ((h.terms_wait (within 0 c), tt), h.functions_wait (within 0 c))
+
+pub function-waits : (node : ℕ) (n : Option (List ℕ)) (ps : List (List ℕ)) (b : Items) (c : Context) → ItemsWait b → Waits all_ready (function_term node n ps b c)
+function-waits node (Some n) ps b c h = (λ q. refl, tt, body-waits b c h)
+function-waits node None ps b c h = (λ q. refl, tt, body-waits b c h)
+
+pub returned-waits : (e : Made) → MadeWaits e → ItemsWait (returned_body e)
+returned-waits e h = record { functions_wait = λ c. tt; terms_wait = λ c. ((λ q. refl, tt, (((h (within e.node c), tt), tt), tt)), tt) }
+
+pub arrow-waits : (node : ℕ) (n : List ℕ) (ps : List (List ℕ)) (b : Items) (c : Context) → ItemsWait b → Waits all_ready (part (function (form_of node c.source n ps b.names true false)) end (body_terms b c))
+arrow-waits node n ps b c h = (λ q. refl, tt, body-waits b c h)
+
+-- ---- statements
+
+pub and-waits : (i : Item) (is : Items) → ItemWaits i → ItemsWait is → ItemsWait (and_items i is)
+and-waits i is h k = record {
+  functions_wait = λ c. joined-tight (i.functions c) (is.functions c) (h.functions_wait c) (k.functions_wait c);
+  terms_wait = λ c. (h.term_waits c, k.terms_wait c);
+}
+
+pub block-waits : (b : Items) (c : Context) → ItemsWait b → Waits all_ready (block_term b c)
+block-waits b c h = (λ q. refl, tt, ((h.terms_wait c, tt), h.functions_wait c))
+
+pub script-waits : (number : ℕ) (b : Items) → ItemsWait b → Waits all_ready (script_term number b)
+script-waits number b h = (λ q. refl, tt, ((h.terms_wait _, tt), h.functions_wait _))
+
+abbrev pub OptionalWaits : Option Made → Type 0
+OptionalWaits None = Unit {0}
+OptionalWaits (Some e) = MadeWaits e
+
+abbrev pub DeclaratorsWait : List DeclaratorMade → Type 0
+DeclaratorsWait [] = Unit {0}
+DeclaratorsWait (d ∷ ds) = OptionalWaits d.initializer × DeclaratorsWait ds
+
+entered-waits : (node : ℕ) (term : Context → Term) → ((c : Context) → Loose (term c)) → ItemWaits (entered node term)
+entered-waits node term h = record { functions_wait = λ c. tt; term_waits = λ c. (λ q. refl, tt, (h (within node c), tt)) }
+
+initializer-waits : (n : List ℕ) (e : Option Made) (c : Context) → OptionalWaits e → Tights (initializer_terms n e c)
+initializer-waits n None c h = tt
+initializer-waits n (Some e) c h = (h (naming n c), tt)
+
+declarators-wait : (ds : List DeclaratorMade) (c : Context) → DeclaratorsWait ds → Tights (declarators_terms ds c)
+declarators-wait [] c h = tt
+declarators-wait (d ∷ ds) c h = ((λ q. refl, initializer-waits d.name d.initializer c h.0, tt), declarators-wait ds c h.1)
+
+pub lexical-waits : (node : ℕ) (constant : Bool) (ds : List DeclaratorMade) → DeclaratorsWait ds → ItemWaits (lexical_item node constant ds)
+lexical-waits node constant ds h = record { functions_wait = λ c. tt; term_waits = λ c. (λ q. refl, tt, ((declarators-wait ds (within node c) h, tt), tt)) }
+
+optional_terms-wait : (e : Option Made) (c : Context) → OptionalWaits e → Tights (optional_terms e c)
+optional_terms-wait None c h = tt
+optional_terms-wait (Some e) c h = (h (unnamed c), tt)
+
+optional-waits : (e : Option Made) (c : Context) (t : Term) → OptionalWaits e → Tight t → Tight (optional_term e c t)
+optional-waits None c t h k = k
+optional-waits (Some e) c t h k = h (unnamed c)
+
+parts-wait : (t u : Option Made) (s : Item) (c : Context) → OptionalWaits t → OptionalWaits u → ItemWaits s → Tights (for_parts t u s c)
+parts-wait t u s c h k i = (optional-waits t c (done (values.Bool true)) h tt, (optional-waits u c (done values.Undefined) k tt, (i.term_waits c, tt)))
+
+pub if-waits : (node : ℕ) (e : Made) (s t : Item) → MadeWaits e → ItemWaits s → ItemWaits t → ItemWaits (if_item node e s (Some t))
+if-waits node e s t h k i = entered-waits node (λ c. part choose (one (plain e c)) (more (s.term c) (one (t.term c)))) (λ c. ((h (unnamed c), tt), (k.term_waits c, (i.term_waits c, tt))))
+
+pub if_then-waits : (node : ℕ) (e : Made) (s : Item) → MadeWaits e → ItemWaits s → ItemWaits (if_item node e s None)
+if_then-waits node e s h k = entered-waits node (λ c. part choose (one (plain e c)) (more (s.term c) (one (done values.Undefined)))) (λ c. ((h (unnamed c), tt), (k.term_waits c, (tt, tt))))
+
+pub while-waits : (node : ℕ) (e : Made) (s : Item) → MadeWaits e → ItemWaits s → ItemWaits (while_item node e s)
+while-waits node e s h k = entered-waits node (λ c. part (loop first None) end (more (plain e c) (more (done values.Undefined) (one (s.term c))))) (λ c. (tt, (h (unnamed c), (tt, (k.term_waits c, tt)))))
+
+pub do_while-waits : (node : ℕ) (s : Item) (e : Made) → ItemWaits s → MadeWaits e → ItemWaits (do_while_item node s e)
+do_while-waits node s e k h = entered-waits node (λ c. part (loop doing None) end (more (plain e c) (more (done values.Undefined) (one (s.term c))))) (λ c. (tt, (h (unnamed c), (tt, (k.term_waits c, tt)))))
+
+pub for-waits : (node : ℕ) (i t u : Option Made) (s : Item) → OptionalWaits i → OptionalWaits t → OptionalWaits u → ItemWaits s → ItemWaits (for_item node i t u s)
+for-waits node i t u s a b d k = entered-waits node (λ c. part (loop first None) (optional_terms i c) (for_parts t u s c)) (λ c. (optional_terms-wait i c a, parts-wait t u s c b d k))
+
+pub for_lexical-waits : (node : ℕ) (constant : Bool) (ds : List DeclaratorMade) (t u : Option Made) (s : Item) → DeclaratorsWait ds → OptionalWaits t → OptionalWaits u → ItemWaits s → ItemWaits (for_lexical_item node constant ds t u s)
+for_lexical-waits node constant ds t u s h a b k = record { functions_wait = λ c. tt; term_waits = λ c. (λ q. refl, tt, ((declarators-wait ds (within node c) h, tt), parts-wait t u s (within node c) a b k)) }
+
+pub for_of-waits : (node : ℕ) (constant : Bool) (n : List ℕ) (e : Made) (s : Item) → MadeWaits e → ItemWaits s → ItemWaits (for_of_item node constant n e s)
+for_of-waits node constant n e s h k = record { functions_wait = λ c. tt; term_waits = λ c. (λ q. refl, tt, (h (unnamed (within node c)), (k.term_waits (within node c), tt))) }
+
+pub return-waits : (node : ℕ) (e : Option Made) → OptionalWaits e → ItemWaits (return_item node e)
+return-waits node e h = entered-waits node (λ c. part return_ (optional_terms e c) end) (λ c. (optional_terms-wait e c h, tt))
+
+abbrev pub HandlerWaits : Option CatchMade → Type 0
+HandlerWaits None = Unit {0}
+HandlerWaits (Some h) = ItemsWait h.body
+
+abbrev pub FinalizerWaits : Option Items → Type 0
+FinalizerWaits None = Unit {0}
+FinalizerWaits (Some b) = ItemsWait b
+
+-- a block is no value, so a `try` around one waits
+caught-waits : (h : Option CatchMade) (b : Items) (c : Context) → HandlerWaits h → ItemsWait b → Tight (caught h (block_term b c) c)
+caught-waits None b c k i = block-waits b c i
+caught-waits (Some h) b c k i = (λ q. absurd cc, (block-waits b c i, tt), (block-waits h.body c k, tt))
+
+finally-waits : (f : Option Items) (t : Term) (c : Context) → FinalizerWaits f → Tight t → Loose (finally_term f t c)
+finally-waits None t c k i = made-loosened t i
+finally-waits (Some f) t c k i = ((i, tt), (block-waits f c k, tt))
+
+pub try-waits : (node : ℕ) (b : Items) (h : Option CatchMade) (f : Option Items) → ItemsWait b → HandlerWaits h → FinalizerWaits f → ItemWaits (try_item node b h f)
+try-waits node b h f i j k = entered-waits node (λ c. finally_term f (caught h (block_term b c) c) c) (λ c. finally-waits f (caught h (block_term b c) c) c k (caught-waits h b c j i))
+
+pub function_item-waits : (node : ℕ) (n : List ℕ) (ps : List (List ℕ)) (b : Items) → ItemsWait b → ItemWaits (function_item node n ps b)
+function_item-waits node n ps b h = record { functions_wait = λ c. ((λ q. refl, tt, body-waits b c h), tt); term_waits = λ c. tt }
+
+-- ---- object literals
+
+abbrev pub KeyWaits : PropertyKey → Type 0
+KeyWaits (fixed_key k) = Unit {0}
+KeyWaits (computed_key e) = MadeWaits e
+
+abbrev pub PropertyWaits : PropertyMade → Type 0
+PropertyWaits (value_property k e) = KeyWaits k × MadeWaits e
+PropertyWaits (method_property node k ps b) = KeyWaits k × ItemsWait b
+
+abbrev pub PropertiesWait : List PropertyMade → Type 0
+PropertiesWait [] = Unit {0}
+PropertiesWait (m ∷ ms) = PropertyWaits m × PropertiesWait ms
+
+abbrev PartsTight : Parts → Type 0
+PartsTight p = Tights p.now × Tights p.later
+
+property-waits : (m : PropertyMade) (c : Context) (p : Parts) → PropertyWaits m → PartsTight p → PartsTight (property_parts m c p)
+property-waits (value_property (fixed_key k) e) c p h q = ((h.1 (naming k c), q.0), q.1)
+property-waits (value_property (computed_key k) e) c p h q = ((h.0 (unnamed c), (h.1 (unnamed c), q.0)), q.1)
+property-waits (method_property node (fixed_key k) ps b) c p h q = (((λ e. refl, tt, body-waits b c h.1), q.0), q.1)
+property-waits (method_property node (computed_key k) ps b) c p h q = ((h.0 (unnamed c), tt), ((λ e. refl, q.0, body-waits b c h.1), q.1))
+
+properties-wait : (ms : List PropertyMade) (c : Context) → PropertiesWait ms → PartsTight (properties_parts ms c)
+properties-wait [] c h = (tt, tt)
+properties-wait (m ∷ ms) c h = property-waits m c (properties_parts ms c) h.0 (properties-wait ms c h.1)
+
+pub object-waits : (ms : List PropertyMade) (c : Context) → PropertiesWait ms → Waits all_ready (object_term ms (properties_parts ms c))
+object-waits ms c h = let q = properties-wait ms c h in (λ e. refl, q.0, q.1)
