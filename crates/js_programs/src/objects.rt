@@ -6,7 +6,8 @@ ghost use Rattle.js_semantics.specs.Makers as makers;
 ghost use Rattle.js_semantics.specs.declared.form.Form.TheVariants as forms;
 ghost use Rattle.js_semantics.specs.declared.form.Reference.TheVariants as references;
 ghost use Rattle.js_terms.specs.Views.{term_view, terms_view};
-ghost use Rattle.js_programs.specs.Sources.{parts_view, key_source, property_source, properties_source};
+ghost use Rattle.js_programs.specs.Sources.{parts_view};
+ghost use Rattle.js_semantics.specs.Sources.{key_source, property_source, properties_source};
 
 use crate::functions::with_front;
 use cdp_text::units::Units;

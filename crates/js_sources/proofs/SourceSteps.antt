@@ -11,8 +11,7 @@ use Rattle.js_terms.specs.Views.{term_view, terms_view}
 use Rattle.js_semantics.specs.Terms as semantics
 use Rattle.js_semantics.specs.Makers as makers
 use Rattle.js_semantics.specs.Makers.{Context, Made, Item, Items, CatchMade}
-use Rattle.js_semantics.specs.Sources.{expression_source}
-use Rattle.js_programs.specs.Sources.{statement_source}
+use Rattle.js_semantics.specs.Sources.{expression_source, statement_source}
 use Rattle.js_programs.proofs.LiteralLaws.{joined_end}
 
 joined_assoc : (ts us vs : semantics.Terms) → semantics.joined (semantics.joined ts us) vs ≡ semantics.joined ts (semantics.joined us vs)

@@ -4,10 +4,10 @@ ghost use Rattle.std.specs.Prelude.{◌≡◌, IfOk};
 ghost use Rattle.std.specs.Option.{option_map};
 ghost use Rattle.js_semantics.specs.Terms as semantics;
 ghost use Rattle.js_semantics.specs.Makers as makers;
-ghost use Rattle.js_semantics.specs.Sources.{statements_source};
+ghost use Rattle.js_semantics.specs.Sources.{statements_source, block_source, catch_source};
 ghost use Rattle.js_semantics.specs.declared.form.Form.TheVariants as forms;
 ghost use Rattle.js_terms.specs.Views.{term_view, terms_view};
-ghost use Rattle.js_programs.specs.Sources.{context_of, block_source, catch_source};
+ghost use Rattle.js_programs.specs.Sources.{context_of};
 
 use crate::functions::body_parts;
 use crate::statements::{functions_terms, statements_terms};

@@ -4,10 +4,10 @@ ghost use Rattle.std.specs.Prelude.{◌≡◌, IfOk, map};
 ghost use Rattle.std.specs.Option.{option_map};
 ghost use Rattle.js_semantics.specs.Terms as semantics;
 ghost use Rattle.js_semantics.specs.Makers as makers;
-ghost use Rattle.js_semantics.specs.Sources.{expression_source};
+ghost use Rattle.js_semantics.specs.Sources.{expression_source, declarator_source, declarators_source};
 ghost use Rattle.js_semantics.specs.declared.form.Form.TheVariants as forms;
 ghost use Rattle.js_terms.specs.Views.{term_view, terms_view};
-ghost use Rattle.js_programs.specs.Sources.{context_of, declarator_term, initialized, declarator_source, declarators_source};
+ghost use Rattle.js_programs.specs.Sources.{context_of, declarator_term, initialized};
 
 use crate::expressions::expression_term;
 use cdp_text::units::Units;

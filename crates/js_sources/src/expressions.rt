@@ -3,11 +3,11 @@
 ghost use Rattle.std.specs.Prelude.{◌≡◌, IfOk, map};
 ghost use Rattle.js_semantics.specs.Terms as semantics;
 ghost use Rattle.js_semantics.specs.Makers as makers;
-ghost use Rattle.js_semantics.specs.Sources.{expression_source};
+ghost use Rattle.js_semantics.specs.Sources.{expression_source, expressions_source};
 ghost use Rattle.js_semantics.specs.declared.form.Form.TheVariants as forms;
 ghost use Rattle.js_semantics.specs.declared.form.Reference.TheVariants as references;
 ghost use Rattle.js_terms.specs.Views.{term_view, terms_view};
-ghost use Rattle.js_programs.specs.Sources.{context_of, expressions_source};
+ghost use Rattle.js_programs.specs.Sources.{context_of};
 
 use crate::functions::{arrow_term, block_arrow_term, body_terms, function_term, returned_terms};
 use crate::objects::object_term;

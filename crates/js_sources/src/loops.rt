@@ -7,7 +7,7 @@ ghost use Rattle.js_semantics.specs.Makers as makers;
 ghost use Rattle.js_semantics.specs.declared.form.Form.TheVariants as forms;
 ghost use Rattle.js_semantics.specs.declared.form.Stage.TheVariants as stages;
 ghost use Rattle.js_terms.specs.Views.{term_view, terms_view};
-ghost use Rattle.js_programs.specs.Sources.{declarators_source};
+ghost use Rattle.js_semantics.specs.Sources.{declarators_source};
 
 use cdp_text::units::Units;
 use js_heap::value::Value;

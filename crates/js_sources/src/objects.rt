@@ -3,10 +3,10 @@
 ghost use Rattle.std.specs.Prelude.{◌≡◌, [], false, IfOk, map};
 ghost use Rattle.js_semantics.specs.Terms as semantics;
 ghost use Rattle.js_semantics.specs.Makers as makers;
-ghost use Rattle.js_semantics.specs.Sources.{expression_source, statements_source};
+ghost use Rattle.js_semantics.specs.Sources.{expression_source, statements_source, property_source, properties_source};
 ghost use Rattle.js_semantics.specs.declared.form.Form.TheVariants as forms;
 ghost use Rattle.js_terms.specs.Views.{term_view, terms_view};
-ghost use Rattle.js_programs.specs.Sources.{context_of, parts_view, property_source, properties_source};
+ghost use Rattle.js_programs.specs.Sources.{context_of, parts_view};
 
 use crate::expressions::{expression_term, part_term};
 use crate::functions::{body_terms, function_part};

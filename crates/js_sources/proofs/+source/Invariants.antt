@@ -1,9 +1,9 @@
 use Rattle.std.proofs.Common.{◌≡◌, ◌-◌, length, take, drop, map}
 use Rattle.js_semantics.specs.Terms as semantics
 use Rattle.js_semantics.specs.Makers as makers
-use Rattle.js_semantics.specs.Sources.{expression_source}
+use Rattle.js_semantics.specs.Sources.{expression_source, property_source, statement_source, declarator_source}
 use Rattle.js_terms.specs.Views.{term_view, terms_view}
-use Rattle.js_programs.specs.Sources.{context_of, declarator_term, parts_view, property_source, statement_source, declarator_source}
+use Rattle.js_programs.specs.Sources.{context_of, declarator_term, parts_view}
 use Rattle.js_sources.proofs.+source.Given as goal
 
 abbrev pub invariant-expressions::expression_items-loop-item : goal.invariant-expressions::expression_items-loop-item

@@ -1,6 +1,6 @@
 use Rattle.std.proofs.Common.{◌≡◌, ◌++◌, drop, map}
 use Rattle.js_semantics.specs.Makers as makers
-use Rattle.js_programs.specs.Sources.{statement_source}
+use Rattle.js_semantics.specs.Sources.{statement_source}
 use Rattle.js_programs.proofs.names.add_item_names.Given as goal
 
 abbrev pub invariant-loop-item : goal.invariant-loop-item
