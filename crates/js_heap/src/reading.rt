@@ -1,57 +1,41 @@
 //! Reading the cells of a world.
 
-ghost use Rattle.std.specs.Prelude.{◌≡◌};
+use crate::computed::{Computed, Written};
+use crate::value::{Addr, Value};
+use std::alloc::{AllocError, Global};
 
-use crate::cell::Cell;
-use crate::value::Addr;
-use std::marker::Model;
-
-/// What has the cells of a world. Contracts see the world.
+/// What has the cells of a world, however it keeps them. Contracts see the world.
 pub trait Cells {
-    ghost use Rattle.std.specs.Prelude.{◌≡◌, option_copied};
+    ghost use Rattle.std.specs.Prelude.{◌≡◌, IfOk};
     ghost use Rattle.js_heap.specs.World.{World as AnyWorld, read_cell};
+    ghost use Rattle.js_heap.specs.Values.{units_at, object_type};
+    ghost use Rattle.js_heap.specs.Properties.{cell_property, cell_change, cell_removal};
 
     ghost world: { Self → AnyWorld };
 
-    /// The cell at an address, if it is live.
-    fn read(&self, a: Addr) -> Option<&Cell>
-        ensures { option_copied result ≡ read_cell (world self.now) a };
-}
+    /// The units of the text at an address; of another cell none.
+    fn units_at(&self, a: Addr) -> &[u16]
+        ensures { result.now ≡ units_at (world self.now) a };
 
-/// A program's cells in the memory of a vector.
-#[derive(Drop)]
-pub struct CellList {
-    items: Vec<Cell>,
-}
+    /// What `typeof` says of the object at an address (ECMA-262, 13.5.3).
+    fn object_type(&self, a: Addr) -> &'static [u8]
+        ensures { result.now ≡ object_type (read_cell (world self.now) a) };
 
-impl Model for CellList {
-    ghost use Rattle.std.specs.Prelude.{List};
-    ghost use Rattle.js_heap.specs.declared.cell.Cell.{Cell as AnyCell};
+    /// What reading a property of the object at an address gives (10.1.8).
+    fn property(&self, alloc: Global, a: Addr, key: &[u16]) -> Result<Computed, AllocError>
+        ensures { IfOk result (λ r. r ≡ cell_property (read_cell (world self.now) a) key.now) };
 
-    ghost Value = { List AnyCell };
+    /// What writing a property of the object at an address changes (10.1.9).
+    fn change(
+        &self,
+        alloc: Global,
+        a: Addr,
+        key: &[u16],
+        value: Value,
+    ) -> Result<Written, AllocError>
+        ensures { IfOk result (λ r. r ≡ cell_change a (read_cell (world self.now) a) key.now value) };
 
-    ghost view = { λ cells. cells.items.items };
-}
-
-impl CellList {
-    /// The cells in the memory of the vector.
-    pub fn from_vec(items: Vec<Cell>) -> CellList
-        ensures { result ≡ items.items }
-    {
-        CellList { items }
-    }
-}
-
-impl Cells for CellList {
-    ghost use Rattle.std.specs.Prelude.{[], None};
-    ghost use Rattle.js_heap.specs.World.{base_room};
-
-    ghost world = { λ cells. record { base = cells; scratch = []; start = None; room = base_room } };
-
-    fn read(&self, a: Addr) -> Option<&Cell> {
-        match a {
-            Addr::Base(i) => self.items.get(i as usize),
-            Addr::Scratch(_) => None,
-        }
-    }
+    /// What deleting a property of the object at an address changes (10.1.10).
+    fn removal(&self, alloc: Global, a: Addr, key: &[u16]) -> Result<Written, AllocError>
+        ensures { IfOk result (λ r. r ≡ cell_removal a (read_cell (world self.now) a) key.now) };
 }

@@ -18,7 +18,6 @@ use crate::statements::with_functions;
 use cdp_text::units::Units;
 use js_heap::built_in::{BuiltIn, Code, ErrorClass};
 use js_heap::cell::{Cell, ScopeKind};
-use js_heap::reading::Cells;
 use js_heap::value::{Addr, Value};
 use js_semantics::form::{Form, Mark, Source};
 use js_state::built_ins::Called;

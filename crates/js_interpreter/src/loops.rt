@@ -12,7 +12,6 @@ use crate::moved::{Moved, cut_first, given, went};
 use crate::statements::only;
 use js_heap::built_in::ErrorClass;
 use js_heap::cell::{Binding, Cell, Names, ScopeKind};
-use js_heap::reading::Cells;
 use js_heap::value::{Addr, Value};
 use js_semantics::form::{Form, Mark, Stage};
 use js_state::state::State;

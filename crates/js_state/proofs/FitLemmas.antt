@@ -10,11 +10,8 @@ use Rattle.js_heap.specs.declared.change.Change.{Change}
 use Rattle.js_heap.specs.declared.change.Counted.TheVariants as counted
 use Rattle.js_heap.specs.World.{World, Tried, fine, full, written, written_at, write_cell, replaced, room_after}
 use Rattle.js_heap.specs.Cells.{weight, changed}
-use Rattle.js_state.specs.Fits.{changeable, held, Fit, AllShort, plain_world, change_of, IsChangedAt}
+use Rattle.js_state.specs.Fits.{changeable, held, Fit, plain_world, change_of, IsChangedAt}
 use Rattle.js_state.specs.Texts.{elements_of_cell, elements_at}
-use Rattle.js_values.specs.Safe.{IsShort, IsSmall, IsShortValue, IsSmallValue}
-use Rattle.js_heap.specs.declared.value.Value.{Value}
-use Rattle.js_heap.specs.declared.value.Value.TheVariants as values
 
 pub held-behind : (cs : List Cell) (c : Cell) → held (cs ++ c ∷ []) ≡ held cs + changeable c
 held-behind [] c = omega arith
@@ -34,34 +31,11 @@ held-set [] i c new h = cc
 held-set (d ∷ cs) zero c new h = let e : d ≡ c = cc in rw (← e) (omega arith)
 held-set (d ∷ cs) (suc i) c new h = omega (arith, held-set cs i c new h)
 
--- ---- short texts
-
-pub short-behind : (cs : List Cell) (c : Cell) → AllShort cs → IsShort (Some c) → AllShort (cs ++ c ∷ [])
-short-behind [] c s h = (h, tt)
-short-behind (d ∷ cs) c s h = (s.0, short-behind cs c s.1 h)
-
-pub short-set : (cs : List Cell) (i : ℕ) (c : Cell) → AllShort cs → IsShort (Some c) → AllShort (slice_set cs i c)
-short-set [] i c s h = s
-short-set (d ∷ cs) zero c s h = (h, s.1)
-short-set (d ∷ cs) (suc i) c s h = (s.0, short-set cs i c s.1 h)
-
-pub short-at : (cs : List Cell) (i : ℕ) → AllShort cs → IsShort (slice_get cs i)
-short-at [] i s = tt
-short-at (d ∷ cs) zero s = s.0
-short-at (d ∷ cs) (suc i) s = short-at cs i s.1
-
--- a cell that counts little is short
-pub light-short : (c : Cell) → weight c < 2 ^ 32 → IsShort (Some c)
-light-short (cells.Array vs) h = omega arith
-light-short (cells.Text us) h = omega arith
-light-short _ h = tt
-
 -- a new cell fits
 pub made-fit : (cs : List Cell) (n u m : ℕ) (c : Cell) → Fit cs n u → m ≡ weight c → (n ≡ 0 → ⊥) → m ≤ u → Fit (cs ++ c ∷ []) (n - 1) (u - m)
 made-fit cs n u m c f e h k = record {
   places = omega (arith, length-append cs (c ∷ []), f.places);
   units = omega (arith, held-behind cs c, changeable-light c, f.units);
-  short = short-behind cs c f.short (light-short c (omega (arith, f.units)));
 }
 
 -- ---- writing
@@ -108,14 +82,13 @@ pub written-fit : (cs : List Cell) (n u i : ℕ) (c : Change) (old new : Cell) �
 written-fit cs n u i c old new f e g h = record {
   places = omega (arith, length-set cs i new, f.places);
   units = omega (arith, held-set cs i old new e, counts-old old new c g, changeable-light new, held-at cs i old e, f.units);
-  short = short-set cs i new f.short (light-short new (omega (arith, counts-old old new c g, held-at cs i old e, f.units)));
 }
 
 -- where memory is wanting, no cell is left
 pub lost-fit : (cs bs : List Cell) (n u : ℕ) → bs ≡ [] → Fit cs n u → Fit bs n u
 lost-fit cs bs n u e f =
     let P : List Cell → Type 0 = λ xs. Fit xs n u in
-    subst P (sym e) (record { places = omega (arith, f.places); units = omega (arith, f.units); short = tt })
+    subst P (sym e) (record { places = omega (arith, f.places); units = omega (arith, f.units) })
 
 -- ---- the cell at a place, with a change of its kind
 
@@ -183,17 +156,12 @@ writes-fine cs bs n u s a at cell c before after from p e f w b g h k i =
     let S : ℕ → Type 0 = λ x. write_cell (plain_world cs n u) (Base at) c ≡ fine tt (plain_world (slice_set cs at w.new) n x) in
     subst P p (subst Q (sym e) (subst R (sym (cells_are cs bs at cell c w i)) (subst S d (fine-written cs n u at c cell w.new w.is w.becomes (omega arith)))))
 
--- ---- short texts and small arrays
+-- ---- small arrays
 
-short_value : (cs : List Cell) (n u : ℕ) (v : Value) → AllShort cs → IsShortValue (plain_world cs n u) v
-short_value cs n u (values.Text (Base i)) s = short-at cs i s
-short_value cs n u (values.Text (Scratch i)) s = tt
-short_value cs n u (values.Object (Base i)) s = short-at cs i s
-short_value cs n u (values.Object (Scratch i)) s = tt
-short_value cs n u _ s = tt
-
-pub short-value : (cs : List Cell) (n u : ℕ) (w : World) (v : Value) → plain_world cs n u ≡ w → Fit cs n u → IsShortValue w v
-short-value cs n u w v e f = let P : World → Type 0 = λ x. IsShortValue x v in subst P e (short_value cs n u v f.short)
+-- an array whose length is an index too
+abbrev IsSmall : Option Cell → Type 0
+IsSmall (Some (cells.Array vs)) = length vs < 2 ^ 32
+IsSmall _ = Unit {0}
 
 small_cell : (c : Cell) (m : ℕ) → changeable c + m ≤ 2 ^ 27 → IsSmall (Some c)
 small_cell (cells.Array vs) m h = omega arith
@@ -203,14 +171,6 @@ small-at : (cs : List Cell) (i : ℕ) → held cs ≤ 2 ^ 27 → IsSmall (slice_
 small-at [] i h = tt
 small-at (c ∷ cs) zero h = small_cell c (held cs) h
 small-at (c ∷ cs) (suc i) h = small-at cs i (omega arith)
-
-small_value : (cs : List Cell) (n u : ℕ) (v : Value) → held cs ≤ 2 ^ 27 → IsSmallValue (plain_world cs n u) v
-small_value cs n u (values.Object (Base i)) h = small-at cs i h
-small_value cs n u (values.Object (Scratch i)) h = tt
-small_value cs n u _ h = tt
-
-pub small-value : (cs : List Cell) (n u : ℕ) (w : World) (v : Value) → plain_world cs n u ≡ w → Fit cs n u → IsSmallValue w v
-small-value cs n u w v e f = let P : World → Type 0 = λ x. IsSmallValue x v in subst P e (small_value cs n u v (omega (arith, f.units)))
 
 small_elements : (o : Option Cell) → IsSmall o → length (elements_of_cell o) < 2 ^ 32
 small_elements None h = omega arith

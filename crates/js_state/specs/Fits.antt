@@ -4,7 +4,6 @@ use Rattle.js_heap.specs.declared.cell.Cell.{Cell}
 use Rattle.js_heap.specs.declared.cell.Cell.TheVariants as cells
 use Rattle.js_heap.specs.Cells.{weight, changed, with_element, declared, bound}
 use Rattle.js_heap.specs.World.{World}
-use Rattle.js_values.specs.Safe.{IsShort}
 use Rattle.js_heap.specs.declared.value.Value.{Value}
 use Rattle.js_heap.specs.declared.value.Addr.{Addr}
 use Rattle.js_heap.specs.declared.value.Addr.TheVariants.{Base, Scratch}
@@ -23,16 +22,10 @@ abbrev pub held : List Cell → ℕ
 held [] = 0
 held (c ∷ cs) = changeable c + held cs
 
--- each text's length is one of a vector
-abbrev pub AllShort : List Cell → Type 0
-AllShort [] = Unit {0}
-AllShort (c ∷ cs) = IsShort (Some c) × AllShort cs
-
 -- what holds of the cells and of what is left of the room: places and lengths are numbers of 32 bits
 pub record Fit (cs : List Cell) (cells_left units_left : ℕ) : Type 0 where
   pub places : length cs + cells_left < 2 ^ 32
   pub units : held cs + units_left ≤ 2 ^ 27
-  pub short : AllShort cs
 
 -- the world of these cells, outside evaluations
 abbrev pub plain_world : List Cell → ℕ → ℕ → World

@@ -23,7 +23,6 @@ use js_heap::value::{Addr, Value};
 use js_values::operators::text_of;
 use js_values::results::{not_a_text, not_safe};
 use js_values::text::ascii;
-use js_values::values::units_at;
 use std::alloc::{AllocError, Global};
 
 /// What a call of a built-in function comes to: a value, or the arguments are printed.
@@ -212,7 +211,7 @@ impl State {
     {
         let separator = match separator {
             Value::Undefined => ascii(alloc, b",")?,
-            Value::Text(b) => Units::from_slice(alloc, units_at(self.world(), b))?,
+            Value::Text(b) => Units::from_slice(alloc, self.world().units_at(b))?,
             _ => return Err(self.wrong_type(alloc)),
         };
         let parts = joined_parts(alloc, self.world(), elements_at(self.world(), a))?;
@@ -283,8 +282,8 @@ impl State {
     {
         match of {
             Value::Text(b) => {
-                let text = units_at(self.world(), a);
-                let index = first_occurrence(text, units_at(self.world(), b));
+                let text = self.world().units_at(a);
+                let index = first_occurrence(text, self.world().units_at(b));
                 Ok(Value::Number(index))
             }
             _ => Err(self.wrong_type(alloc)),
@@ -296,7 +295,7 @@ impl State {
     fn string_slice(&mut self, alloc: Global, a: Addr, arguments: &[Value]) -> Result<Value, Stop>
         ensures { Gives (text_or_wrong (slice_places (units_at self.old.world a) arguments.now)) self.old result self.new }
     {
-        let units = units_at(self.world(), a);
+        let units = self.world().units_at(a);
         let Some((from, to)) = slice_places(units.len(), arguments) else {
             return Err(self.wrong_type(alloc));
         };
@@ -322,7 +321,7 @@ impl State {
     {
         match index {
             Value::Number(i) => {
-                let unit = unit_of(units_at(self.world(), a), i);
+                let unit = unit_of(self.world().units_at(a), i);
                 self.unit_or_fail(alloc, unit)
             }
             _ => Err(self.wrong_type(alloc)),

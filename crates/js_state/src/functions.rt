@@ -13,7 +13,6 @@ use crate::stop::Stop;
 use cdp_text::units::Units;
 use js_heap::cell::{Binding, Cell, Names, ScopeKind};
 use js_heap::change::Change;
-use js_heap::reading::Cells;
 use js_heap::value::{Addr, Value};
 use js_semantics::form::FunctionForm;
 use std::alloc::{AllocError, Global};

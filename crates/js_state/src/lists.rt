@@ -4,9 +4,9 @@ ghost use Rattle.std.specs.Prelude.{◌≡◌, ◌≤◌, ◌-◌, IfOk, IfSome,
 ghost use Rattle.js_semantics.specs.BuiltIns.{argument, last_of, keys_of_cell, enumerable_keys, indices_from, is_array_cell, is_array, first_same, joined_part, joined_parts, place, begins_with, first_occurrence};
 ghost use Rattle.js_state.specs.Texts.{elements_at, both_places, unit_of};
 
+use crate::world::PlainWorld;
 use cdp_text::units::Units;
 use js_heap::cell::{Cell, Property};
-use js_heap::reading::Cells;
 use js_heap::value::{Addr, Value};
 use js_values::operators::text_of;
 use js_values::text::ascii;
@@ -116,31 +116,31 @@ fn is_array_cell(cell: Option<&Cell>) -> bool
 }
 
 /// Whether a value is an array (23.1.2.2).
-pub fn is_array<C: Cells>(cells: &C, value: Value) -> bool
-    ensures { result ≡ is_array (C.world cells.now) value }
+pub fn is_array(world: &PlainWorld, value: Value) -> bool
+    ensures { result ≡ is_array world.now value }
 {
     match value {
-        Value::Object(a) => is_array_cell(cells.read(a)),
+        Value::Object(a) => is_array_cell(world.read(a)),
         _ => false,
     }
 }
 
 /// The elements of the array at an address; of another cell none.
-pub fn elements_at<C: Cells>(cells: &C, a: Addr) -> &[Value]
-    ensures { result.now ≡ elements_at (C.world cells.now) a }
+pub fn elements_at(world: &PlainWorld, a: Addr) -> &[Value]
+    ensures { result.now ≡ elements_at world.now a }
 {
-    match cells.read(a) {
+    match world.read(a) {
         Some(Cell::Array { elements }) => elements.slice(),
         _ => &[],
     }
 }
 
 /// The index of the first element that is the same as a value, or -1 (23.1.3.17).
-pub fn first_same<C: Cells>(cells: &C, elements: &[Value], value: Value) -> i64
-    ensures { result ≡ first_same (C.world cells.now) 0 elements.now value }
+pub fn first_same(world: &PlainWorld, elements: &[Value], value: Value) -> i64
+    ensures { result ≡ first_same world.now 0 elements.now value }
 {
     for i in 0..elements.len() {
-        if is_same(cells, elements[i], value) {
+        if is_same(world, elements[i], value) {
             return i as i64;
         }
     }
@@ -148,31 +148,27 @@ pub fn first_same<C: Cells>(cells: &C, elements: &[Value], value: Value) -> i64
 }
 
 // a part of a join (23.1.3.18)
-fn joined_part<C: Cells>(
-    alloc: Global,
-    cells: &C,
-    value: Value,
-) -> Result<Option<Units>, AllocError>
-    ensures { IfOk result (λ text. text ≡ joined_part (C.world cells.now) value) }
+fn joined_part(alloc: Global, world: &PlainWorld, value: Value) -> Result<Option<Units>, AllocError>
+    ensures { IfOk result (λ text. text ≡ joined_part world.now value) }
 {
     match value {
         Value::Undefined | Value::Null => Ok(Some(Units::from_vec(Vec::new(alloc)))),
-        _ => text_of(alloc, cells, value),
+        _ => text_of(alloc, world, value),
     }
 }
 
 /// The texts of elements that are joined; none where one is an object (23.1.3.18).
 #[tactic(auto, using(crate::proofs::ListLemmas::part_rules))]
-pub fn joined_parts<C: Cells>(
+pub fn joined_parts(
     alloc: Global,
-    cells: &C,
+    world: &PlainWorld,
     elements: &[Value],
 ) -> Result<Option<Texts>, AllocError>
-    ensures { IfOk result (λ texts. texts ≡ joined_parts (C.world cells.now) elements.now) }
+    ensures { IfOk result (λ texts. texts ≡ joined_parts world.now elements.now) }
 {
     let mut texts = Vec::new(alloc);
     for element in elements {
-        let Some(text) = joined_part(alloc, cells, *element)? else {
+        let Some(text) = joined_part(alloc, world, *element)? else {
             return Ok(None);
         };
         texts.push(text)?;

@@ -5,13 +5,13 @@ ghost use Rattle.js_heap.specs.declared.value.Addr.{Addr as AnyAddr};
 ghost use Rattle.js_semantics.specs.References.{Found, found_in, found_outward, found_within};
 ghost use Rattle.js_state.specs.Names.{found_name, looked_on, value_of_name, written_name};
 
+use crate::world::PlainWorld;
 use cdp_text::units::Units;
 use js_heap::built_in::ErrorClass;
 use js_heap::cell::Cell;
 use js_heap::change::Change;
 use js_heap::computed::{Computed, Written};
 use js_heap::properties::binding_of;
-use js_heap::reading::Cells;
 use js_heap::value::{Addr, Value};
 use js_values::text::{ascii, quoted};
 use std::alloc::{AllocError, Global};
@@ -60,17 +60,17 @@ fn look(cell: Option<&Cell>, at: Addr, name: &[u16]) -> Looked
 
 /// The scope that has a name, from one outward through so many scopes (ECMA-262, 9.1.2.1).
 #[tactic(auto, using(crate::proofs::NameLemmas::name_rules))]
-pub fn found_within<C: Cells>(
-    cells: &C,
+pub fn found_within(
+    world: &PlainWorld,
     count: usize,
     scope: Addr,
     name: &[u16],
 ) -> Option<FoundName>
-    ensures { result ≡ found_name (found_within count (C.world cells.now) name.now scope) }
+    ensures { result ≡ found_name (found_within count world.now name.now scope) }
 {
     let mut at = scope;
     for _i in 0..count {
-        match look(cells.read(at), at, name) {
+        match look(world.read(at), at, name) {
             Looked::Here(found) => return Some(found),
             Looked::Outward(a) => at = a,
             Looked::Nowhere => return None,

@@ -3,6 +3,7 @@
 ghost use Rattle.std.specs.Prelude.{◌≡◌, ◌++◌, IfOk, option_copied, map, codes};
 ghost use Rattle.js_heap.specs.Values.{shown, cell_text, error_text, with_message, message_units, between};
 
+use crate::world::PlainWorld;
 use cdp_text::units::Units;
 use js_heap::built_in::ErrorClass;
 use js_heap::cell::{Cell, Property};
@@ -11,7 +12,7 @@ use js_heap::reading::Cells;
 use js_heap::value::Value;
 use js_values::operators::{bool_text, number_text};
 use js_values::text::{ascii, joined};
-use js_values::values::{class_text, units_at};
+use js_values::values::class_text;
 use std::alloc::{AllocError, Global};
 
 fn with_message(alloc: Global, class: &[u8], message: &[u16]) -> Result<Units, AllocError>
@@ -26,35 +27,35 @@ fn with_message(alloc: Global, class: &[u8], message: &[u16]) -> Result<Units, A
     joined(alloc, opened.as_slice(), message)
 }
 
-fn message_units<C: Cells>(cells: &C, value: Value) -> &[u16]
-    ensures { result.now ≡ message_units (C.world cells.now) value }
+fn message_units(world: &PlainWorld, value: Value) -> &[u16]
+    ensures { result.now ≡ message_units world.now value }
 {
     match value {
-        Value::Text(a) => units_at(cells, a),
+        Value::Text(a) => world.units_at(a),
         _ => &[],
     }
 }
 
-fn error_text<C: Cells>(
+fn error_text(
     alloc: Global,
-    cells: &C,
+    world: &PlainWorld,
     class: ErrorClass,
     message: Option<&Property>,
 ) -> Result<Units, AllocError>
-    ensures { IfOk result (λ units. units ≡ error_text (C.world cells.now) class (option_copied message.entry)) }
+    ensures { IfOk result (λ units. units ≡ error_text world.now class (option_copied message.entry)) }
 {
     match message {
         None => ascii(alloc, class_text(class)),
         Some(property) => with_message(
             alloc,
             class_text(class),
-            message_units(cells, property.value),
+            message_units(world, property.value),
         ),
     }
 }
 
-fn cell_text<C: Cells>(alloc: Global, cells: &C, cell: Option<&Cell>) -> Result<Units, AllocError>
-    ensures { IfOk result (λ units. units ≡ cell_text (C.world cells.now) (option_copied cell.entry)) }
+fn cell_text(alloc: Global, world: &PlainWorld, cell: Option<&Cell>) -> Result<Units, AllocError>
+    ensures { IfOk result (λ units. units ≡ cell_text world.now (option_copied cell.entry)) }
 {
     match cell {
         Some(Cell::Array { .. }) => ascii(alloc, b"[object Array]"),
@@ -65,37 +66,37 @@ fn cell_text<C: Cells>(alloc: Global, cells: &C, cell: Option<&Cell>) -> Result<
         Some(Cell::Error { class, properties }) => {
             let key = ascii(alloc, b"message")?;
             let message = property_at(properties.slice(), key.as_slice());
-            error_text(alloc, cells, *class, message)
+            error_text(alloc, world, *class, message)
         }
         _ => ascii(alloc, b"[object Object]"),
     }
 }
 
 /// A value as `console.log` shows it.
-pub fn shown<C: Cells>(alloc: Global, cells: &C, value: Value) -> Result<Units, AllocError>
-    ensures { IfOk result (λ units. units ≡ shown (C.world cells.now) value) }
+pub fn shown(alloc: Global, world: &PlainWorld, value: Value) -> Result<Units, AllocError>
+    ensures { IfOk result (λ units. units ≡ shown world.now value) }
 {
     match value {
         Value::Undefined => ascii(alloc, b"undefined"),
         Value::Null => ascii(alloc, b"null"),
         Value::Bool(b) => ascii(alloc, bool_text(b)),
         Value::Number(z) => number_text(alloc, z),
-        Value::Text(a) => Units::from_slice(alloc, units_at(cells, a)),
-        Value::Object(a) => cell_text(alloc, cells, cells.read(a)),
+        Value::Text(a) => Units::from_slice(alloc, world.units_at(a)),
+        Value::Object(a) => cell_text(alloc, world, world.read(a)),
     }
 }
 
 /// Values as they are shown.
-pub fn all_shown<C: Cells>(
+pub fn all_shown(
     alloc: Global,
-    cells: &C,
+    world: &PlainWorld,
     values: &[Value],
 ) -> Result<Vec<Units>, AllocError>
-    ensures { IfOk result (λ texts. texts.items ≡ map (shown (C.world cells.now)) values.now) }
+    ensures { IfOk result (λ texts. texts.items ≡ map (shown world.now) values.now) }
 {
     let mut texts = Vec::new(alloc);
     for value in values {
-        texts.push(shown(alloc, cells, *value)?)?;
+        texts.push(shown(alloc, world, *value)?)?;
     }
     Ok(texts)
 }

@@ -2,8 +2,6 @@
 
 ghost use Rattle.std.specs.Prelude.{◌≡◌, ◌++◌, ◌∷◌, [], true, IfOk, OnOk, Some, take, drop, slice_get};
 ghost use Rattle.js_heap.specs.BuiltIns.{built_in_cells, literal_cells};
-ghost use Rattle.js_values.specs.Safe.{IsShort};
-ghost use Rattle.js_state.specs.Fits.{AllShort};
 ghost use Rattle.js_state.specs.Start.{holder, function_of, text_cell};
 
 use crate::state::with_message;
@@ -227,8 +225,7 @@ pub fn built_in_cells(alloc: Global) -> Result<Vec<Cell>, AllocError>
 }
 
 fn literal(alloc: Global, units: &[u16]) -> Result<Cell, AllocError>
-    ensures cell { IfOk result (λ cell. cell ≡ text_cell units.now) }
-    ensures short { IfOk result (λ cell. IsShort (Some cell)) }
+    ensures { IfOk result (λ cell. cell ≡ text_cell units.now) }
 {
     let units = Units::from_slice(alloc, units)?;
     Ok(Cell::Text { units })
@@ -240,8 +237,7 @@ pub fn add_literals(
     cells: &mut Vec<Cell>,
     literals: &[Units],
 ) -> Result<(), AllocError>
-    ensures cells { OnOk result (cells.new.items ≡ cells.old.items ++ literal_cells literals.now) }
-    ensures short { OnOk result (AllShort cells.old.items → AllShort cells.new.items) }
+    ensures { OnOk result (cells.new.items ≡ cells.old.items ++ literal_cells literals.now) }
 {
     for i in 0..literals.len() {
         cells.push(literal(alloc, literals[i].as_slice())?)?;

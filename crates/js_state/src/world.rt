@@ -1,8 +1,8 @@
 //! The cells of a plain run.
 
-ghost use Rattle.std.specs.Prelude.{◌≡◌, ◌<◌, ◌^◌, IfOk, OnOk, OnErr, IfSome, MatchOption, None, is_some, [], length, slice_get, slice_set};
+ghost use Rattle.std.specs.Prelude.{◌≡◌, ◌<◌, ◌^◌, IfOk, OnOk, OnErr, IfSome, MatchOption, None, is_some, [], length, slice_get, slice_set, option_copied};
 ghost use Rattle.js_heap.specs.BuiltIns.{first_world};
-ghost use Rattle.js_heap.specs.World.{make_cell, write_cell};
+ghost use Rattle.js_heap.specs.World.{make_cell, write_cell, read_cell};
 ghost use Rattle.js_heap.specs.declared.value.Addr.TheVariants.{Base as base};
 ghost use Rattle.js_state.specs.Fits.{change_of, IsUnchanged, IsChangedAt};
 ghost use Rattle.js_heap.specs.Properties.{property_of, property_written};
@@ -22,7 +22,8 @@ use js_heap::change::{Change, Counted};
 use js_heap::computed::{Computed, Written};
 use js_heap::reading::Cells;
 use js_heap::value::{Addr, Value};
-use js_values::properties;
+use js_values::properties::{self, cell_change, cell_property, cell_removal};
+use js_values::values::{object_type, units_of_cell};
 use std::alloc::{AllocError, Global};
 use std::marker::Model;
 
@@ -103,6 +104,16 @@ impl PlainWorld {
 
     // ---- reading
 
+    /// The cell at an address, if it is live.
+    pub fn read(&self, a: Addr) -> Option<&Cell>
+        ensures { option_copied result ≡ read_cell self.now a }
+    {
+        match a {
+            Addr::Base(i) => self.cells.get(i as usize),
+            Addr::Scratch(_) => None,
+        }
+    }
+
     /// The scope outward from one that has a name (ECMA-262, 9.1.2.1).
     pub fn found(&self, scope: Addr, name: &[u16]) -> Option<FoundName>
         ensures { result ≡ found_name (found self.now scope name.now) }
@@ -122,7 +133,6 @@ impl PlainWorld {
     pub fn property_of(&self, alloc: Global, of: Value, key: &[u16]) -> Result<Computed, AllocError>
         ensures { IfOk result (λ r. r ≡ property_of self.now of key.now) }
     {
-        let _ = &self.cells;
         properties::property_of(alloc, self, of, key)
     }
 
@@ -136,7 +146,6 @@ impl PlainWorld {
     ) -> Result<Written, AllocError>
         ensures { IfOk result (λ r. r ≡ property_written self.now of key.now value) }
     {
-        let _ = &self.cells;
         properties::property_written(alloc, self, of, key, value)
     }
 }
@@ -186,10 +195,29 @@ fn change_at(cells: &mut Vec<Cell>, at: usize, change: Change) -> Result<(), All
 impl Cells for PlainWorld {
     ghost world = { λ w. w };
 
-    fn read(&self, a: Addr) -> Option<&Cell> {
-        match a {
-            Addr::Base(i) => self.cells.get(i as usize),
-            Addr::Scratch(_) => None,
-        }
+    fn units_at(&self, a: Addr) -> &[u16] {
+        units_of_cell(self.read(a))
+    }
+
+    fn object_type(&self, a: Addr) -> &'static [u8] {
+        object_type(self.read(a))
+    }
+
+    fn property(&self, alloc: Global, a: Addr, key: &[u16]) -> Result<Computed, AllocError> {
+        cell_property(alloc, self.read(a), key)
+    }
+
+    fn change(
+        &self,
+        alloc: Global,
+        a: Addr,
+        key: &[u16],
+        value: Value,
+    ) -> Result<Written, AllocError> {
+        cell_change(alloc, a, self.read(a), key, value)
+    }
+
+    fn removal(&self, alloc: Global, a: Addr, key: &[u16]) -> Result<Written, AllocError> {
+        cell_removal(alloc, a, self.read(a), key)
     }
 }

@@ -10,7 +10,7 @@ use crate::arithmetic::on_numbers;
 use crate::numbers::{to_signed, to_unsigned};
 use crate::results::{not_a_text, not_comparable, not_numbers};
 use crate::text::{ascii, joined};
-use crate::values::{is_same, is_truthy, type_text, units_at};
+use crate::values::{is_same, is_truthy, type_text};
 use cdp_text::units::Units;
 use js_heap::computed::Computed;
 use js_heap::reading::Cells;
@@ -42,7 +42,7 @@ pub fn text_of<C: Cells>(alloc: Global, cells: &C, v: Value) -> Result<Option<Un
         Value::Null => Ok(Some(ascii(alloc, b"null")?)),
         Value::Bool(b) => Ok(Some(ascii(alloc, bool_text(b))?)),
         Value::Number(z) => Ok(Some(number_text(alloc, z)?)),
-        Value::Text(a) => Ok(Some(Units::from_slice(alloc, units_at(cells, a))?)),
+        Value::Text(a) => Ok(Some(Units::from_slice(alloc, cells.units_at(a))?)),
         Value::Object(_) => Ok(None),
     }
 }
@@ -53,7 +53,7 @@ pub fn key_of<C: Cells>(alloc: Global, cells: &C, v: Value) -> Result<Option<Uni
 {
     match v {
         Value::Number(z) => Ok(Some(number_text(alloc, z)?)),
-        Value::Text(a) => Ok(Some(Units::from_slice(alloc, units_at(cells, a))?)),
+        Value::Text(a) => Ok(Some(Units::from_slice(alloc, cells.units_at(a))?)),
         _ => Ok(None),
     }
 }
@@ -136,8 +136,8 @@ pub fn is_before<C: Cells>(cells: &C, v: Value, u: Value) -> Option<bool>
     match (v, u) {
         (Value::Number(y), Value::Number(z)) => Some(y < z),
         (Value::Text(a), Value::Text(b)) => Some(units_before(
-            units_at(cells, a),
-            units_at(cells, b),
+            cells.units_at(a),
+            cells.units_at(b),
         )),
         _ => None,
     }

@@ -1,10 +1,9 @@
 //! Properties of values: reading, and the changes by writing and deleting.
 
-ghost use Rattle.std.specs.Prelude.{◌≡◌, IfOk, option_copied, ◌<◌, ◌^◌, length, codes, pos};
+ghost use Rattle.std.specs.Prelude.{◌≡◌, IfOk, option_copied, codes, pos};
 ghost use Rattle.js_heap.specs.Keys.{index_of_key};
 ghost use Rattle.js_heap.specs.declared.value.Value.TheVariants as values;
 ghost use Rattle.js_heap.specs.Values.{a_number, units_of_cell};
-ghost use Rattle.js_values.specs.Safe.{IsShort, IsShortValue, IsSmall, IsSmallValue};
 ghost use Rattle.js_heap.specs.BuiltIns.{function_value};
 ghost use Rattle.js_heap.specs.declared.computed.Computed.TheVariants.{Value as a_value};
 ghost use Rattle.js_heap.specs.Properties.{bad_key, cannot_read, cannot_set, cannot_change, not_changeable, array_method, string_method, element_or_method, unit_or_method, function_property, error_property, cell_property, property_of, element_change, length_change, array_change, cell_change, property_written, cell_removal, property_deleted, bad_length};
@@ -12,7 +11,7 @@ ghost use Rattle.js_heap.specs.declared.built_in.ErrorClass.TheVariants as class
 ghost use Rattle.js_heap.specs.declared.computed.Written.TheVariants.{Refused as refused};
 
 use crate::text::{ascii, is_ascii, quoted};
-use crate::values::{class_text, units_at};
+use crate::values::class_text;
 use cdp_text::units::Units;
 use js_heap::built_in::{BuiltIn, ErrorClass, built_in_at};
 use js_heap::cell::Cell;
@@ -108,34 +107,37 @@ fn undefined() -> Computed
     Computed::Value(Value::Undefined)
 }
 
-fn size(len: usize) -> Computed
-    requires { len < 2 ^ 63 }
-    ensures { result ≡ a_number (pos len) }
+/// A length as a number. No memory holds a list whose length 63 bits don't count.
+fn size(len: usize) -> Result<Computed, AllocError>
+    ensures { IfOk result (λ r. r ≡ a_number (pos len)) }
 {
-    Computed::Value(Value::Number(len as i64))
+    match i64::try_from(len) {
+        Ok(len) => Ok(Computed::Value(Value::Number(len))),
+        Err(_) => Err(AllocError),
+    }
 }
 
-fn element_or_method(elements: &[Value], key: &[u16]) -> Computed
-    requires { length elements.now < 2 ^ 63 }
-    ensures { result ≡ element_or_method elements.now key.now (index_of_key key.now) }
+/// A property of an array (10.4.2).
+pub fn element_or_method(elements: &[Value], key: &[u16]) -> Result<Computed, AllocError>
+    ensures { IfOk result (λ r. r ≡ element_or_method elements.now key.now (index_of_key key.now)) }
 {
     match index_of_key(key) {
         Some(i) => match elements.get(i as usize) {
-            Some(element) => Computed::Value(*element),
-            None => undefined(),
+            Some(element) => Ok(Computed::Value(*element)),
+            None => Ok(undefined()),
         },
         None => {
             if is_ascii(key, b"length") {
                 size(elements.len())
             } else {
-                array_method(key)
+                Ok(array_method(key))
             }
         }
     }
 }
 
+/// A property of a string (10.4.3).
 fn unit_or_method(alloc: Global, units: &[u16], key: &[u16]) -> Result<Computed, AllocError>
-    requires { length units.now < 2 ^ 63 }
     ensures { IfOk result (λ r. r ≡ unit_or_method units.now key.now (index_of_key key.now)) }
 {
     match index_of_key(key) {
@@ -145,7 +147,7 @@ fn unit_or_method(alloc: Global, units: &[u16], key: &[u16]) -> Result<Computed,
         },
         None => {
             if is_ascii(key, b"length") {
-                Ok(size(units.len()))
+                size(units.len())
             } else {
                 Ok(string_method(key))
             }
@@ -153,7 +155,8 @@ fn unit_or_method(alloc: Global, units: &[u16], key: &[u16]) -> Result<Computed,
     }
 }
 
-fn function_property(
+/// A property of a function (20.2.4).
+pub fn function_property(
     alloc: Global,
     name: &[u16],
     len: u32,
@@ -170,7 +173,8 @@ fn function_property(
     Ok(undefined())
 }
 
-fn error_property(alloc: Global, class: ErrorClass, key: &[u16]) -> Result<Computed, AllocError>
+/// A property of an error that isn't its own (20.5.3).
+pub fn error_property(alloc: Global, class: ErrorClass, key: &[u16]) -> Result<Computed, AllocError>
     ensures { IfOk result (λ r. r ≡ error_property class key.now) }
 {
     if is_ascii(key, b"name") {
@@ -182,8 +186,12 @@ fn error_property(alloc: Global, class: ErrorClass, key: &[u16]) -> Result<Compu
     Ok(undefined())
 }
 
-fn cell_property(alloc: Global, cell: Option<&Cell>, key: &[u16]) -> Result<Computed, AllocError>
-    requires { IsShort (option_copied cell) }
+/// What reading a property of an object with this cell gives (10.1.8).
+pub fn cell_property(
+    alloc: Global,
+    cell: Option<&Cell>,
+    key: &[u16],
+) -> Result<Computed, AllocError>
     ensures { IfOk result (λ r. r ≡ cell_property (option_copied cell.entry) key.now) }
 {
     match cell {
@@ -195,7 +203,7 @@ fn cell_property(alloc: Global, cell: Option<&Cell>, key: &[u16]) -> Result<Comp
             Some(property) => Ok(Computed::Value(property.value)),
             None => error_property(alloc, *class, key),
         },
-        Some(Cell::Array { elements }) => Ok(element_or_method(elements.slice(), key)),
+        Some(Cell::Array { elements }) => element_or_method(elements.slice(), key),
         Some(Cell::Function { name, length, .. }) => function_property(
             alloc,
             name.as_slice(),
@@ -206,16 +214,6 @@ fn cell_property(alloc: Global, cell: Option<&Cell>, key: &[u16]) -> Result<Comp
     }
 }
 
-fn text_property(alloc: Global, cell: Option<&Cell>, key: &[u16]) -> Result<Computed, AllocError>
-    requires { IsShort (option_copied cell) }
-    ensures { IfOk result (λ r. r ≡ unit_or_method (units_of_cell (option_copied cell.entry)) key.now (index_of_key key.now)) }
-{
-    match cell {
-        Some(Cell::Text { units }) => unit_or_method(alloc, units.as_slice(), key),
-        _ => unit_or_method(alloc, &[], key),
-    }
-}
-
 /// What reading a property of a value gives (ECMA-262, 13.3.2).
 pub fn property_of<C: Cells>(
     alloc: Global,
@@ -223,21 +221,21 @@ pub fn property_of<C: Cells>(
     of: Value,
     key: &[u16],
 ) -> Result<Computed, AllocError>
-    requires { IsShortValue (C.world cells.now) of }
     ensures { IfOk result (λ r. r ≡ property_of (C.world cells.now) of key.now) }
 {
     match of {
         Value::Undefined => cannot_read_undefined(alloc, key),
         Value::Null => cannot_read_null(alloc, key),
         Value::Bool(_) | Value::Number(_) => Ok(undefined()),
-        Value::Text(a) => text_property(alloc, cells.read(a), key),
-        Value::Object(a) => cell_property(alloc, cells.read(a), key),
+        Value::Text(a) => unit_or_method(alloc, cells.units_at(a), key),
+        Value::Object(a) => cells.property(alloc, a, key),
     }
 }
 
 // ---- writing and deleting
 
-fn not_changeable(alloc: Global, key: &[u16]) -> Result<Written, AllocError>
+/// The TypeError of a property that isn't changed.
+pub fn not_changeable(alloc: Global, key: &[u16]) -> Result<Written, AllocError>
     ensures { IfOk result (λ r. r ≡ not_changeable key.now) }
 {
     let message = quoted(alloc, b"Cannot change property '", key, b"'")?;
@@ -291,18 +289,21 @@ fn element_change(
     }
 }
 
+/// A length up to the present one (10.4.2.4). No memory holds an array whose length 32 bits don't count.
 fn length_change(
     alloc: Global,
     a: Addr,
     elements: &[Value],
     value: Value,
 ) -> Result<Written, AllocError>
-    requires { length elements.now < 2 ^ 32 }
     ensures { IfOk result (λ r. r ≡ length_change a elements.now value) }
 {
+    let Ok(len) = u32::try_from(elements.len()) else {
+        return Err(AllocError);
+    };
     match value {
         Value::Number(l) => {
-            if 0 <= l && l <= elements.len() as i64 {
+            if 0 <= l && l <= i64::from(len) {
                 Ok(Written::Change(a, Change::Length(l as u32)))
             } else {
                 bad_length(alloc)
@@ -312,14 +313,14 @@ fn length_change(
     }
 }
 
-fn array_change(
+/// What writing a property of an array changes (10.4.2.1).
+pub fn array_change(
     alloc: Global,
     a: Addr,
     elements: &[Value],
     key: &[u16],
     value: Value,
 ) -> Result<Written, AllocError>
-    requires { length elements.now < 2 ^ 32 }
     ensures { IfOk result (λ r. r ≡ array_change a elements.now key.now (index_of_key key.now) value) }
 {
     match index_of_key(key) {
@@ -334,14 +335,14 @@ fn array_change(
     }
 }
 
-fn cell_change(
+/// What writing a property of an object with this cell changes (10.1.9).
+pub fn cell_change(
     alloc: Global,
     a: Addr,
     cell: Option<&Cell>,
     key: &[u16],
     value: Value,
 ) -> Result<Written, AllocError>
-    requires { IsSmall (option_copied cell) }
     ensures { IfOk result (λ r. r ≡ cell_change a (option_copied cell.entry) key.now value) }
 {
     match cell {
@@ -362,18 +363,18 @@ pub fn property_written<C: Cells>(
     key: &[u16],
     value: Value,
 ) -> Result<Written, AllocError>
-    requires { IsSmallValue (C.world cells.now) of }
     ensures { IfOk result (λ r. r ≡ property_written (C.world cells.now) of key.now value) }
 {
     match of {
         Value::Undefined => cannot_set_undefined(alloc, key),
         Value::Null => cannot_set_null(alloc, key),
-        Value::Object(a) => cell_change(alloc, a, cells.read(a), key, value),
+        Value::Object(a) => cells.change(alloc, a, key, value),
         _ => not_changeable(alloc, key),
     }
 }
 
-fn cell_removal(
+/// What deleting a property of an object with this cell changes (10.1.10).
+pub fn cell_removal(
     alloc: Global,
     a: Addr,
     cell: Option<&Cell>,
@@ -402,7 +403,7 @@ pub fn property_deleted<C: Cells>(
     match of {
         Value::Undefined => cannot_set_undefined(alloc, key),
         Value::Null => cannot_set_null(alloc, key),
-        Value::Object(a) => cell_removal(alloc, a, cells.read(a), key),
+        Value::Object(a) => cells.removal(alloc, a, key),
         _ => not_changeable(alloc, key),
     }
 }

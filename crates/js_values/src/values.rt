@@ -13,11 +13,11 @@ use js_heap::reading::Cells;
 use js_heap::value::{Addr, Value};
 use std::alloc::{AllocError, Global};
 
-/// The units of the text at an address; of another cell none.
-pub fn units_at<C: Cells>(cells: &C, a: Addr) -> &[u16]
-    ensures { result.now ≡ units_at (C.world cells.now) a }
+/// The units of a text's cell; of another cell none.
+pub fn units_of_cell(cell: Option<&Cell>) -> &[u16]
+    ensures { result.now ≡ units_of_cell (option_copied cell.entry) }
 {
-    match cells.read(a) {
+    match cell {
         Some(Cell::Text { units }) => units.as_slice(),
         _ => &[],
     }
@@ -31,7 +31,7 @@ pub fn is_truthy<C: Cells>(cells: &C, v: Value) -> bool
         Value::Undefined | Value::Null => false,
         Value::Bool(b) => b,
         Value::Number(z) => z != 0,
-        Value::Text(a) => !units_at(cells, a).is_empty(),
+        Value::Text(a) => !cells.units_at(a).is_empty(),
         Value::Object(_) => true,
     }
 }
@@ -45,7 +45,7 @@ pub fn is_same<C: Cells>(cells: &C, v: Value, u: Value) -> bool
         (Value::Null, Value::Null) => true,
         (Value::Bool(a), Value::Bool(b)) => a == b,
         (Value::Number(y), Value::Number(z)) => y == z,
-        (Value::Text(a), Value::Text(b)) => same_units(units_at(cells, a), units_at(cells, b)),
+        (Value::Text(a), Value::Text(b)) => same_units(cells.units_at(a), cells.units_at(b)),
         (Value::Object(a), Value::Object(b)) => same_address(a, b),
         _ => false,
     }
@@ -62,7 +62,8 @@ pub fn same_address(a: Addr, b: Addr) -> bool
     }
 }
 
-fn object_type(cell: Option<&Cell>) -> &'static [u8]
+/// What `typeof` says of an object with this cell (13.5.3).
+pub fn object_type(cell: Option<&Cell>) -> &'static [u8]
     ensures { result.now ≡ object_type (option_copied cell.entry) }
 {
     match cell {
@@ -81,7 +82,7 @@ pub fn type_text<C: Cells>(cells: &C, v: Value) -> &'static [u8]
         Value::Bool(_) => b"boolean",
         Value::Number(_) => b"number",
         Value::Text(_) => b"string",
-        Value::Object(a) => object_type(cells.read(a)),
+        Value::Object(a) => cells.object_type(a),
     }
 }
 

@@ -1,11 +1,10 @@
 //! Operators on values.
 
 use cdp_text::units::{text_of as utf8_of, units_of};
-use js_heap::cell::{Cell, Properties};
 use js_heap::computed::Computed;
-use js_heap::reading::CellList;
 use js_heap::value::{Addr, Value};
 use js_interpreter::expressions::is_safe;
+use js_state::world::PlainWorld;
 use js_tree::operator::BinaryOperator;
 use js_values::operators::{binary_result, text_of};
 use std::alloc::{AllocError, Global};
@@ -13,27 +12,18 @@ use std::process::Abort;
 use std::test::Fail;
 
 /// The text "ab".
-const AB: Value = Value::Text(Addr::Base(0));
+const AB: Value = Value::Text(Addr::Base(24));
 
 /// The text "b".
-const B: Value = Value::Text(Addr::Base(1));
+const B: Value = Value::Text(Addr::Base(25));
 
-/// An object.
-const OBJECT: Value = Value::Object(Addr::Base(2));
+/// `console`
+const OBJECT: Value = Value::Object(Addr::Base(4));
 
-/// The cells that these name.
-fn cells(alloc: Global) -> Result<CellList, AllocError> {
-    let mut items = Vec::new(alloc);
-    items.push(Cell::Text {
-        units: units_of(alloc, "ab")?,
-    })?;
-    items.push(Cell::Text {
-        units: units_of(alloc, "b")?,
-    })?;
-    items.push(Cell::Object {
-        properties: Properties::new(alloc),
-    })?;
-    Ok(CellList::from_vec(items))
+/// A world with these.
+fn cells(alloc: Global) -> Result<PlainWorld, AllocError> {
+    let literals = [units_of(alloc, "ab")?, units_of(alloc, "b")?];
+    PlainWorld::start(alloc, &literals)
 }
 
 /// Operations, and their results.
@@ -98,7 +88,7 @@ const BINARY: [(Value, BinaryOperator, Value, &str); 12] = [
 ];
 
 /// A result as a text: a value's text, the text, or an error's message.
-fn shown(alloc: Global, cells: &CellList, computed: Computed) -> Result<String, AllocError> {
+fn shown(alloc: Global, cells: &PlainWorld, computed: Computed) -> Result<String, AllocError> {
     let units = match computed {
         Computed::Value(value) => text_of(alloc, cells, value)?,
         Computed::Text(units) => Some(units),

@@ -4,4 +4,4 @@ use Rattle.js_heap.specs.Values.{shown}
 use Rattle.js_state.proofs.shown.all_shown.Given as goal
 
 abbrev pub invariant-loop-value : goal.invariant-loop-value
-invariant-loop-value g l = l.texts.items ++ map (shown (g.C.Cells.world l.cells)) (drop l.value-index l.values) ≡ map (shown (g.C.Cells.world l.cells)) l.values
+invariant-loop-value l = l.texts.items ++ map (shown l.world) (drop l.value-index l.values) ≡ map (shown l.world) l.values

@@ -1,0 +1,40 @@
+//! Object literals.
+
+ghost use Rattle.std.specs.Prelude.{◌≡◌};
+ghost use Rattle.js_semantics.specs.Rows.{object_or_fail};
+ghost use Rattle.js_operations.specs.Flow.{Gives};
+
+use crate::cells::make;
+use crate::errors::fail_with;
+use crate::stop::Stop;
+use js_heap::built_in::ErrorClass;
+use js_heap::value::Value;
+use js_world::names::Names;
+use js_world::properties::PropertyMap;
+use js_world::stored::Stored;
+use js_world::world::World;
+use std::alloc::Global;
+
+/// Makes the object of properties; none where a computed key was no key (ECMA-262, 13.2.5).
+pub fn object_or_fail<W: World>(
+    alloc: Global,
+    world: &mut W,
+    names: &Names,
+    properties: Option<PropertyMap>,
+) -> Result<Value, Stop>
+    ensures { Gives (object_or_fail properties) (W.world names.now world.old) result (W.world names.now world.new) }
+{
+    match properties {
+        Some(properties) => {
+            let a = make(world, names, Stored::Object { properties })?;
+            Ok(Value::Object(a))
+        }
+        None => Err(fail_with(
+            alloc,
+            world,
+            names,
+            ErrorClass::TypeError,
+            b"Property key must be a string or a number",
+        )),
+    }
+}

@@ -1,0 +1,12 @@
+use Rattle.std.proofs.Common.{arith, subst, sym}
+use Rattle.js_world.specs.Overlays.{Over}
+use Rattle.js_world.specs.Changes.{ChangeWithin}
+use Rattle.js_world.proofs.overlay.Overlay.write.Goals as goal
+
+pub invariant_of-self-in-Scratch : goal.invariant_of-self-in-Scratch
+invariant_of-self-in-Scratch c =
+    let P : Over → Type 0 = λ h. ChangeWithin h.ends c.args.change in
+    record {
+      within = c.change_in.ensures.within c.self.inside.ends (subst P (sym c.self.view_is) c.requires) c.self.invariant.within;
+      places = grind (arith, c.self.invariant.places, c.change_in.ensures.len);
+    }

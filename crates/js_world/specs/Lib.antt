@@ -1,0 +1,13 @@
+pub mod Names
+pub mod Indexes
+pub mod Places
+pub mod Cells
+pub mod Calls
+pub mod Looks
+pub mod Units
+pub mod Changes
+pub mod Heaps
+pub mod Start
+pub mod Overlays
+pub mod PropertyOrder
+pub mod PropertyForm
