@@ -1,0 +1,4 @@
+pub mod Ops
+pub mod Forms
+pub mod Trees
+pub mod Codes

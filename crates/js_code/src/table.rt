@@ -1,0 +1,26 @@
+//! The table of nodes.
+
+use crate::node::{
+    CallEntry, ForEntry, ForOfEntry, FunctionEntry, MemberEntry, Node, ScriptEntry, SourceEntry,
+};
+use js_heap::value::Value;
+use js_world::stored::Slots;
+
+/// The nodes of all sources of a program, with the parts that they have and the entries that they name by number.
+#[derive(Debug, Drop)]
+pub struct NodeTable {
+    pub nodes: Vec<Node>,
+    /// Parts of nodes, by their numbers in `nodes`.
+    pub kids: Vec<u32>,
+    pub constants: Vec<Value>,
+    /// The names of blocks.
+    pub blocks: Vec<Slots>,
+    pub scripts: Vec<ScriptEntry>,
+    pub fors: Vec<ForEntry>,
+    pub for_ofs: Vec<ForOfEntry>,
+    pub functions: Vec<FunctionEntry>,
+    /// The members of object literals.
+    pub objects: Vec<Vec<MemberEntry>>,
+    pub calls: Vec<CallEntry>,
+    pub sources: Vec<SourceEntry>,
+}

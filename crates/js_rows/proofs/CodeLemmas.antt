@@ -1,0 +1,76 @@
+-- Lemmas on the code of functions.
+use Rattle.std.proofs.Common.{◌≡◌, ℕ, zero, suc, ◌+◌, ◌-◌, ◌<◌, ◌≤◌, true, false, List, [], ◌∷◌, length, take, drop, get_or, Option, Some, None, refl, sym, ap, ◌∙◌, arith}
+use Rattle.std.specs.Prelude.{slice_get}
+use Rattle.std.proofs.lemmas.List.{drop_all}
+use Rattle.js_semantics.specs.declared.form.Source.{Source}
+use Rattle.js_semantics.specs.Terms.{more}
+use Rattle.js_semantics.specs.Functions.{same_source, function_at, function_in}
+use Rattle.js_code.specs.declared.node.Node.{Node}
+use Rattle.js_code.specs.declared.node.FunctionEntry.{FunctionEntry}
+use Rattle.js_code.specs.declared.node.SourceEntry.{SourceEntry}
+use Rattle.js_code.specs.declared.table.NodeTable.{NodeTable}
+use Rattle.js_code.specs.Forms.{function_of}
+use Rattle.js_code.specs.Codes.{HasFunctions, code_of_parts, indexed_code}
+use Rattle.js_code.specs.Trees.{tree, trees, terms, kids_between, program_of, source_trees}
+use Rattle.js_operations.proofs.ListLemmas.{cons_at}
+use Rattle.js_rows.specs.Codes.{placed_code, code_placed}
+use Rattle.js_rows.proofs.PartLemmas.{first-tree}
+
+-- ---- the parts behind the first
+
+take_nil : (n : ℕ) → take {A = ℕ} n [] ≡ []
+take_nil zero = refl
+take_nil (suc n) = refl
+
+drop_take : (d : ℕ) (xs : List ℕ) → drop 1 (take d xs) ≡ take (d - 1) (drop 1 xs)
+drop_take zero xs = refl
+drop_take (suc d) [] = sym (take_nil (suc d - 1))
+drop_take (suc d) (x ∷ xs) = let e : d ≡ suc d - 1 = omega arith in ap (λ n. take n xs) e
+
+drop_drop : (m : ℕ) (xs : List ℕ) → drop 1 (drop m xs) ≡ drop (m + 1) xs
+drop_drop zero xs = refl
+drop_drop (suc m) [] = let e : suc (m + 1) ≡ suc m + 1 = omega arith in ap (λ n. drop {A = ℕ} n []) e
+drop_drop (suc m) (x ∷ xs) = let e : suc (m + 1) ≡ suc m + 1 = omega arith in drop_drop m xs ∙ ap (λ n. drop n (x ∷ xs)) e
+
+rest_kids : (ks : List ℕ) (m e : ℕ) → drop 1 (take (e - m) (drop m ks)) ≡ take (e - (m + 1)) (drop (m + 1) ks)
+rest_kids ks m e =
+    let f : e - m - 1 ≡ e - (m + 1) = omega arith in
+    drop_take (e - m) (drop m ks) ∙ ap (λ n. take n (drop 1 (drop m ks))) f ∙ ap (λ xs. take (e - (m + 1)) xs) (drop_drop m ks)
+
+parts_are : (ts : List (List ℕ)) (t : NodeTable) (m e k : ℕ) → Some k ≡ slice_get (kids_between t m e) 0 → trees ts t m e ≡ more (tree ts t k) (trees ts t (m + 1) e)
+parts_are ts t m e k h = first-tree ts t m e k h ∙ ap (λ xs. more (tree ts t k) (terms (tree ts t) xs)) (rest_kids t.kids.items m e)
+
+pub node-placed : (ts : List (List ℕ)) (t : NodeTable) (node : Node) (number k : ℕ) (o : Option FunctionEntry) → Some k ≡ slice_get (kids_between t node.mid node.end) 0 →
+    placed_code ts t (record { number = number; body = k; first = node.mid + 1; end = node.end }) o ≡ code_placed ts t node o
+node-placed ts t node number k None h = refl
+node-placed ts t node number k (Some f) h = ap (λ xs. code_of_parts (function_of ts f) xs) (sym (parts_are ts t node.mid node.end k h))
+
+-- ---- sources from a place on
+
+abbrev pub SourcesLeft : NodeTable → Source → ℕ → ℕ → Type 0
+SourcesLeft t source node i = (ts : List (List ℕ)) → function_at (source_trees ts t (drop i t.sources.items)) source node ≡ function_at (program_of ts t) source node
+
+get_some : {A : Type 0} (xs : List A) (i : ℕ) (d : A) → i < length xs → slice_get xs i ≡ Some (get_or xs i d)
+get_some [] i d h = absurd (omega arith)
+get_some (x ∷ xs) zero d h = refl
+get_some (x ∷ xs) (suc i) d h = get_some xs i d (omega arith)
+
+first_is : (ts : List (List ℕ)) (t : NodeTable) (source : Source) (node : ℕ) (es rest : List SourceEntry) (e : SourceEntry) → es ≡ e ∷ rest → same_source e.source source ≡ true → function_at (source_trees ts t es) source node ≡ function_in node (tree ts t e.root)
+first_is ts t source node es rest e h g = ap (λ xs. function_at (source_trees ts t xs) source node) h ∙ (rw g refl)
+
+first_not : (ts : List (List ℕ)) (t : NodeTable) (source : Source) (node : ℕ) (es rest : List SourceEntry) (e : SourceEntry) → es ≡ e ∷ rest → same_source e.source source ≡ false → function_at (source_trees ts t es) source node ≡ function_at (source_trees ts t rest) source node
+first_not ts t source node es rest e h g = ap (λ xs. function_at (source_trees ts t xs) source node) h ∙ (rw g refl)
+
+pub sources-step : (t : NodeTable) (source : Source) (node i : ℕ) (e : SourceEntry) → SourcesLeft t source node i → i < length t.sources.items → e ≡ get_or t.sources.items i e → same_source e.source source ≡ false → SourcesLeft t source node (i + 1)
+sources-step t source node i e inv l h g = λ ts.
+    let c : drop i t.sources.items ≡ e ∷ drop (i + 1) t.sources.items = cons_at t.sources.items i e l ∙ ap (λ x. x ∷ drop (i + 1) t.sources.items) (sym h) in
+    sym (first_not ts t source node (drop i t.sources.items) (drop (i + 1) t.sources.items) e c g) ∙ inv ts
+
+pub sources-found : (t : NodeTable) (source : Source) (node i : ℕ) (e : SourceEntry) (ts : List (List ℕ)) → HasFunctions t → SourcesLeft t source node i → i < length t.sources.items → e ≡ get_or t.sources.items i e → same_source e.source source ≡ true → indexed_code ts t e node ≡ function_at (program_of ts t) source node
+sources-found t source node i e ts has inv l h g =
+    let c : drop i t.sources.items ≡ e ∷ drop (i + 1) t.sources.items = cons_at t.sources.items i e l ∙ ap (λ x. x ∷ drop (i + 1) t.sources.items) (sym h) in
+    let s : slice_get t.sources.items i ≡ Some e = get_some t.sources.items i e l ∙ ap (λ x. Some x) (sym h) in
+    sym (has.finds ts i e s node) ∙ sym (first_is ts t source node (drop i t.sources.items) (drop (i + 1) t.sources.items) e c g) ∙ inv ts
+
+pub sources-end : (t : NodeTable) (source : Source) (node i : ℕ) (ts : List (List ℕ)) → SourcesLeft t source node i → length t.sources.items ≤ i → None ≡ function_at (program_of ts t) source node
+sources-end t source node i ts inv l = ap (λ xs. function_at (source_trees ts t xs) source node) (sym (drop_all i t.sources.items l)) ∙ inv ts

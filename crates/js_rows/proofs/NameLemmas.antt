@@ -1,0 +1,28 @@
+-- Lemmas on names that rows look for.
+use Rattle.std.proofs.Common.{◌≡◌, ℕ, Bool, true, false, List, Option, Some, None, refl, sym, ap, ◌∙◌}
+use Rattle.std.specs.Prelude.{is_some, not, ◌&&◌, if◌then◌else◌}
+use Rattle.js_heap.specs.declared.value.Value.{Value}
+use Rattle.js_heap.specs.declared.value.Addr.{Addr}
+use Rattle.js_heap.specs.declared.change.Change.TheVariants as changes
+use Rattle.js_heap.specs.declared.computed.Written.TheVariants.{Change as a_change}
+use Rattle.js_semantics.specs.References.{Found, name_written, bound_unless}
+use Rattle.js_world.specs.declared.stored.FoundSlot.{FoundSlot}
+use Rattle.js_world.specs.Calls.{kept_slot, kept_found}
+use Rattle.js_operations.proofs.NameLemmas.{written-kept}
+use Rattle.js_rows.specs.Quick.{open_slot}
+
+bound_open : (name : List ℕ) (b : Bool) (o : Option Value) (a : Addr) (v : Value) → (is_some o && not b) ≡ true → bound_unless name b o a v ≡ a_change a (changes.Bind name v)
+bound_open name b None a v h = cc
+bound_open name true (Some u) a v h = cc
+bound_open name false (Some u) a v h = refl
+
+open_if : (b : Bool) (f g : FoundSlot) → (if b then Some f else None) ≡ Some g → (b ≡ true) × (f ≡ g)
+open_if true f g h = (refl, cc)
+open_if false f g h = cc
+
+-- a name that may be given a value is given it
+pub open-written : (name : List ℕ) (o : Option FoundSlot) (p : Option Found) (f : FoundSlot) (v : Value) → kept_slot o ≡ kept_found p → open_slot o ≡ Some f → name_written name p v ≡ a_change f.scope (changes.Bind name v)
+open-written name None p f v e h = cc
+open-written name (Some g) p f v e h =
+    let i = open_if (is_some g.value && not g.constant) g f h in
+    sym (written-kept name (Some g) p v e) ∙ bound_open name g.constant g.value g.scope v i.0 ∙ ap (λ (x : FoundSlot). a_change x.scope (changes.Bind name v)) i.1

@@ -1,0 +1,70 @@
+-- Rows: what performing an action is, by a row's answer.
+use Rattle.std.specs.Prelude.{ℕ, List, Result, Ok, Err}
+use Rattle.js_heap.specs.declared.value.Value.{Value}
+use Rattle.js_heap.specs.World.{World}
+use Rattle.js_heap.specs.declared.computed.Computed.{Computed}
+use Rattle.js_semantics.specs.References.{with_result}
+use Rattle.js_semantics.specs.State.{State, with_world, Action, go}
+use Rattle.js_operations.specs.declared.stop.Stop.{Stop}
+use Rattle.js_operations.specs.declared.stop.Stop.TheVariants.{Raised, Given, Effect, Full, Memory}
+use Rattle.js_operations.specs.Flow.{performed}
+use Rattle.js_operations.specs.Contexts.{Context, state_of}
+use Rattle.js_code.specs.declared.table.NodeTable.{NodeTable}
+use Rattle.js_steps.specs.declared.reduced.Reduced.{Reduced}
+use Rattle.js_steps.specs.declared.reduced.Reduced.TheVariants as reduced
+use Rattle.js_steps.specs.Tasks.{Wide}
+use Rattle.js_steps.specs.Answers.{Reduces, called, assigned}
+
+-- ---- what a row says, of a task: performing the action in a state is the answer, in a state after it
+
+abbrev pub Does : List (List ℕ) → NodeTable → Wide → Action → State → Reduced → State → Type 0
+Does ts t e a s r u = Reduces ts t e (performed a s) r u
+
+-- in every state that has this world
+abbrev pub DoesIn : List (List ℕ) → NodeTable → Wide → Action → World → Reduced → World → Type 0
+DoesIn ts t e a v r w = (s : State) → Does ts t e a (with_world s v) r (with_world s w)
+
+-- whatever the task
+abbrev pub Replies : List (List ℕ) → Action → World → Reduced → World → Type 0
+Replies ts a v r w = (t : NodeTable) (e : Wide) → DoesIn ts t e a v r w
+
+-- in a context, behind any texts that were taken
+abbrev pub DoesWith : List (List ℕ) → NodeTable → Wide → Action → World → Context → Reduced → World → Context → Type 0
+DoesWith ts t e a v c r w d = (taken : List (List ℕ)) → Does ts t e a (state_of v c taken) r (state_of w d taken)
+
+-- whatever the task
+abbrev pub RepliesWith : List (List ℕ) → Action → World → Context → Reduced → World → Context → Type 0
+RepliesWith ts a v c r w d = (t : NodeTable) (e : Wide) → DoesWith ts t e a v c r w d
+
+-- ---- what operations come to, as answers
+
+abbrev pub stopped : Stop → Reduced
+stopped (Raised v) = reduced.Raises v
+stopped (Given v) = reduced.Gives v
+stopped Effect = reduced.Effect
+stopped (Full what) = reduced.Full what
+stopped Memory = reduced.Memory
+
+abbrev pub replied : Result Value Stop → Reduced
+replied (Ok v) = reduced.Gives v
+replied (Err e) = stopped e
+
+abbrev pub replied_with : Result (Unit {0}) Stop → Value → Reduced
+replied_with (Ok u) v = reduced.Gives v
+replied_with (Err e) v = stopped e
+
+-- ---- what is read, and gone on with: a call of it, or an assignment of an operator on it
+
+abbrev pub CallsIt : List (List ℕ) → Computed → World → Reduced → World → Type 0
+CallsIt ts x v r w = (t : NodeTable) (e : Wide) → DoesIn ts t e (with_result x (λ f. go (called ts t e f))) v r w
+
+abbrev pub AssignsIt : List (List ℕ) → Computed → World → Reduced → World → Type 0
+AssignsIt ts x v r w = (t : NodeTable) (e : Wide) → DoesIn ts t e (with_result x (λ old. go (assigned ts t e old))) v r w
+
+abbrev pub calling : Result Value Stop → Reduced
+calling (Ok v) = reduced.Calls v
+calling (Err e) = stopped e
+
+abbrev pub assigning : Result Value Stop → Reduced
+assigning (Ok v) = reduced.Assigns v
+assigning (Err e) = stopped e

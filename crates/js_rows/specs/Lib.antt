@@ -1,0 +1,9 @@
+pub mod Does
+pub mod Quick
+pub mod References
+pub mod Declaring
+pub mod Codes
+pub mod Calls
+pub mod Simple
+pub mod Over
+pub mod Updates

@@ -1,0 +1,40 @@
+-- What an update of a value comes to.
+use Rattle.std.specs.Prelude.{ℕ, Bool, List, [], ◌∷◌, Option, Some, None}
+use Rattle.js_tree.specs.declared.operator.UpdateOperator.{UpdateOperator}
+use Rattle.js_heap.specs.declared.value.Value.{Value}
+use Rattle.js_heap.specs.declared.value.Value.TheVariants as values
+use Rattle.js_heap.specs.Properties.{bad_key, property_of, property_written}
+use Rattle.js_heap.specs.Values.{key_of}
+use Rattle.js_heap.specs.World.{World}
+use Rattle.js_semantics.specs.State.{Action, give, fail}
+use Rattle.js_semantics.specs.References.{with_result, with_written}
+use Rattle.js_semantics.specs.Rows.{updated_by, update_value}
+use Rattle.js_rows.specs.declared.updates.Update.{Update}
+use Rattle.js_rows.specs.declared.updates.Update.TheVariants.{To, Fails}
+
+-- goes on with the old value and the new one, or raises the error
+abbrev pub on_update : Update → (Value → Value → Action) → Action
+on_update (To old new) k = k old new
+on_update (Fails class message) k = fail class message
+
+-- a property is updated
+abbrev pub property_updated : World → UpdateOperator → Bool → Value → List ℕ → Action
+property_updated w o prefix v key = updated_by o (property_of w v key) (λ old new. with_written (property_written w v key new) (give (update_value prefix old new)))
+
+-- by a key that a value is
+abbrev pub keyed_updated : World → UpdateOperator → Bool → Value → Option (List ℕ) → Action
+keyed_updated w o prefix v None = with_result bad_key give
+keyed_updated w o prefix v (Some key) = property_updated w o prefix v key
+
+abbrev pub index_updated : World → UpdateOperator → Bool → Value → Value → Action
+index_updated w o prefix v i = keyed_updated w o prefix v (key_of w i)
+
+-- of the first value
+abbrev pub member_updated : World → UpdateOperator → Bool → List Value → List ℕ → Action
+member_updated w o prefix (v ∷ vs) key = property_updated w o prefix v key
+member_updated w o prefix [] key = give values.Undefined
+
+-- and by the second
+abbrev pub element_updated : World → UpdateOperator → Bool → List Value → Action
+element_updated w o prefix (v ∷ i ∷ vs) = index_updated w o prefix v i
+element_updated w o prefix _ = give values.Undefined

@@ -1,0 +1,137 @@
+-- What a step tells, from what its row answers.
+use Rattle.std.proofs.Common.{◌≡◌, ℕ, List, [], ◌∷◌, drop, refl, sym, ap, subst, ◌∙◌, Result, Ok, Err, OnOk}
+use Rattle.std.specs.declared.alloc.AllocError.{AllocError}
+use Rattle.std.specs.declared.alloc.Global.{Global}
+use Rattle.std.specs.declared.vec.Vec.{Vec}
+use Rattle.js_heap.specs.declared.value.Addr.{Addr}
+use Rattle.js_heap.specs.declared.value.Value.{Value}
+use Rattle.js_heap.specs.declared.value.Value.TheVariants as values
+use Rattle.js_heap.specs.declared.change.Counted.{Counted}
+use Rattle.js_heap.specs.World.{World}
+use Rattle.js_semantics.specs.Terms.{Term, done, standing}
+use Rattle.js_semantics.specs.State.{State, Move, goes, has_effect, is_full, Told, went, raised, printed_values, spot_of, top_spot}
+use Rattle.js_operations.specs.Contexts.{Context, state_of}
+use Rattle.js_code.specs.declared.table.NodeTable.{NodeTable}
+use Rattle.js_steps.specs.declared.answer.Answer.{Answer}
+use Rattle.js_steps.specs.declared.answer.Answer.TheVariants as kinds
+use Rattle.js_steps.specs.declared.reduced.Reduced.{Reduced}
+use Rattle.js_steps.specs.declared.reduced.Reduced.TheVariants as reduced
+use Rattle.js_steps.specs.declared.stepped.Stepped.{Stepped}
+use Rattle.js_steps.specs.declared.stepped.Stepped.TheVariants as steppeds
+use Rattle.js_steps.specs.declared.task.Point.{Point}
+use Rattle.js_steps.specs.declared.task.Point.TheVariants as points
+use Rattle.js_steps.specs.Gaps.{plugged, resettled, all_risen}
+use Rattle.js_steps.specs.Tasks.{Wide, gaps_of, InScopes}
+use Rattle.js_steps.specs.Points.{term_at, IsAt}
+use Rattle.js_steps.specs.Answers.{reduced_move, reduced_term, Reduces}
+use Rattle.js_steps.specs.Stacks.{outer_of, values_of}
+use Rattle.js_steps.specs.Following.{innermost}
+use Rattle.js_steps.specs.Stepping.{Tells, IfGoesOn, StandsIn, answer_of, Says, Raises, went_of, TellsWithin}
+use Rattle.js_steps.proofs.GapLaws.{goes-risen, effect-risen, full-risen, plugged-resettled}
+use Rattle.js_steps.proofs.FollowLemmas.{scopes-popped}
+
+-- what an answer says, by what it asks for
+pub says : (ts : List (List ℕ)) (t : NodeTable) (w : Wide) (m : Move Term) (r : Reduced) (s : State) → Reduces ts t w m r s → Says ts t w m r (answer_of r) s
+unfolding reduced_move
+says ts t w m reduced.Memory s h = tt
+says ts t w m (reduced.Raises v) s h = h
+says ts t w m (reduced.Returns v) s h = h
+says ts t w m reduced.Breaks s h = h
+says ts t w m reduced.Continues s h = h
+says ts t w m reduced.Resumes s h = h
+says ts t w m reduced.Prints s h = h
+says ts t w m reduced.Effect s h = h
+says ts t w m (reduced.Full what) s h = h
+says ts t w m r s h = h
+
+pub says-as : (ts : List (List ℕ)) (t : NodeTable) (w : Wide) (m : Move Term) (r : Reduced) (a b : Answer) (s : State) → a ≡ b → Says ts t w m r a s → Says ts t w m r b s
+says-as ts t w m r a b s e h =
+    let P : Answer → Type 0 = λ x. Says ts t w m r x s in
+    subst P e h
+
+-- ---- a move that goes on
+
+goes_to : (ts : List (List ℕ)) (t : NodeTable) (root : Addr) (old new : List Wide) (p : Point) (u : Term) (s : State) (told : Told) → resettled (gaps_of ts t old) u ≡ term_at ts t new p → all_risen root (gaps_of ts t old) (goes u s told) ≡ goes (term_at ts t new p) s told
+goes_to ts t root old new p u s told e = goes-risen root (gaps_of ts t old) u s told ∙ ap (λ x. goes x s told) e
+
+-- with the part that a call put there, if there was memory
+pub went-told : (r : Result (Unit {0}) AllocError) (stepped : Stepped) (ts : List (List ℕ)) (t : NodeTable) (root : Addr) (old new : List Wide) (p : Point) (m : Move Term) (u : Term) (s : State) → stepped ≡ went_of r → m ≡ goes u s went → OnOk r (resettled (gaps_of ts t old) u ≡ term_at ts t new p) → TellsWithin ts t root old m stepped new p s
+went-told (Ok x) stepped ts t root old new p m u s w e h =
+    let P : Stepped → Type 0 = λ x. TellsWithin ts t root old m x new p s in
+    subst P (sym w) (ap (all_risen root (gaps_of ts t old)) e ∙ goes_to ts t root old new p u s went h)
+went-told (Err x) stepped ts t root old new p m u s w e h =
+    let P : Stepped → Type 0 = λ x. TellsWithin ts t root old m x new p s in
+    subst P (sym w) tt
+
+pub went-stands : (r : Result (Unit {0}) AllocError) (stepped : Stepped) (t : NodeTable) (root : Addr) (old new : List Wide) (p : Point) → stepped ≡ went_of r → OnOk r (IsAt t new p) → OnOk r (InScopes t root old → InScopes t root new) → IfGoesOn stepped (InScopes t root old → StandsIn t root new p)
+went-stands (Ok x) stepped t root old new p w a h =
+    let P : Stepped → Type 0 = λ x. IfGoesOn x (InScopes t root old → StandsIn t root new p) in
+    subst P (sym w) (λ s. record { at = a; scoped = h s })
+went-stands (Err x) stepped t root old new p w a h =
+    let P : Stepped → Type 0 = λ x. IfGoesOn x (InScopes t root old → StandsIn t root new p) in
+    subst P (sym w) tt
+
+-- ---- a throw
+
+stands_at : (ts : List (List ℕ)) (t : NodeTable) (ws : List Wide) (v : Value) (c : Context) → resettled (gaps_of ts t ws) (standing v (top_spot c.frames)) ≡ term_at ts t ws (points.Stands v (top_spot c.frames))
+unfolding term_at
+stands_at ts t ws v c = plugged-resettled (gaps_of ts t ws) (standing v (top_spot c.frames)) refl
+
+pub raise-told : (ts : List (List ℕ)) (t : NodeTable) (root : Addr) (ws : List Wide) (v : Value) (c : Context) (w : World) (taken : List (List ℕ)) (stepped : Stepped) (p : Point) (m : Move Term) → Raises v c stepped p → m ≡ goes (standing v (spot_of (state_of w c taken))) (state_of w c taken) raised → TellsWithin ts t root ws m stepped ws p (state_of w c taken)
+raise-told ts t root ws v c w taken stepped p m h e =
+    let s : State = state_of w c taken in
+    let P : Stepped → Type 0 = λ x. TellsWithin ts t root ws m x ws p s in
+    let Q : Point → Type 0 = λ x. TellsWithin ts t root ws m steppeds.Raised ws x s in
+    subst P (sym h.0) (subst Q (sym h.1) (ap (all_risen root (gaps_of ts t ws)) e ∙ goes_to ts t root ws ws (points.Stands v (top_spot c.frames)) (standing v (top_spot c.frames)) s raised (stands_at ts t ws v c)))
+
+pub raise-stands : (t : NodeTable) (root : Addr) (ws : List Wide) (v : Value) (c : Context) (stepped : Stepped) (p : Point) → Raises v c stepped p → InScopes t root ws → StandsIn t root ws p
+raise-stands t root ws v c stepped p h s =
+    let P : Point → Type 0 = λ x. StandsIn t root ws x in
+    subst P (sym h.1) (record { at = tt; scoped = s })
+
+pub if-goes-on : (stepped : Stepped) (P : Type 0) → P → IfGoesOn stepped P
+if-goes-on steppeds.Went P h = h
+if-goes-on steppeds.Raised P h = h
+if-goes-on (steppeds.Printed vs) P h = h
+if-goes-on (steppeds.Over f) P h = tt
+if-goes-on steppeds.Effect P h = tt
+if-goes-on (steppeds.Full what) P h = tt
+if-goes-on steppeds.Memory P h = tt
+
+pub goes-on-weaker : {P Q : Type 0} (stepped : Stepped) → (P → Q) → IfGoesOn stepped P → IfGoesOn stepped Q
+goes-on-weaker steppeds.Went f h = f h
+goes-on-weaker steppeds.Raised f h = f h
+goes-on-weaker (steppeds.Printed vs) f h = f h
+goes-on-weaker (steppeds.Over g) f h = tt
+goes-on-weaker steppeds.Effect f h = tt
+goes-on-weaker (steppeds.Full what) f h = tt
+goes-on-weaker steppeds.Memory f h = tt
+
+-- ---- the end of an evaluation
+
+pub effect-told : (ts : List (List ℕ)) (t : NodeTable) (root : Addr) (old new : List Wide) (p : Point) (m : Move Term) (s : State) → m ≡ has_effect s → TellsWithin ts t root old m steppeds.Effect new p s
+effect-told ts t root old new p m s e = ap (all_risen root (gaps_of ts t old)) e ∙ effect-risen root (gaps_of ts t old) s
+
+pub full-told : (ts : List (List ℕ)) (t : NodeTable) (root : Addr) (old new : List Wide) (p : Point) (what : Counted) (m : Move Term) (s : State) → m ≡ is_full what s → TellsWithin ts t root old m (steppeds.Full what) new p s
+full-told ts t root old new p what m s e = ap (all_risen root (gaps_of ts t old)) e ∙ full-risen root (gaps_of ts t old) what s
+
+-- ---- what is printed
+
+pub printed-told : (ts : List (List ℕ)) (t : NodeTable) (root : Addr) (old new : List Wide) (p : Point) (vs : Vec Value Global) (s : State) → resettled (gaps_of ts t old) (done values.Undefined) ≡ term_at ts t new p → TellsWithin ts t root old (goes (done values.Undefined) s (printed_values vs.items)) (steppeds.Printed vs) new p s
+printed-told ts t root old new p vs s e = goes_to ts t root old new p (done values.Undefined) s (printed_values vs.items) e
+
+values_inner : (ws : List Wide) → values_of ws ≡ (innermost ws).values
+values_inner [] = refl
+values_inner (w ∷ ws) = refl
+
+pub row-printed : (ts : List (List ℕ)) (t : NodeTable) (root : Addr) (old us new : List Wide) (p : Point) (vs : List Value) (s : State) (stepped : Stepped) → us ≡ outer_of old → vs ≡ drop 2 (values_of old) → TellsWithin ts t root us (goes (done values.Undefined) s (printed_values vs)) stepped new p s → TellsWithin ts t root (outer_of old) (goes (done values.Undefined) s (printed_values (drop 2 (innermost old).values))) stepped new p s
+row-printed ts t root old us new p vs s stepped o e h =
+    let P : List Wide → Type 0 = λ ws. TellsWithin ts t root ws (goes (done values.Undefined) s (printed_values vs)) stepped new p s in
+    let Q : List Value → Type 0 = λ xs. TellsWithin ts t root (outer_of old) (goes (done values.Undefined) s (printed_values xs)) stepped new p s in
+    subst Q (e ∙ ap (drop 2) (values_inner old)) (subst P o h)
+
+-- the same behind what was popped
+pub told-popped : (ts : List (List ℕ)) (t : NodeTable) (root : Addr) (old us new : List Wide) (p : Point) (m : Move Term) (stepped : Stepped) (s : State) → us ≡ outer_of old → TellsWithin ts t root us m stepped new p s → TellsWithin ts t root (outer_of old) m stepped new p s
+told-popped ts t root old us new p m stepped s o h =
+    let P : List Wide → Type 0 = λ ws. TellsWithin ts t root ws m stepped new p s in
+    subst P o h

@@ -1,0 +1,15 @@
+pub mod GapLaws
+pub mod TreeLemmas
+pub mod ScopeLaws
+pub mod FollowLemmas
+pub mod StackLemmas
+pub mod PartLemmas
+pub mod SettleLemmas
+pub mod FinishLemmas
+pub mod StageLemmas
+pub mod ClosingLemmas
+pub mod DescentLemmas
+pub mod PassLemmas
+pub mod ConcludeLemmas
+pub mod TravelLemmas
+pub mod StepLemmas

@@ -1,0 +1,11 @@
+pub mod Gaps
+pub mod Tasks
+pub mod Points
+pub mod Answers
+pub mod Rows
+pub mod Stacks
+pub mod Following
+pub mod Parts
+pub mod Settling
+pub mod Stepping
+pub mod Passing
