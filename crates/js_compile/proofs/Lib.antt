@@ -1,0 +1,10 @@
+pub mod NameLemmas
+pub mod GrownLemmas
+pub mod EntryLemmas
+pub mod KeepLemmas
+pub mod TermSteps
+pub mod ScriptLemmas
+pub mod PlainLaws
+pub mod TreeLemmas
+pub mod IndexLemmas
+pub mod PlaceLaws

@@ -1,0 +1,6 @@
+pub mod Plain
+pub mod Added
+pub mod Grown
+pub mod Operations
+pub mod Scripts
+pub mod Index

@@ -1,0 +1,53 @@
+-- The code of scripts.
+use Rattle.std.specs.Prelude.{◌≡◌, ℕ, false, List, [], ◌∷◌, ◌++◌, Option, Some, None}
+use Rattle.js_semantics.specs.declared.form.Form.TheVariants.{Scripts as scripts}
+use Rattle.js_semantics.specs.declared.form.Source.TheVariants.{Script as script_source}
+use Rattle.js_semantics.specs.Terms.{Terms, part, end}
+use Rattle.js_semantics.specs.Functions.{Program}
+use Rattle.js_semantics.specs.Run.{program_from}
+use Rattle.js_world.specs.Names.{GoesOn}
+use Rattle.js_code.specs.declared.node.SourceEntry.{SourceEntry}
+use Rattle.js_code.specs.declared.table.NodeTable.{NodeTable}
+use Rattle.js_code.specs.Trees.{tree, IsTable, source_trees, program_of}
+use Rattle.js_compile.specs.declared.scripts.ScriptCode.{ScriptCode}
+use Rattle.js_compile.specs.Plain.{are_plain}
+use Rattle.js_compile.specs.Grown.{Extends, HasPlaces}
+
+-- a table without nodes and sources
+pub record IsEmpty (t : NodeTable) : Type 0 where
+  pub nodes : t.nodes.items ≡ []
+  pub sources : t.sources.items ≡ []
+
+-- names and a table that go on; the parts of each node stay before it
+pub record Continues (ts : List (List ℕ)) (t : NodeTable) (us : List (List ℕ)) (u : NodeTable) : Type 0 where
+  pub names : GoesOn ts us
+  pub entries : Extends t u
+  pub table : IsTable t → IsTable u
+  pub places : HasPlaces t → HasPlaces u
+
+-- one more source, the script of a number with its node
+pub record IsSourceAdded (t u : NodeTable) (number root : ℕ) : Type 0 where
+  pub entry : SourceEntry
+  pub source : entry.source ≡ script_source number
+  pub node : entry.root ≡ root
+  pub sources : u.sources.items ≡ t.sources.items ++ entry ∷ []
+
+abbrev pub AddsSource : NodeTable → NodeTable → ℕ → Option ℕ → Type 0
+AddsSource t u number None = Unit {0}
+AddsSource t u number (Some root) = IsSourceAdded t u number root
+
+-- the sources with their trees, however names and table go on
+abbrev pub IsProgram : List (List ℕ) → NodeTable → Program → Type 0
+IsProgram ts t p = (us : List (List ℕ)) (u : NodeTable) → GoesOn ts us → Extends t u → source_trees us u t.sources.items ≡ p
+
+-- the code stands for the scripts, however the names go on
+pub record IsCompiled (ts : List (List ℕ)) (xs : Terms) (t : NodeTable) (root : ℕ) : Type 0 where
+  pub table : IsTable t
+  pub places : HasPlaces t
+  pub program : (us : List (List ℕ)) → GoesOn ts us → program_of us t ≡ program_from 1 xs
+  pub tree : (us : List (List ℕ)) → GoesOn ts us → tree us t root ≡ part scripts xs end
+
+-- the answer: code, or none where the scripts have no nodes
+abbrev pub AreCompiled : List (List ℕ) → Terms → Option ScriptCode → Type 0
+AreCompiled ts xs None = are_plain xs ≡ false
+AreCompiled ts xs (Some c) = IsCompiled ts xs c.table c.root

@@ -1,0 +1,125 @@
+//! The code of scripts.
+
+ghost use Rattle.std.specs.Prelude.{◌≡◌, ◌+◌, OnOk, IfOk, IfSome};
+ghost use Rattle.js_world.specs.Names.{GoesOn};
+ghost use Rattle.js_terms.specs.Views.{term_view, terms_view, listed_view};
+ghost use Rattle.js_semantics.specs.Run.{program_from};
+ghost use Rattle.js_compile.specs.Grown.{Holds, HoldsAll};
+ghost use Rattle.js_compile.specs.Scripts.{IsEmpty, Continues, AddsSource, IsProgram, AreCompiled};
+
+use crate::nodes::{Entry, add_node, next_number};
+use crate::terms::add_term;
+use js_code::node::SourceEntry;
+use js_code::op::Op;
+use js_code::table::NodeTable;
+use js_semantics::form::Source;
+use js_terms::term::{Term, Terms};
+use js_world::names::Names;
+use std::alloc::{AllocError, Global};
+
+/// The code of scripts: the table of their nodes, and the node of all scripts one after another.
+#[derive(Drop)]
+pub struct ScriptCode {
+    pub table: NodeTable,
+    pub root: u32,
+}
+
+/// A table without nodes. It takes no memory.
+pub fn empty_table(alloc: Global) -> NodeTable
+    ensures { IsEmpty result }
+{
+    NodeTable {
+        nodes: Vec::new(alloc),
+        kids: Vec::new(alloc),
+        constants: Vec::new(alloc),
+        blocks: Vec::new(alloc),
+        scripts: Vec::new(alloc),
+        fors: Vec::new(alloc),
+        for_ofs: Vec::new(alloc),
+        functions: Vec::new(alloc),
+        objects: Vec::new(alloc),
+        calls: Vec::new(alloc),
+        sources: Vec::new(alloc),
+    }
+}
+
+/// The number of the script behind this many.
+fn script_number(before: usize) -> Result<u32, AllocError>
+    ensures { IfOk result (λ n. n ≡ before + 1) }
+{
+    let number = next_number(before)?;
+    match number.checked_add(1) {
+        Some(number) => Ok(number),
+        None => Err(AllocError),
+    }
+}
+
+/// A script behind the others: its nodes, and its source; the answer is its node.
+fn add_script(
+    alloc: Global,
+    names: &mut Names,
+    table: &mut NodeTable,
+    number: u32,
+    script: &Term,
+) -> Result<Option<u32>, AllocError>
+    ensures continues { OnOk result (Continues names.old table.old names.new table.new) }
+    ensures tree { IfOk result (λ o. Holds names.new table.new (term_view script.now) o) }
+    ensures source { IfOk result (λ o. AddsSource table.old table.new number o) }
+{
+    match add_term(alloc, names, table, script)? {
+        Some(root) => {
+            table.sources.push(SourceEntry {
+                source: Source::Script(number),
+                root,
+                functions: Vec::new(alloc),
+            })?;
+            Ok(Some(root))
+        }
+        None => Ok(None),
+    }
+}
+
+/// Scripts one after another, numbered from 1 on; the answer is their nodes.
+fn add_scripts(
+    alloc: Global,
+    names: &mut Names,
+    table: &mut NodeTable,
+    scripts: &[Term],
+) -> Result<Option<Vec<u32>>, AllocError>
+    requires { IsEmpty table.old }
+    ensures continues { OnOk result (Continues names.old table.old names.new table.new) }
+    ensures trees { IfOk result (λ o. HoldsAll names.new table.new (listed_view scripts.now) o) }
+    ensures program { IfOk result (λ o. IfSome o (λ nodes. IsProgram names.new table.new (program_from 1 (listed_view scripts.now)))) }
+{
+    let mut roots = Vec::new(alloc);
+    for (i, script) in scripts.iter().enumerate() {
+        let number = script_number(i)?;
+        match add_script(alloc, names, table, number, script)? {
+            Some(root) => roots.push(root)?,
+            None => return Ok(None),
+        }
+    }
+    Ok(Some(roots))
+}
+
+/// The code of scripts; none where something in them comes up in a run alone, or is a literal without its cell.
+pub fn code_of_scripts(
+    alloc: Global,
+    names: &mut Names,
+    scripts: &Terms,
+) -> Result<Option<ScriptCode>, AllocError>
+    ensures goes_on { OnOk result (GoesOn names.old names.new) }
+    ensures code { IfOk result (λ o. AreCompiled names.new (terms_view scripts.now) o) }
+{
+    let mut table = empty_table(alloc);
+    let Some(roots) = add_scripts(alloc, names, &mut table, scripts.slice())? else {
+        return Ok(None);
+    };
+    let none = Vec::new(alloc);
+    let entry = Entry {
+        op: Op::Scripts,
+        info: 0,
+    };
+    let root = add_node(&mut table, entry, &roots, &none)?;
+    Ok(Some(ScriptCode { table, root }))
+}
