@@ -1,5 +1,6 @@
 -- What a step tells, from what its row answers.
 use Rattle.std.proofs.Common.{◌≡◌, ℕ, List, [], ◌∷◌, drop, refl, sym, ap, subst, ◌∙◌, Result, Ok, Err, OnOk}
+use Rattle.std.proofs.lemmas.Result.{on_ok_weaker}
 use Rattle.std.specs.declared.alloc.AllocError.{AllocError}
 use Rattle.std.specs.declared.alloc.Global.{Global}
 use Rattle.std.specs.declared.vec.Vec.{Vec}
@@ -13,22 +14,20 @@ use Rattle.js_semantics.specs.State.{State, Move, goes, has_effect, is_full, Tol
 use Rattle.js_operations.specs.Contexts.{Context, state_of}
 use Rattle.js_code.specs.declared.table.NodeTable.{NodeTable}
 use Rattle.js_steps.specs.declared.answer.Answer.{Answer}
-use Rattle.js_steps.specs.declared.answer.Answer.TheVariants as kinds
 use Rattle.js_steps.specs.declared.reduced.Reduced.{Reduced}
 use Rattle.js_steps.specs.declared.reduced.Reduced.TheVariants as reduced
 use Rattle.js_steps.specs.declared.stepped.Stepped.{Stepped}
 use Rattle.js_steps.specs.declared.stepped.Stepped.TheVariants as steppeds
 use Rattle.js_steps.specs.declared.task.Point.{Point}
 use Rattle.js_steps.specs.declared.task.Point.TheVariants as points
-use Rattle.js_steps.specs.Gaps.{plugged, resettled, all_risen}
+use Rattle.js_steps.specs.Gaps.{resettled, all_risen}
 use Rattle.js_steps.specs.Tasks.{Wide, gaps_of, InScopes}
 use Rattle.js_steps.specs.Points.{term_at, IsAt}
-use Rattle.js_steps.specs.Answers.{reduced_move, reduced_term, Reduces}
+use Rattle.js_steps.specs.Answers.{reduced_move, Reduces}
 use Rattle.js_steps.specs.Stacks.{outer_of, values_of}
 use Rattle.js_steps.specs.Following.{innermost}
-use Rattle.js_steps.specs.Stepping.{Tells, IfGoesOn, StandsIn, answer_of, Says, Raises, went_of, TellsWithin}
+use Rattle.js_steps.specs.Stepping.{IfGoesOn, StandsIn, answer_of, Says, Raises, went_of, TellsWithin}
 use Rattle.js_steps.proofs.GapLaws.{goes-risen, effect-risen, full-risen, plugged-resettled}
-use Rattle.js_steps.proofs.FollowLemmas.{scopes-popped}
 
 -- what an answer says, by what it asks for
 pub says : (ts : List (List ℕ)) (t : NodeTable) (w : Wide) (m : Move Term) (r : Reduced) (s : State) → Reduces ts t w m r s → Says ts t w m r (answer_of r) s
@@ -62,6 +61,10 @@ went-told (Ok x) stepped ts t root old new p m u s w e h =
 went-told (Err x) stepped ts t root old new p m u s w e h =
     let P : Stepped → Type 0 = λ x. TellsWithin ts t root old m x new p s in
     subst P (sym w) tt
+
+-- the same of what a call says for all names
+pub went-follows : (r : Result (Unit {0}) AllocError) (stepped : Stepped) (ts : List (List ℕ)) (t : NodeTable) (root : Addr) (old new : List Wide) (p : Point) (m : Move Term) (u : List (List ℕ) → Term) (s : State) → stepped ≡ went_of r → m ≡ goes (u ts) s went → OnOk r ((names : List (List ℕ)) → resettled (gaps_of names t old) (u names) ≡ term_at names t new p) → TellsWithin ts t root old m stepped new p s
+went-follows r stepped ts t root old new p m u s w e h = went-told r stepped ts t root old new p m (u ts) s w e (on_ok_weaker r (λ f. f ts) h)
 
 pub went-stands : (r : Result (Unit {0}) AllocError) (stepped : Stepped) (t : NodeTable) (root : Addr) (old new : List Wide) (p : Point) → stepped ≡ went_of r → OnOk r (IsAt t new p) → OnOk r (InScopes t root old → InScopes t root new) → IfGoesOn stepped (InScopes t root old → StandsIn t root new p)
 went-stands (Ok x) stepped t root old new p w a h =

@@ -13,3 +13,4 @@ pub mod PassLemmas
 pub mod ConcludeLemmas
 pub mod TravelLemmas
 pub mod StepLemmas
+pub mod RunLemmas

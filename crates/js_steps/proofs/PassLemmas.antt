@@ -1,14 +1,12 @@
 -- A completion on its way outward.
-use Rattle.std.proofs.Common.{◌≡◌, ℕ, List, [], ◌∷◌, Option, None, Some, slice_get, refl, sym, ap, subst, ◌∙◌}
+use Rattle.std.proofs.Common.{◌≡◌, ℕ, List, ◌∷◌, Option, None, Some, slice_get, refl, sym, ap, subst, ◌∙◌}
 use Rattle.js_heap.specs.declared.value.Addr.{Addr}
-use Rattle.js_heap.specs.World.{World}
 use Rattle.js_semantics.specs.declared.form.Completion.{Completion}
 use Rattle.js_semantics.specs.declared.form.Completion.TheVariants.{Throws as throws, Returns as returns, Breaks as breaks, Continues as continues}
-use Rattle.js_semantics.specs.declared.form.Form.{Form}
 use Rattle.js_semantics.specs.declared.form.Form.TheVariants.{Catching as catching, Frame as frame, Loop as loop}
 use Rattle.js_semantics.specs.declared.form.Stage.TheVariants.{Body as body}
 use Rattle.js_semantics.specs.Terms.{Terms}
-use Rattle.js_semantics.specs.State.{State, Action, Move, leave, pop_frame, travels}
+use Rattle.js_semantics.specs.State.{State, leave, pop_frame, travels}
 use Rattle.js_semantics.specs.Rows.{taken}
 use Rattle.js_operations.specs.Flow.{performed}
 use Rattle.js_operations.specs.Contexts.{Context, state_of, Turns}
@@ -28,10 +26,9 @@ use Rattle.js_steps.specs.declared.passing.Passing.TheVariants as passings
 use Rattle.js_steps.specs.declared.task.Extra.{Extra}
 use Rattle.js_steps.specs.declared.task.Task.{Task}
 use Rattle.js_steps.specs.Gaps.{scope_at, all_risen}
-use Rattle.js_steps.specs.Tasks.{Wide, form_in, task_form, later_of, index_of, turn_scope, gaps_of, InScopes}
+use Rattle.js_steps.specs.Tasks.{Wide, form_in, task_form, later_of, index_of, turn_scope, gaps_of}
 use Rattle.js_steps.specs.Stacks.{wide, outer_of, values_of, extra_of}
 use Rattle.js_steps.specs.Passing.{passing_try, passing_call, passing_turn, passing_entry, passing_of, took, HasPassed}
-use Rattle.js_steps.proofs.FollowLemmas.{scopes-popped}
 
 -- ---- forms that take a completion
 

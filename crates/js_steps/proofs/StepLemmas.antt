@@ -1,6 +1,5 @@
 -- One step.
-use Rattle.std.proofs.Common.{◌≡◌, ℕ, false, List, [], ◌∷◌, Option, None, Some, slice_get, refl, sym, ap, subst, ◌∙◌, arith, Result, OnOk}
-use Rattle.std.proofs.lemmas.Result.{on_ok_weaker}
+use Rattle.std.proofs.Common.{◌≡◌, ℕ, List, [], ◌∷◌, Option, None, Some, slice_get, refl, sym, ap, subst, ◌∙◌, arith, Result, OnOk}
 use Rattle.std.specs.declared.alloc.AllocError.{AllocError}
 use Rattle.js_heap.specs.declared.value.Addr.{Addr}
 use Rattle.js_heap.specs.declared.value.Value.{Value}
@@ -8,8 +7,8 @@ use Rattle.js_heap.specs.declared.value.Value.TheVariants as values
 use Rattle.js_semantics.specs.declared.form.Completion.{Completion}
 use Rattle.js_semantics.specs.declared.form.Completion.TheVariants.{Throws as throws}
 use Rattle.js_semantics.specs.declared.form.Spot.{Spot}
-use Rattle.js_semantics.specs.Terms.{Term, Terms, done, end, part, dones}
-use Rattle.js_semantics.specs.State.{State, Move, goes, travels, went}
+use Rattle.js_semantics.specs.Terms.{Term, done, part, dones}
+use Rattle.js_semantics.specs.State.{State, Move, travels}
 use Rattle.js_semantics.specs.Next.{scope_in, next}
 use Rattle.js_semantics.specs.Rows.{row}
 use Rattle.js_operations.specs.Flow.{performed}
@@ -26,18 +25,18 @@ use Rattle.js_steps.specs.declared.task.Redex.{Redex}
 use Rattle.js_steps.specs.declared.task.Task.{Task}
 use Rattle.js_steps.specs.Gaps.{plugged, resettled, scope_at, all_risen}
 use Rattle.js_steps.specs.Tasks.{Wide, kept_of, gaps_of, task_form, later_of, scope_of, InScopes}
-use Rattle.js_steps.specs.Points.{term_at, row_term, IsLeaf, IsLeafAt, IsAtRow}
-use Rattle.js_steps.specs.Parts.{IsOpen, at_of, mid_of}
+use Rattle.js_steps.specs.Points.{term_at, IsLeaf, IsLeafAt, IsAtRow}
+use Rattle.js_steps.specs.Parts.{at_of, mid_of}
 use Rattle.js_steps.specs.Rows.{RowOf, redex}
 use Rattle.js_steps.specs.Answers.{resumed}
 use Rattle.js_steps.specs.Stacks.{wide, outer_of, values_of, extra_of}
 use Rattle.js_steps.specs.Following.{innermost}
-use Rattle.js_steps.specs.Stepping.{Tells, TellsWithin, Steps, StandsIn, answer_of, Says, went_of}
+use Rattle.js_steps.specs.Stepping.{Tells, TellsWithin, Steps, answer_of, Says, went_of}
 use Rattle.js_steps.proofs.GapLaws.{next-row-within, next-standing-within}
 use Rattle.js_steps.proofs.TreeLemmas.{kids-end, node-at}
 use Rattle.js_steps.proofs.FinishLemmas.{node-scope}
 use Rattle.js_steps.proofs.DescentLemmas.{node_task, node-tree}
-use Rattle.js_steps.proofs.ConcludeLemmas.{says, went-told}
+use Rattle.js_steps.proofs.ConcludeLemmas.{says, went-follows}
 use Rattle.js_steps.proofs.TravelLemmas.{task_redex, scopes-at}
 
 -- ---- what a step tells, of an equal move
@@ -170,4 +169,4 @@ steps-as ts t root old new p q o stepped s u e h =
 
 -- undefined comes, for a completion that no `finally` kept
 pub nothing-told : (ts : List (List ℕ)) (t : NodeTable) (root : Addr) (old new : List Wide) (p : Point) (m : Move Term) (stepped : Stepped) (r : Result (Unit {0}) AllocError) (s : State) → stepped ≡ went_of r → m ≡ resumed None s → OnOk r ((names : List (List ℕ)) → resettled (gaps_of names t old) (done values.Undefined) ≡ term_at names t new p) → TellsWithin ts t root old m stepped new p s
-nothing-told ts t root old new p m stepped r s w e h = went-told r stepped ts t root old new p m (done values.Undefined) s w e (on_ok_weaker r (λ f. f ts) h)
+nothing-told ts t root old new p m stepped r s w e h = went-follows r stepped ts t root old new p m (λ names. done values.Undefined) s w e h

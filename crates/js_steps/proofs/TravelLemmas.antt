@@ -1,5 +1,5 @@
 -- What takes a completion that travels outward.
-use Rattle.std.proofs.Common.{◌≡◌, ℕ, false, List, [], ◌∷◌, Option, None, Some, slice_get, refl, sym, ap, subst, ◌∙◌, Result, Ok, Err, OnOk}
+use Rattle.std.proofs.Common.{◌≡◌, ℕ, false, List, [], ◌∷◌, Option, None, Some, slice_get, refl, sym, ap, subst, ◌∙◌, Result, OnOk}
 use Rattle.std.specs.declared.alloc.AllocError.{AllocError}
 use Rattle.js_heap.specs.declared.value.Addr.{Addr}
 use Rattle.js_heap.specs.declared.value.Value.{Value}
@@ -9,11 +9,10 @@ use Rattle.js_semantics.specs.declared.form.Completion.{Completion}
 use Rattle.js_semantics.specs.declared.form.Completion.TheVariants.{Throws as throws, Returns as returns, Breaks as breaks, Continues as continues}
 use Rattle.js_semantics.specs.declared.form.Form.TheVariants.{Ending as ending}
 use Rattle.js_semantics.specs.declared.form.Spot.{Spot}
-use Rattle.js_semantics.specs.Terms.{Term, Terms, done, end, part, settled}
+use Rattle.js_semantics.specs.Terms.{Term, done, end, part, settled}
 use Rattle.js_semantics.specs.State.{State, Move, goes, travels, go, give, pop_frame, went}
 use Rattle.js_semantics.specs.Next.{scope_in}
 use Rattle.js_semantics.specs.Rows.{taken}
-use Rattle.js_semantics.specs.Run.{outermost}
 use Rattle.js_operations.specs.Flow.{performed}
 use Rattle.js_operations.specs.Contexts.{Context, state_of, Turns}
 use Rattle.js_code.specs.declared.op.Op.{Op}
@@ -41,7 +40,7 @@ use Rattle.js_steps.specs.Stacks.{has_extra, wide, begun, outer_of, values_of, e
 use Rattle.js_steps.specs.Settling.{proceeding, settled_row, IsInnermost}
 use Rattle.js_steps.specs.Following.{innermost}
 use Rattle.js_steps.specs.Passing.{passing_try, passing_call, passing_turn, passing_entry, passing_of, took, TakesSo, HasPassed}
-use Rattle.js_steps.specs.Stepping.{Tells, TellsWithin, IfGoesOn, StandsIn, EndsSo, finish_of, finished_by, answer_of, Says, went_of}
+use Rattle.js_steps.specs.Stepping.{Tells, TellsWithin, IfGoesOn, StandsIn, EndsSo, finished_by, answer_of, Says, went_of}
 use Rattle.std.proofs.lemmas.Result.{on_ok_weaker}
 use Rattle.js_steps.specs.Answers.{Reduces}
 use Rattle.js_steps.proofs.SettleLemmas.{resettled-part}
@@ -49,7 +48,7 @@ use Rattle.js_steps.proofs.ClosingLemmas.{innermost-none}
 use Rattle.js_steps.proofs.ScopeLaws.{has_scope, scopes-same}
 use Rattle.js_steps.proofs.FollowLemmas.{trees-none, waits-settled}
 use Rattle.js_steps.proofs.PassLemmas.{risen-by}
-use Rattle.js_steps.proofs.ConcludeLemmas.{says, went-told, went-stands, goes-on-weaker}
+use Rattle.js_steps.proofs.ConcludeLemmas.{says, went-follows, went-stands, goes-on-weaker}
 
 -- ---- scopes
 
@@ -216,30 +215,30 @@ unfolding performed
 gone x s = refl
 
 -- a call returns
-pub returns-told : (ts : List (List ℕ)) (t : NodeTable) (root : Addr) (old new : List Wide) (p : Point) (c : Completion) (v : Value) (stepped : Stepped) (r : Result (Unit {0}) AllocError) (w : World) (before after : Context) (taken : List (List ℕ)) → TakesSo t old c (Some (takings.Returns v)) → Turns pop_frame before after → stepped ≡ went_of r → OnOk r (resettled (gaps_of ts t (outer_of old)) (done v) ≡ term_at ts t new p) → TellsWithin ts t root old (travels c (state_of w before taken)) stepped new p (state_of w after taken)
+pub returns-told : (ts : List (List ℕ)) (t : NodeTable) (root : Addr) (old new : List Wide) (p : Point) (c : Completion) (v : Value) (stepped : Stepped) (r : Result (Unit {0}) AllocError) (w : World) (before after : Context) (taken : List (List ℕ)) → TakesSo t old c (Some (takings.Returns v)) → Turns pop_frame before after → stepped ≡ went_of r → OnOk r ((names : List (List ℕ)) → resettled (gaps_of names t (outer_of old)) (done v) ≡ term_at names t new p) → TellsWithin ts t root old (travels c (state_of w before taken)) stepped new p (state_of w after taken)
 returns-told ts t root old new p c v stepped r w before after taken h f e x =
     told-by ts t root old new p c (takings.Returns v) stepped (state_of w before taken) (state_of w after taken) h
-    (went-told r stepped ts t root (outer_of old) new p (performed (pop_frame (give v)) (state_of w before taken)) (done v) (state_of w after taken) e (f w taken (give v) ∙ gone (done v) (state_of w after taken)) x)
+    (went-follows r stepped ts t root (outer_of old) new p (performed (pop_frame (give v)) (state_of w before taken)) (λ names. done v) (state_of w after taken) e (f w taken (give v) ∙ gone (done v) (state_of w after taken)) x)
 
 -- a loop ends
-pub breaks-told : (ts : List (List ℕ)) (t : NodeTable) (root : Addr) (old new : List Wide) (p : Point) (c : Completion) (stepped : Stepped) (r : Result (Unit {0}) AllocError) (s : State) → TakesSo t old c (Some takings.Breaks) → stepped ≡ went_of r → OnOk r (resettled (gaps_of ts t (outer_of old)) (done values.Undefined) ≡ term_at ts t new p) → TellsWithin ts t root old (travels c s) stepped new p s
+pub breaks-told : (ts : List (List ℕ)) (t : NodeTable) (root : Addr) (old new : List Wide) (p : Point) (c : Completion) (stepped : Stepped) (r : Result (Unit {0}) AllocError) (s : State) → TakesSo t old c (Some takings.Breaks) → stepped ≡ went_of r → OnOk r ((names : List (List ℕ)) → resettled (gaps_of names t (outer_of old)) (done values.Undefined) ≡ term_at names t new p) → TellsWithin ts t root old (travels c s) stepped new p s
 breaks-told ts t root old new p c stepped r s h e x =
     told-by ts t root old new p c takings.Breaks stepped s s h
-    (went-told r stepped ts t root (outer_of old) new p (performed (give values.Undefined) s) (done values.Undefined) s e (gone (done values.Undefined) s) x)
+    (went-follows r stepped ts t root (outer_of old) new p (performed (give values.Undefined) s) (λ names. done values.Undefined) s e (gone (done values.Undefined) s) x)
 
 -- a loop goes on
-pub turns-told : (ts : List (List ℕ)) (t : NodeTable) (root : Addr) (old new : List Wide) (p : Point) (c : Completion) (stepped : Stepped) (r : Result (Unit {0}) AllocError) (s : State) → TakesSo t old c (Some takings.Turns) → stepped ≡ went_of r → OnOk r (resettled (gaps_of ts t (outer_of old)) (settled (task_form ts t (innermost old)) end (later_of ts t (innermost old))) ≡ term_at ts t new p) → TellsWithin ts t root old (travels c s) stepped new p s
+pub turns-told : (ts : List (List ℕ)) (t : NodeTable) (root : Addr) (old new : List Wide) (p : Point) (c : Completion) (stepped : Stepped) (r : Result (Unit {0}) AllocError) (s : State) → TakesSo t old c (Some takings.Turns) → stepped ≡ went_of r → OnOk r ((names : List (List ℕ)) → resettled (gaps_of names t (outer_of old)) (settled (task_form names t (innermost old)) end (later_of names t (innermost old))) ≡ term_at names t new p) → TellsWithin ts t root old (travels c s) stepped new p s
 turns-told ts t root old new p c stepped r s h e x =
-    let u : Term = settled (task_form ts t (innermost old)) end (later_of ts t (innermost old)) in
+    let u : List (List ℕ) → Term = λ names. settled (task_form names t (innermost old)) end (later_of names t (innermost old)) in
     told-by ts t root old new p c takings.Turns stepped s s h
-    (went-told r stepped ts t root (outer_of old) new p (performed (go u) s) u s e (gone u s) x)
+    (went-follows r stepped ts t root (outer_of old) new p (performed (go (u ts)) s) u s e (gone (u ts) s) x)
 
 -- a `finally` runs
-pub keeps-told : (ts : List (List ℕ)) (t : NodeTable) (root : Addr) (old new : List Wide) (p : Point) (c : Completion) (stepped : Stepped) (r : Result (Unit {0}) AllocError) (s : State) → TakesSo t old c (Some takings.Keeps) → stepped ≡ went_of r → OnOk r (resettled (gaps_of ts t (outer_of old)) (settled (ending (Some c)) (later_of ts t (innermost old)) end) ≡ term_at ts t new p) → TellsWithin ts t root old (travels c s) stepped new p s
+pub keeps-told : (ts : List (List ℕ)) (t : NodeTable) (root : Addr) (old new : List Wide) (p : Point) (c : Completion) (stepped : Stepped) (r : Result (Unit {0}) AllocError) (s : State) → TakesSo t old c (Some takings.Keeps) → stepped ≡ went_of r → OnOk r ((names : List (List ℕ)) → resettled (gaps_of names t (outer_of old)) (settled (ending (Some c)) (later_of names t (innermost old)) end) ≡ term_at names t new p) → TellsWithin ts t root old (travels c s) stepped new p s
 keeps-told ts t root old new p c stepped r s h e x =
-    let u : Term = settled (ending (Some c)) (later_of ts t (innermost old)) end in
+    let u : List (List ℕ) → Term = λ names. settled (ending (Some c)) (later_of names t (innermost old)) end in
     told-by ts t root old new p c takings.Keeps stepped s s h
-    (went-told r stepped ts t root (outer_of old) new p (performed (go u) s) u s e (gone u s) x)
+    (went-follows r stepped ts t root (outer_of old) new p (performed (go (u ts)) s) u s e (gone (u ts) s) x)
 
 -- ---- out of all tasks
 

@@ -9,3 +9,4 @@ pub mod Parts
 pub mod Settling
 pub mod Stepping
 pub mod Passing
+pub mod Running

@@ -1,7 +1,6 @@
 -- What the forms around make of a completion that travels outward.
 use Rattle.std.specs.Prelude.{◌≡◌, ℕ, List, [], ◌∷◌, Option, Some, None, slice_get}
 use Rattle.js_heap.specs.declared.value.Addr.{Addr}
-use Rattle.js_heap.specs.declared.value.Value.{Value}
 use Rattle.js_heap.specs.declared.value.Value.TheVariants as values
 use Rattle.js_heap.specs.World.{World}
 use Rattle.js_semantics.specs.declared.form.Completion.{Completion}

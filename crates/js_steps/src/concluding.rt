@@ -11,7 +11,7 @@ ghost use Rattle.js_code.specs.Trees.{IsTable};
 ghost use Rattle.js_steps.specs.Tasks.{InScopes};
 ghost use Rattle.js_steps.specs.Stacks.{outer_of};
 ghost use Rattle.js_steps.specs.Following.{innermost};
-ghost use Rattle.js_steps.specs.Stepping.{answer_of, Says, Raises, TellsWithin, IfGoesOn, StandsIn};
+ghost use Rattle.js_steps.specs.Stepping.{Says, Raises, TellsWithin, IfGoesOn, StandsIn};
 
 use crate::answer::{Answer, went_of};
 use crate::following::follow;

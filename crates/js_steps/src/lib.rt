@@ -11,6 +11,7 @@ pub mod parts;
 pub mod passing;
 pub mod reduced;
 pub mod rows;
+pub mod run;
 pub mod settling;
 pub mod stack;
 pub mod stages;

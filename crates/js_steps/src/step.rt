@@ -60,7 +60,9 @@ fn resume<T: Rows, W: World>(
     stack.pop();
     match kept {
         Some(completion) => {
-            travel::<T, W>(alloc, table, names, root, context, world, stack, point, completion)
+            travel::<T, W>(
+                alloc, table, names, root, context, world, stack, point, completion,
+            )
         }
         None => went_of(give(table, stack, point, Value::Undefined)),
     }
@@ -95,11 +97,22 @@ fn step_row<T: Rows, W: World>(
         inner: task.inner,
     };
     let extra = stack.extra();
-    let reduced = T::reduce(alloc, table, names, context, world, form, stack.values(), extra);
+    let reduced = T::reduce(
+        alloc,
+        table,
+        names,
+        context,
+        world,
+        form,
+        stack.values(),
+        extra,
+    );
     match answer_of(reduced) {
         Answer::Travels(completion) => {
             stack.pop();
-            travel::<T, W>(alloc, table, names, root, context, world, stack, point, completion)
+            travel::<T, W>(
+                alloc, table, names, root, context, world, stack, point, completion,
+            )
         }
         Answer::Resumes => {
             resume::<T, W>(alloc, table, names, root, context, world, stack, point)
@@ -142,7 +155,9 @@ fn step_leaf<T: Rows, W: World>(
         Answer::Follows => went_of(follow_leaf(table, root, stack, point, form, reduced)),
         Answer::Raises(value) => raise(context, point, value),
         Answer::Travels(completion) => {
-            travel::<T, W>(alloc, table, names, root, context, world, stack, point, completion)
+            travel::<T, W>(
+                alloc, table, names, root, context, world, stack, point, completion,
+            )
         }
         Answer::Resumes => went_of(give(table, stack, point, Value::Undefined)),
         Answer::Prints => print(table, stack, point, Vec::new(alloc)),
@@ -178,7 +193,9 @@ pub fn step<T: Rows, W: World>(
         }
         Point::Stands(value, place) => {
             let thrown = Completion::Throws(value, place);
-            travel::<T, W>(alloc, table, names, root, context, world, stack, point, thrown)
+            travel::<T, W>(
+                alloc, table, names, root, context, world, stack, point, thrown,
+            )
         }
         Point::Done(_) => Stepped::Memory,
     }

@@ -2,7 +2,6 @@
 
 ghost use Rattle.std.specs.Prelude.{◌≡◌, ℕ, List, Some, OnOk};
 ghost use Rattle.js_heap.specs.declared.value.Addr.{Addr as AnyAddr};
-ghost use Rattle.js_semantics.specs.declared.form.Completion.TheVariants.{Throws as throws};
 ghost use Rattle.js_semantics.specs.declared.form.Form.TheVariants.{Ending as ending};
 ghost use Rattle.js_semantics.specs.Terms.{done, end, settled};
 ghost use Rattle.js_semantics.specs.State.{travels};
@@ -68,7 +67,15 @@ fn keep(
     };
     stack.pop();
     let kept = Extra::Kept(completion);
-    stack.push_with(Op::Ending, 1, task.mid, task.end, task.end, task.inner, kept)?;
+    stack.push_with(
+        Op::Ending,
+        1,
+        task.mid,
+        task.end,
+        task.end,
+        task.inner,
+        kept,
+    )?;
     proceed(table, stack, point)
 }
 
@@ -118,7 +125,16 @@ fn catch_throw<T: Rows, W: World>(
         inner: task.inner,
     };
     let reduced = T::catch(alloc, table, names, context, world, form, thrown);
-    conclude(alloc, table, root, context, stack, point, reduced, answer_of(reduced))
+    conclude(
+        alloc,
+        table,
+        root,
+        context,
+        stack,
+        point,
+        reduced,
+        answer_of(reduced),
+    )
 }
 
 /// What the innermost task makes of a completion that it takes so.

@@ -1,10 +1,9 @@
-use Rattle.std.proofs.lemmas.Result.{on_ok_weaker}
 use Rattle.js_operations.specs.Contexts.{state_of}
 use Rattle.js_steps.specs.declared.answer.Answer.TheVariants as kinds
 use Rattle.js_steps.specs.Stacks.{outer_of}
 use Rattle.js_steps.specs.Following.{innermost}
 use Rattle.js_steps.specs.Answers.{reduced_term}
-use Rattle.js_steps.proofs.ConcludeLemmas.{says-as, went-told, told-popped, raise-told, effect-told, full-told, goes-on-weaker}
+use Rattle.js_steps.proofs.ConcludeLemmas.{says-as, went-follows, told-popped, raise-told, effect-told, full-told, goes-on-weaker}
 use Rattle.js_steps.proofs.concluding.conclude.Goals as goal
 
 pub returns-in-Follows-clause-told : goal.returns-in-Follows-clause-told
@@ -12,9 +11,9 @@ returns-in-Follows-clause-told c = λ ts m w taken h.
     let t = c.args.table.now in
     let old = c.args.stack.now in
     let s = state_of w c.args.context.now taken in
-    went-told c.follow.result c.went_of.result ts t c.args.root (outer_of old) c.follow.new.stack c.follow.new.point m (reduced_term ts t (innermost old) c.args.reduced) s c.went_of.ensures
+    went-follows c.follow.result c.went_of.result ts t c.args.root (outer_of old) c.follow.new.stack c.follow.new.point m (λ names. reduced_term names t (innermost old) c.args.reduced) s c.went_of.ensures
     (says-as ts t (innermost old) m c.args.reduced c.args.answer kinds.Follows s c.in-Follows.is h)
-    (on_ok_weaker c.follow.result (λ f. f ts) c.follow.ensures.term)
+    c.follow.ensures.term
 
 pub returns-in-Raises-clause-told : goal.returns-in-Raises-clause-told
 returns-in-Raises-clause-told c = λ ts m w taken h.

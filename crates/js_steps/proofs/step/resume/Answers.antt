@@ -1,7 +1,5 @@
 use Rattle.std.proofs.Common.{refl, None}
 use Rattle.js_operations.specs.Contexts.{state_of}
-use Rattle.js_semantics.specs.State.{Move}
-use Rattle.js_semantics.specs.Terms.{Term}
 use Rattle.js_steps.specs.Answers.{resumed}
 use Rattle.js_steps.specs.Tasks.{kept_of}
 use Rattle.js_steps.specs.Following.{innermost}

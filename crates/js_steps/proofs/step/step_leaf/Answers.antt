@@ -8,7 +8,7 @@ use Rattle.js_steps.specs.declared.answer.Answer.TheVariants as kinds
 use Rattle.js_steps.specs.declared.stepped.Stepped.TheVariants as steppeds
 use Rattle.js_steps.specs.Answers.{reduced_term}
 use Rattle.js_steps.specs.Rows.{redex}
-use Rattle.js_steps.proofs.ConcludeLemmas.{says-as, went-told, went-stands, raise-told, effect-told, full-told, goes-on-weaker}
+use Rattle.js_steps.proofs.ConcludeLemmas.{says-as, went-follows, went-stands, raise-told, effect-told, full-told, goes-on-weaker}
 use Rattle.js_steps.proofs.TravelLemmas.{went-stood}
 use Rattle.js_steps.proofs.StepLemmas.{node_redex, leaf-told, leaf-scope, told-same, nothing-told}
 use Rattle.js_steps.proofs.step.step_leaf.Goals as goal
@@ -26,7 +26,7 @@ returns-in-Follows-clause-told g c = λ taken.
     let u = state_of (g.W.World.world ts c.reduce-reduced.new.world) c.reduce-reduced.new.context taken in
     leaf-told ts t root old c.follow_leaf.new.stack c.follow_leaf.new.point c.args.n c.in-Some.node c.scope.result r a c.went_of.result s u u c.requires.table (sym c.in-Some.ensures) c.requires.leaf c.scope.ensures c.requires.scoped c.answer_of.ensures
     (λ outer. c.reduce-reduced.ensures outer taken)
-    (λ m h. went-told c.follow_leaf.result c.went_of.result ts t root old c.follow_leaf.new.stack c.follow_leaf.new.point m (reduced_term ts t w r) u c.went_of.ensures (says-as ts t w m r a kinds.Follows u c.in-Follows.is h) (on_ok_weaker c.follow_leaf.result (λ f. f ts) c.follow_leaf.ensures.term))
+    (λ m h. went-follows c.follow_leaf.result c.went_of.result ts t root old c.follow_leaf.new.stack c.follow_leaf.new.point m (λ names. reduced_term names t w r) u c.went_of.ensures (says-as ts t w m r a kinds.Follows u c.in-Follows.is h) c.follow_leaf.ensures.term)
 
 pub returns-in-Follows-clause-stands : goal.returns-in-Follows-clause-stands
 returns-in-Follows-clause-stands g c = goes-on-weaker c.went_of.result (λ k. k c.requires.scoped) (went-stands c.follow_leaf.result c.went_of.result c.args.table.now c.args.root c.args.stack.now c.follow_leaf.new.stack c.follow_leaf.new.point c.went_of.ensures c.follow_leaf.ensures.at

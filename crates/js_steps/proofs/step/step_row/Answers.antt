@@ -43,12 +43,12 @@ returns-in-Resumes-clause-told g c = λ taken.
 pub returns-in_default-answer_of : goal.returns-in_default-answer_of
 returns-in_default-answer_of g c = record {
   told = λ taken.
-    let ts = c.args.names.now in
-    let w = g.W.World.world ts c.reduce-reduced.new.world in
-    let s = state_of (g.W.World.world ts c.args.world.now) c.args.context.now taken in
-    let u = state_of w c.reduce-reduced.new.context taken in
-    row-told ts c.args.table.now c.args.root c.args.stack.now c.conclude.new.stack c.conclude.new.point c.in-Some.task c.values.result.now c.extra-extra.result c.reduce-reduced.result c.answer_of.result c.conclude.result s u u c.in-Some.ensures.some c.requires.row c.requires.scoped c.values.ensures c.extra-extra.ensures c.answer_of.ensures
-    (λ outer. c.reduce-reduced.ensures outer taken)
-    (λ m h. c.conclude.ensures.told ts m w taken h);
+      let ts = c.args.names.now in
+      let w = g.W.World.world ts c.reduce-reduced.new.world in
+      let s = state_of (g.W.World.world ts c.args.world.now) c.args.context.now taken in
+      let u = state_of w c.reduce-reduced.new.context taken in
+      row-told ts c.args.table.now c.args.root c.args.stack.now c.conclude.new.stack c.conclude.new.point c.in-Some.task c.values.result.now c.extra-extra.result c.reduce-reduced.result c.answer_of.result c.conclude.result s u u c.in-Some.ensures.some c.requires.row c.requires.scoped c.values.ensures c.extra-extra.ensures c.answer_of.ensures
+      (λ outer. c.reduce-reduced.ensures outer taken)
+      (λ m h. c.conclude.ensures.told ts m w taken h);
   stands = goes-on-weaker c.conclude.result (λ k. k c.requires.scoped) c.conclude.ensures.stands;
 }

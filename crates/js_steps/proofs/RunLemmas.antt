@@ -1,0 +1,150 @@
+-- Steps one after another.
+use Rattle.std.proofs.Common.{◌≡◌, ℕ, zero, suc, ◌+◌, false, List, [], ◌∷◌, Option, None, Some, slice_get, refl, sym, ap, subst, ◌∙◌, add-one}
+use Rattle.js_heap.specs.declared.value.Addr.{Addr}
+use Rattle.js_heap.specs.declared.value.Value.{Value}
+use Rattle.js_heap.specs.World.{World}
+use Rattle.js_semantics.specs.Terms.{Term, done, standing, part, is_done}
+use Rattle.js_semantics.specs.State.{State, Move, goes, travels, has_effect, is_full}
+use Rattle.js_semantics.specs.Functions.{Program}
+use Rattle.js_semantics.specs.Next.{next}
+use Rattle.js_semantics.specs.Run.{Run, over, run_of, run_after, step_in, steps_in}
+use Rattle.js_operations.specs.Contexts.{Context, state_of}
+use Rattle.js_code.specs.declared.node.Node.{Node}
+use Rattle.js_code.specs.declared.table.NodeTable.{NodeTable}
+use Rattle.js_code.specs.Trees.{tree, program_of}
+use Rattle.js_steps.specs.declared.run.Why.{Why}
+use Rattle.js_steps.specs.declared.stepped.Finish.{Finish}
+use Rattle.js_steps.specs.declared.stepped.Finish.TheVariants as finishes
+use Rattle.js_steps.specs.declared.stepped.Stepped.{Stepped}
+use Rattle.js_steps.specs.declared.stepped.Stepped.TheVariants as steppeds
+use Rattle.js_steps.specs.declared.task.Point.{Point}
+use Rattle.js_steps.specs.declared.task.Point.TheVariants as points
+use Rattle.js_steps.specs.Gaps.{Gap, filled, plugged}
+use Rattle.js_steps.specs.Tasks.{Wide, gaps_of, redex_of}
+use Rattle.js_steps.specs.Points.{term_at, IsAt, IsLeafAt}
+use Rattle.js_steps.specs.Parts.{IsOpen}
+use Rattle.js_steps.specs.Running.{why_of, RunsTo, IfGoes, HasRun}
+use Rattle.js_steps.specs.Stepping.{Tells, EndsSo, finish_of, IfGoesOn, StandsIn, IsGoing}
+use Rattle.js_steps.proofs.TreeLemmas.{open-tree}
+
+-- ---- one step more
+
+steps_last : (k : ℕ) (p : Program) (a : Addr) (r : Run) → steps_in (suc k) p a r ≡ step_in p a (steps_in k p a r)
+steps_last zero p a r = refl
+steps_last (suc k) p a r = steps_last k p a (step_in p a r)
+
+one_more : (k : ℕ) (p : Program) (a : Addr) (r : Run) → steps_in (k + 1) p a r ≡ step_in p a (steps_in k p a r)
+one_more k p a r = rw add-one (steps_last k p a r)
+
+-- ---- where something is left to reduce, the run isn't over
+
+plugged_open : (gs : List Gap) (t : Term) → is_done t ≡ false → is_done (plugged gs t) ≡ false
+plugged_open [] t h = h
+plugged_open (g ∷ gs) t h = plugged_open gs (filled g t) refl
+
+leaf_open : (o : Option Node) → IsLeafAt o → IsOpen o
+leaf_open None h = h
+leaf_open (Some node) h = h.value
+
+at_open : (ts : List (List ℕ)) (t : NodeTable) (ws : List Wide) (p : Point) → IsAt t ws p → IsGoing p → is_done (term_at ts t ws p) ≡ false
+unfolding term_at
+at_open ts t [] points.Row h g = absurd h
+at_open ts t (w ∷ ws) points.Row h g = plugged_open (gaps_of ts t ws) (redex_of ts t w) refl
+at_open ts t ws (points.Leaf n) h g = plugged_open (gaps_of ts t ws) (tree ts t n) (open-tree ts t n (leaf_open (slice_get t.nodes.items n) h))
+at_open ts t ws (points.Stands v place) h g = plugged_open (gaps_of ts t ws) (standing v place) refl
+at_open ts t ws (points.Done v) h g = absurd g
+
+step_of : (p : Program) (a : Addr) (t : Term) (s : State) → is_done t ≡ false → step_in p a (run_of t s) ≡ run_after (next p a t s)
+step_of p a (done v) s h = cc
+step_of p a (standing v place) s h = refl
+step_of p a (part f now later) s h = refl
+
+pub going : (p : Point) → ((v : Value) → p ≡ points.Done v → ⊥) → IsGoing p
+going points.Row h = tt
+going (points.Leaf n) h = tt
+going (points.Stands v place) h = tt
+going (points.Done v) h = h v refl
+
+-- ---- what a step tells
+
+abbrev RunsBy : Run → Option Why → Term → State → Type 0
+RunsBy r None t s = r ≡ run_of t s
+RunsBy r (Some why) t s = RunsTo r why t s
+
+ends_run : (m : Move Term) (f : Finish) (s : State) → EndsSo m f s → run_after m ≡ over (finish_of f) s
+ends_run (travels c u) f s h = ap (λ x. over x u) h.0 ∙ ap (over (finish_of f)) h.1
+ends_run (goes t u told) f s h = absurd h
+ends_run (has_effect u) f s h = absurd h
+ends_run (is_full what u) f s h = absurd h
+
+told_runs : (m : Move Term) (stepped : Stepped) (t : Term) (s : State) → Tells m stepped t s → RunsBy (run_after m) (why_of stepped) t s
+told_runs m steppeds.Went t s h = ap run_after h
+told_runs m steppeds.Raised t s h = ap run_after h
+told_runs m (steppeds.Printed vs) t s h = ap run_after h
+told_runs m (steppeds.Over f) t s h = ends_run m f s h
+told_runs m steppeds.Effect t s h = ap run_after h
+told_runs m (steppeds.Full what) t s h = ap run_after h
+told_runs m steppeds.Memory t s h = tt
+
+-- ---- the loop
+
+pub runs-init : (ts : List (List ℕ)) (t : NodeTable) (root : Addr) (ws : List Wide) (p : Point) (w : World) (c : Context) → StandsIn t root ws p → HasRun ts t root ws p w c 0 ws p w c
+runs-init ts t root ws p w c h = record { runs = λ taken. refl; stands = h }
+
+runs_by : (ts : List (List ℕ)) (t : NodeTable) (root : Addr) (ws : List Wide) (p : Point) (w : World) (c : Context) (k : ℕ) (vs us : List Wide) (q o : Point) (v x : World) (d e : Context) (stepped : Stepped) (b : Option Why) → HasRun ts t root ws p w c k vs q v d → IsGoing q → why_of stepped ≡ b → (taken : List (List ℕ)) → Tells (next (program_of ts t) root (term_at ts t vs q) (state_of v d taken)) stepped (term_at ts t us o) (state_of x e taken) → RunsBy (steps_in (k + 1) (program_of ts t) root (run_of (term_at ts t ws p) (state_of w c taken))) b (term_at ts t us o) (state_of x e taken)
+runs_by ts t root ws p w c k vs us q o v x d e stepped b h g y taken told =
+    let P : Option Why → Type 0 = λ z. RunsBy (steps_in (k + 1) (program_of ts t) root (run_of (term_at ts t ws p) (state_of w c taken))) z (term_at ts t us o) (state_of x e taken) in
+    let Q : Run → Type 0 = λ r. RunsBy r (why_of stepped) (term_at ts t us o) (state_of x e taken) in
+    let f = one_more k (program_of ts t) root (run_of (term_at ts t ws p) (state_of w c taken)) ∙ ap (step_in (program_of ts t) root) (h.runs taken) ∙ step_of (program_of ts t) root (term_at ts t vs q) (state_of v d taken) (at_open ts t vs q h.stands.at g) in
+    subst P y (subst Q (sym f) (told_runs (next (program_of ts t) root (term_at ts t vs q) (state_of v d taken)) stepped (term_at ts t us o) (state_of x e taken) told))
+
+-- a step after which it stops
+pub stop-runs : (ts : List (List ℕ)) (t : NodeTable) (root : Addr) (ws : List Wide) (p : Point) (w : World) (c : Context) (k : ℕ) (vs us : List Wide) (q o : Point) (v x : World) (d e : Context) (stepped : Stepped) (why : Why) → HasRun ts t root ws p w c k vs q v d → IsGoing q → why_of stepped ≡ Some why → (taken : List (List ℕ)) → Tells (next (program_of ts t) root (term_at ts t vs q) (state_of v d taken)) stepped (term_at ts t us o) (state_of x e taken) → RunsTo (steps_in (k + 1) (program_of ts t) root (run_of (term_at ts t ws p) (state_of w c taken))) why (term_at ts t us o) (state_of x e taken)
+stop-runs ts t root ws p w c k vs us q o v x d e stepped why h g y taken told = runs_by ts t root ws p w c k vs us q o v x d e stepped (Some why) h g y taken told
+
+went_stands : (stepped : Stepped) (P : Type 0) → why_of stepped ≡ None → IfGoesOn stepped P → P
+went_stands steppeds.Went P e h = h
+went_stands steppeds.Raised P e h = h
+went_stands (steppeds.Printed vs) P e h = h
+went_stands (steppeds.Over f) P e h = cc
+went_stands steppeds.Effect P e h = cc
+went_stands (steppeds.Full what) P e h = cc
+went_stands steppeds.Memory P e h = cc
+
+-- a step after which it goes on
+pub next-runs : (ts : List (List ℕ)) (t : NodeTable) (root : Addr) (ws : List Wide) (p : Point) (w : World) (c : Context) (k : ℕ) (vs us : List Wide) (q o : Point) (v x : World) (d e : Context) (stepped : Stepped) → HasRun ts t root ws p w c k vs q v d → IsGoing q → why_of stepped ≡ None → ((taken : List (List ℕ)) → Tells (next (program_of ts t) root (term_at ts t vs q) (state_of v d taken)) stepped (term_at ts t us o) (state_of x e taken)) → IfGoesOn stepped (StandsIn t root us o) → HasRun ts t root ws p w c (k + 1) us o x e
+next-runs ts t root ws p w c k vs us q o v x d e stepped h g y told s = record {
+  runs = λ taken. runs_by ts t root ws p w c k vs us q o v x d e stepped None h g y taken (told taken);
+  stands = went_stands stepped (StandsIn t root us o) y s;
+}
+
+abbrev IfGoesBy : Option Why → Type 0 → Type 0
+IfGoesBy None P = Unit {0}
+IfGoesBy (Some why) P = IfGoes why P
+
+goes_by : (stepped : Stepped) (P : Type 0) → IfGoesOn stepped P → IfGoesBy (why_of stepped) P
+goes_by steppeds.Went P h = tt
+goes_by steppeds.Raised P h = h
+goes_by (steppeds.Printed vs) P h = h
+goes_by (steppeds.Over f) P h = tt
+goes_by steppeds.Effect P h = tt
+goes_by (steppeds.Full what) P h = tt
+goes_by steppeds.Memory P h = tt
+
+pub stop-stands : (t : NodeTable) (root : Addr) (ws : List Wide) (p : Point) (stepped : Stepped) (why : Why) → why_of stepped ≡ Some why → IfGoesOn stepped (StandsIn t root ws p) → IfGoes why (StandsIn t root ws p)
+stop-stands t root ws p stepped why e h =
+    let Q : Option Why → Type 0 = λ x. IfGoesBy x (StandsIn t root ws p) in
+    subst Q e (goes_by stepped (StandsIn t root ws p) h)
+
+done_at : (ts : List (List ℕ)) (t : NodeTable) (v : Value) → term_at ts t [] (points.Done v) ≡ done v
+unfolding term_at
+done_at ts t v = refl
+
+-- nothing is left to reduce
+pub done-runs : (ts : List (List ℕ)) (t : NodeTable) (root : Addr) (ws : List Wide) (p : Point) (w : World) (c : Context) (k : ℕ) (vs : List Wide) (q : Point) (v : World) (d : Context) (value : Value) → HasRun ts t root ws p w c k vs q v d → q ≡ points.Done value → (taken : List (List ℕ)) → steps_in k (program_of ts t) root (run_of (term_at ts t ws p) (state_of w c taken)) ≡ over (finish_of (finishes.Ended value)) (state_of v d taken)
+done-runs ts t root ws p w c k vs q v d value h e taken =
+    let P : Point → Type 0 = IsAt t vs in
+    h.runs taken
+    ∙ ap (λ x. run_of (term_at ts t vs x) (state_of v d taken)) e
+    ∙ ap (λ x. run_of (term_at ts t x (points.Done value)) (state_of v d taken)) (subst P e h.stands.at)
+    ∙ ap (λ x. run_of x (state_of v d taken)) (done_at ts t value)

@@ -1,0 +1,49 @@
+-- What a run of steps tells.
+use Rattle.std.specs.Prelude.{◌≡◌, ℕ, List, Option, Some, None}
+use Rattle.js_heap.specs.declared.value.Addr.{Addr}
+use Rattle.js_heap.specs.World.{World}
+use Rattle.js_semantics.specs.Terms.{Term}
+use Rattle.js_semantics.specs.State.{State}
+use Rattle.js_semantics.specs.Run.{Run, over, by_effect, by_full, run_of, steps_in}
+use Rattle.js_operations.specs.Contexts.{Context, state_of}
+use Rattle.js_code.specs.declared.table.NodeTable.{NodeTable}
+use Rattle.js_code.specs.Trees.{program_of}
+use Rattle.js_steps.specs.declared.run.Why.{Why}
+use Rattle.js_steps.specs.declared.run.Why.TheVariants as whys
+use Rattle.js_steps.specs.declared.stepped.Stepped.{Stepped}
+use Rattle.js_steps.specs.declared.stepped.Stepped.TheVariants as steppeds
+use Rattle.js_steps.specs.declared.task.Point.{Point}
+use Rattle.js_steps.specs.Tasks.{Wide}
+use Rattle.js_steps.specs.Points.{term_at}
+use Rattle.js_steps.specs.Stepping.{finish_of, StandsIn}
+
+-- why a run stops behind a step
+abbrev pub why_of : Stepped → Option Why
+why_of steppeds.Went = None
+why_of steppeds.Raised = Some whys.Raised
+why_of (steppeds.Printed vs) = Some (whys.Printed vs)
+why_of (steppeds.Over f) = Some (whys.Over f)
+why_of steppeds.Effect = Some whys.Effect
+why_of (steppeds.Full what) = Some (whys.Full what)
+why_of steppeds.Memory = Some whys.Memory
+
+-- the run that it has come to, where it stops for this reason with that term and state; want of memory says nothing
+abbrev pub RunsTo : Run → Why → Term → State → Type 0
+RunsTo r whys.Memory t s = Unit {0}
+RunsTo r (whys.Over f) t s = r ≡ over (finish_of f) s
+RunsTo r whys.Effect t s = r ≡ over by_effect s
+RunsTo r (whys.Full what) t s = r ≡ over (by_full what) s
+RunsTo r why t s = r ≡ run_of t s
+
+-- this holds where it may go on
+abbrev pub IfGoes : Why → Type 0 → Type 0
+IfGoes whys.Memory P = Unit {0}
+IfGoes (whys.Over f) P = Unit {0}
+IfGoes whys.Effect P = Unit {0}
+IfGoes (whys.Full what) P = Unit {0}
+IfGoes why P = P
+
+-- after so many steps a machine stands so
+pub record HasRun (ts : List (List ℕ)) (t : NodeTable) (root : Addr) (ws : List Wide) (p : Point) (w : World) (c : Context) (k : ℕ) (vs : List Wide) (q : Point) (v : World) (d : Context) : Type 0 where
+  pub runs : (taken : List (List ℕ)) → steps_in k (program_of ts t) root (run_of (term_at ts t ws p) (state_of w c taken)) ≡ run_of (term_at ts t vs q) (state_of v d taken)
+  pub stands : StandsIn t root vs q

@@ -1,0 +1,120 @@
+//! Steps one after another.
+
+ghost use Rattle.std.specs.Prelude.{◌≡◌, ◌≤◌, ℕ, List};
+ghost use Rattle.js_semantics.specs.Run.{steps_in, run_of};
+ghost use Rattle.js_operations.specs.Contexts.{state_of};
+ghost use Rattle.js_code.specs.Codes.{HasFunctions};
+ghost use Rattle.js_code.specs.Trees.{program_of, IsTable};
+ghost use Rattle.js_steps.specs.Points.{term_at};
+ghost use Rattle.js_steps.specs.Running.{why_of, RunsTo, IfGoes};
+ghost use Rattle.js_steps.specs.Stepping.{StandsIn};
+
+use crate::rows::Rows;
+use crate::stack::Stack;
+use crate::step::step;
+use crate::stepped::{Finish, Stepped};
+use crate::task::Point;
+use js_code::table::NodeTable;
+use js_heap::change::Counted;
+use js_heap::value::{Addr, Value};
+use js_operations::context::Context;
+use js_world::names::Names;
+use js_world::world::World;
+use std::alloc::Global;
+
+/// Who is asked after each step that goes on whether the run stops there.
+pub trait Asks {
+    /// Whether the run stops where the machine stands now.
+    fn asks(&mut self, table: &NodeTable, context: &Context, stack: &Stack, point: Point) -> bool;
+}
+
+/// Why a run stops.
+#[derive(Debug, Drop)]
+pub enum Why {
+    /// It was asked to.
+    Asked,
+    /// It has made as many steps as it may.
+    Spent,
+    /// A throw was raised, and stands.
+    Raised,
+    /// Values were printed.
+    Printed(Vec<Value>),
+    /// It has ended.
+    Over(Finish),
+    /// An evaluation ended: it would have reached what isn't its own.
+    Effect,
+    /// An evaluation ended: it would have passed a limit.
+    Full(Counted),
+    /// There was no memory for the last step.
+    Memory,
+}
+
+/// How many steps a run made, and why it stops.
+#[derive(Debug, Drop)]
+pub struct Ran {
+    pub steps: u64,
+    pub why: Why,
+}
+
+/// Why a run stops behind a step; None where it goes on.
+#[inline]
+fn why_of(stepped: Stepped) -> Option<Why>
+    ensures { result ≡ why_of stepped }
+{
+    match stepped {
+        Stepped::Went => None,
+        Stepped::Raised => Some(Why::Raised),
+        Stepped::Printed(values) => Some(Why::Printed(values)),
+        Stepped::Over(finish) => Some(Why::Over(finish)),
+        Stepped::Effect => Some(Why::Effect),
+        Stepped::Full(what) => Some(Why::Full(what)),
+        Stepped::Memory => Some(Why::Memory),
+    }
+}
+
+/// Steps until the host asks for a stop, until a raise, a print or the end, or until so many.
+pub fn run<T: Rows, W: World, H: Asks>(
+    alloc: Global,
+    table: &NodeTable,
+    names: &Names,
+    root: Addr,
+    context: &mut Context,
+    world: &mut W,
+    stack: &mut Stack,
+    point: &mut Point,
+    most: u64,
+    host: &mut H,
+) -> Ran
+    requires table { IsTable table.now }
+    requires functions { HasFunctions table.now }
+    requires stands { StandsIn table.now root stack.old point.old }
+    ensures told { (taken : List (List ℕ)) → RunsTo (steps_in result.steps (program_of names.now table.now) root (run_of (term_at names.now table.now stack.old point.old) (state_of (W.world names.now world.old) context.old taken))) result.why (term_at names.now table.now stack.new point.new) (state_of (W.world names.now world.new) context.new taken) }
+    ensures stands { IfGoes result.why (StandsIn table.now root stack.new point.new) }
+    ensures within { result.steps ≤ most }
+{
+    for steps in 0..most {
+        if let Point::Done(value) = *point {
+            return Ran {
+                steps,
+                why: Why::Over(Finish::Ended(value)),
+            };
+        }
+        let stepped = step::<T, W>(alloc, table, names, root, context, world, stack, point);
+        if let Some(why) = why_of(stepped) {
+            return Ran {
+                steps: steps + 1,
+                why,
+            };
+        }
+        if host.asks(table, context, stack, *point) {
+            return Ran {
+                steps: steps + 1,
+                why: Why::Asked,
+            };
+        }
+    }
+    Ran {
+        steps: most,
+        why: Why::Spent,
+    }
+}
