@@ -16,3 +16,4 @@ pub mod StatementLemmas
 pub mod LoopLemmas
 pub mod LiteralLemmas
 pub mod TableLemmas
+pub mod ArmLemmas

@@ -7,3 +7,4 @@ pub mod Calls
 pub mod Simple
 pub mod Over
 pub mod Updates
+pub mod Table

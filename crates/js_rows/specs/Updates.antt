@@ -1,13 +1,17 @@
 -- What an update of a value comes to.
-use Rattle.std.specs.Prelude.{ℕ, Bool, List, [], ◌∷◌, Option, Some, None}
+use Rattle.std.specs.Prelude.{ℕ, Bool, List, [], ◌∷◌, Option, Some, None, Result, Ok, Err}
 use Rattle.js_tree.specs.declared.operator.UpdateOperator.{UpdateOperator}
 use Rattle.js_heap.specs.declared.value.Value.{Value}
 use Rattle.js_heap.specs.declared.value.Value.TheVariants as values
+use Rattle.js_heap.specs.declared.computed.Computed.TheVariants.{Value as a_value}
 use Rattle.js_heap.specs.Properties.{bad_key, property_of, property_written}
 use Rattle.js_heap.specs.Values.{key_of}
 use Rattle.js_heap.specs.World.{World}
 use Rattle.js_semantics.specs.State.{Action, give, fail}
-use Rattle.js_semantics.specs.References.{with_result, with_written}
+use Rattle.js_semantics.specs.References.{Found, value_of_found, name_written, with_result, with_written}
+use Rattle.js_heap.specs.Operators.{update_result}
+use Rattle.js_operations.specs.declared.stop.Stop.{Stop}
+use Rattle.js_operations.specs.declared.stop.Stop.TheVariants.{Memory}
 use Rattle.js_semantics.specs.Rows.{updated_by, update_value}
 use Rattle.js_rows.specs.declared.updates.Update.{Update}
 use Rattle.js_rows.specs.declared.updates.Update.TheVariants.{To, Fails}
@@ -32,9 +36,23 @@ index_updated w o prefix v i = keyed_updated w o prefix v (key_of w i)
 -- of the first value
 abbrev pub member_updated : World → UpdateOperator → Bool → List Value → List ℕ → Action
 member_updated w o prefix (v ∷ vs) key = property_updated w o prefix v key
-member_updated w o prefix [] key = give values.Undefined
+member_updated w o prefix [] key = updated_by o (a_value values.Undefined) (λ old new. give values.Undefined)
 
 -- and by the second
 abbrev pub element_updated : World → UpdateOperator → Bool → List Value → Action
 element_updated w o prefix (v ∷ i ∷ vs) = index_updated w o prefix v i
-element_updated w o prefix _ = give values.Undefined
+element_updated w o prefix _ = updated_by o (a_value values.Undefined) (λ old new. give values.Undefined)
+
+-- ---- names
+
+-- a name with this value is updated
+abbrev pub old_updated : UpdateOperator → Bool → List ℕ → Option Found → Value → Action
+old_updated o prefix name f old = with_result (update_result o old) (λ new. with_written (name_written name f new) (give (update_value prefix old new)))
+
+abbrev pub name_updated : UpdateOperator → Bool → List ℕ → Option Found → Action
+name_updated o prefix name f = updated_by o (value_of_found name f) (λ old new. with_written (name_written name f new) (give (update_value prefix old new)))
+
+-- the end of a reading that gives no value
+abbrev pub unread : Result Value Stop → Stop
+unread (Ok v) = Memory
+unread (Err e) = e

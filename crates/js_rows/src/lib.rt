@@ -17,6 +17,7 @@ pub mod reading;
 pub mod scopes;
 pub mod simple;
 pub mod statements;
+pub mod table;
 pub mod updates;
 pub mod values;
 pub mod writing;

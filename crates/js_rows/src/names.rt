@@ -91,7 +91,7 @@ pub fn typeof_name<W: World>(
 
 /// The place of a name that may be given a value: one that isn't constant and has a value (9.1.1.1.5).
 #[inline(always)]
-fn open_slot(found: Option<FoundSlot>) -> Option<FoundSlot>
+pub fn open_slot(found: Option<FoundSlot>) -> Option<FoundSlot>
     ensures { result ≡ open_slot found }
 {
     match found {

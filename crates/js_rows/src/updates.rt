@@ -6,15 +6,16 @@ ghost use Rattle.js_heap.specs.declared.computed.Computed.TheVariants.{Value as 
 ghost use Rattle.js_heap.specs.Operators.{update_result};
 ghost use Rattle.js_heap.specs.Properties.{property_of, property_written};
 ghost use Rattle.js_semantics.specs.State.{Action, give};
-ghost use Rattle.js_semantics.specs.References.{with_result, with_written};
+ghost use Rattle.js_semantics.specs.References.{found, with_result, with_written};
 ghost use Rattle.js_semantics.specs.Rows.{updated_by, update_value};
 ghost use Rattle.js_code.specs.Ops.{operator_of, is_prefix};
 ghost use Rattle.js_world.specs.Names.{name_of};
 ghost use Rattle.js_operations.specs.Flow.{Gives};
 ghost use Rattle.js_rows.specs.Does.{Replies};
-ghost use Rattle.js_rows.specs.Updates.{on_update, property_updated, index_updated, member_updated, element_updated};
+ghost use Rattle.js_rows.specs.Updates.{on_update, property_updated, index_updated, member_updated, element_updated, old_updated, name_updated, unread};
 
 use crate::answers::{replied, replied_with};
+use crate::names::{open_slot, value_of_name};
 use crate::operators::{is_safe, quick_result};
 use crate::reading::{value_of_index, value_of_member};
 use crate::values::value_at;
@@ -23,8 +24,10 @@ use cdp_text::units::Units;
 use js_code::op::UpdateKind;
 use js_heap::built_in::ErrorClass;
 use js_heap::computed::Computed;
-use js_heap::value::Value;
+use js_heap::value::{Addr, Value};
+use js_operations::cells::bind_at;
 use js_operations::errors::{bad_key, fail};
+use js_operations::names::{get_name, put_name};
 use js_operations::properties::put_property;
 use js_operations::seen::Seen;
 use js_operations::stop::Stop;
@@ -33,6 +36,7 @@ use js_tree::operator::{BinaryOperator, UpdateOperator};
 use js_values::operators::{key_of, update_result};
 use js_values::properties::property_of;
 use js_values::text::ascii;
+use js_world::lookup::lookup;
 use js_world::names::{NameId, Names};
 use js_world::world::World;
 use std::alloc::{AllocError, Global};
@@ -293,4 +297,86 @@ pub fn update_index<W: World>(
         return Reduced::Memory;
     };
     update_index_of(alloc, world, names, operator, prefix, object, index)
+}
+
+// ---- rows of names
+
+/// `++` and `--` of a name with this value.
+fn update_old_name<W: World>(
+    alloc: Global,
+    world: &mut W,
+    names: &Names,
+    operator: UpdateOperator,
+    prefix: bool,
+    scope: Addr,
+    name: NameId,
+    old: Value,
+) -> Result<Value, Stop>
+    ensures { Gives (old_updated operator prefix (name_of names.now name.number) (found (W.world names.now world.old) scope (name_of names.now name.number)) old) (W.world names.now world.old) result (W.world names.now world.new) }
+{
+    match updated_value(alloc, operator, old)? {
+        Update::To(old, new) => {
+            put_name(alloc, world, names, scope, name, new)?;
+            Ok(update_value(prefix, old, new))
+        }
+        Update::Fails(class, message) => Err(fail(alloc, world, names, class, message)),
+    }
+}
+
+/// The end of a reading that gives no value.
+fn unread(outcome: Result<Value, Stop>) -> Stop
+    ensures { result ≡ unread outcome }
+{
+    match outcome {
+        Ok(_) => Stop::Memory,
+        Err(stop) => stop,
+    }
+}
+
+#[cold]
+#[inline(never)]
+fn update_name_slowly<W: World>(
+    alloc: Global,
+    world: &mut W,
+    names: &Names,
+    operator: UpdateOperator,
+    prefix: bool,
+    scope: Addr,
+    name: NameId,
+) -> Result<Value, Stop>
+    ensures { Gives (name_updated operator prefix (name_of names.now name.number) (found (W.world names.now world.old) scope (name_of names.now name.number))) (W.world names.now world.old) result (W.world names.now world.new) }
+{
+    match value_of_name(world, names, scope, name) {
+        Some(old) => update_old_name(alloc, world, names, operator, prefix, scope, name, old),
+        None => {
+            let outcome = get_name(alloc, world, names, scope, name);
+            Err(unread(outcome))
+        }
+    }
+}
+
+/// `++` and `--` of a name (13.4).
+#[inline(always)]
+pub fn update_name<W: World>(
+    alloc: Global,
+    world: &mut W,
+    names: &Names,
+    operator: UpdateOperator,
+    prefix: bool,
+    scope: Addr,
+    name: NameId,
+) -> Reduced
+    ensures { Replies names.now (name_updated operator prefix (name_of names.now name.number) (found (W.world names.now world.old) scope (name_of names.now name.number))) (W.world names.now world.old) result (W.world names.now world.new) }
+{
+    let found = lookup(world, names, scope, name);
+    if let Some(slot) = open_slot(found) {
+        if let Some(old) = slot.value {
+            if let Some(new) = stepped(operator, old) {
+                let given = update_value(prefix, old, new);
+                let written = bind_at(world, names, slot.scope, slot.place, name, new);
+                return replied_with(written, given);
+            }
+        }
+    }
+    replied(update_name_slowly(alloc, world, names, operator, prefix, scope, name))
 }
