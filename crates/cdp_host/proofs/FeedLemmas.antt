@@ -4,7 +4,7 @@ use Rattle.std.specs.Fmt.{digits, digits_onto, digit_glyph}
 use Rattle.std.specs.List.{list_all}
 use Rattle.std.specs.Option.{option_map_or}
 use Rattle.std.proofs.lemmas.Bool.{and_parts, ne_eqb, eqb-true}
-use Rattle.js_machine.specs.Plain.{plain}
+use Rattle.early_machine.specs.Plain.{plain}
 use Rattle.cdp_host.specs.Command.{Command, command_of, is_method_byte}
 use Rattle.cdp_host.specs.Histories.{Entry, Attach, Tell, Take, Detach, Ran, apply, steps_made}
 use Rattle.cdp_host.specs.Kept.{Session}

@@ -3,7 +3,7 @@ use Rattle.std.proofs.Common.{◌≡◌, ℕ, zero, suc, ◌+◌, ◌<◌, List,
 use Rattle.std.specs.List.{fold}
 use Rattle.std.specs.Option.{option_map, option_map_or}
 use Rattle.std.proofs.lemmas.Bool.{lt-ltb}
-use Rattle.js_machine.specs.Plain.{Configuration, plain, next}
+use Rattle.early_machine.specs.Plain.{Configuration, plain, next}
 use Rattle.cdp_host.specs.Kept.{Session}
 use Rattle.cdp_host.specs.Command.{Command, command_of}
 use Rattle.cdp_host.specs.Messages.{paused_event}

@@ -1,7 +1,7 @@
 -- What a host means at one moment: the program, and what its session keeps.
 use Rattle.std.specs.Prelude.{◌≡◌, ◌⊎◌, ℕ, zero, suc, ◌+◌, ◌<◌, ◌≤◌, List, Bool, true, false, ◌==◌, ◌&&◌, not, is_some, if◌then◌else◌, Option, None}
 use Rattle.std.specs.Option.{option_map, option_map_or}
-use Rattle.js_machine.specs.Plain.{Configuration, start, next, is_finished, is_arrival}
+use Rattle.early_machine.specs.Plain.{Configuration, start, next, is_finished, is_arrival}
 use Rattle.cdp_host.specs.Kept.{Session}
 use Rattle.cdp_host.specs.Session.{stopped}
 

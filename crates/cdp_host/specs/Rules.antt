@@ -1,7 +1,7 @@
 -- What holds of a history, in the words of the run without a debugger.
 use Rattle.std.specs.Prelude.{◌≡◌, ◌<◌, ℕ, ◌+◌, List, [], ◌∷◌, ◌++◌, false, ◌&&◌, nat_lt, if◌then◌else◌, None}
 use Rattle.std.specs.Option.{option_map_or}
-use Rattle.js_machine.specs.Plain.{plain}
+use Rattle.early_machine.specs.Plain.{plain}
 use Rattle.cdp_host.specs.Command.{Command, command_of}
 use Rattle.cdp_host.specs.Messages.{paused_event}
 use Rattle.cdp_host.specs.Session.{answer_of}

@@ -1,7 +1,7 @@
 -- The state that a host tells.
 use Rattle.std.specs.Prelude.{List, if◌then◌else◌, ℕ, []}
 use Rattle.std.specs.Option.{option_map_or}
-use Rattle.js_machine.specs.Plain.{is_finished}
+use Rattle.early_machine.specs.Plain.{is_finished}
 use Rattle.cdp_host.specs.Meaning.{Meaning}
 use Rattle.cdp_host.specs.Histories.{HostState}
 use Rattle.cdp_host.specs.declared.state.State.{State}

@@ -1,6 +1,6 @@
 // The host and its calls, each of which is one entry of its history.
 ghost use Rattle.std.specs.Prelude.{◌≡◌, ◌++◌, ◌∷◌, [], ◌==◌, ◌&&◌, ◌<◌, not, ℕ, List, IfOk, OnOk, OnErr, IsErr, IsTrue, None, Some, map, string_bytes, true, false, is_some, if◌then◌else◌, ◌↔◌};
-ghost use Rattle.js_machine.specs.Plain.{plain, prints};
+ghost use Rattle.early_machine.specs.Plain.{plain, prints};
 ghost use Rattle.cdp_host.specs.Command.{Command as Meant, command_of};
 ghost use Rattle.cdp_host.specs.Kept.{Session as Kept};
 ghost use Rattle.cdp_host.specs.Messages.{refusal_text};
@@ -14,8 +14,8 @@ ghost use Rattle.cdp_host.specs.States.{state_at, outbox_of};
 use crate::command::read_command;
 use crate::session::Session;
 use crate::state::State;
-use js_machine::early::Early;
-use js_machine::machine::Machine;
+use early_machine::early::Early;
+use early_machine::machine::Machine;
 use std::alloc::{AllocError, Global};
 use std::marker::Model;
 

@@ -5,8 +5,8 @@ use Rattle.std.specs.Option.{option_map, option_map_or, option_and_then}
 use Rattle.std.proofs.lemmas.Bool.{and_parts, eqb-true}
 use Rattle.std.proofs.lemmas.Option.{same_Some}
 use Rattle.std.proofs.Math.Seq.{drop-append_seam}
-use Rattle.js_machine.specs.Plain.{plain, prints, next, is_finished}
-use Rattle.js_machine.proofs.PlainRun.{plain-prefix, plain-ended, plain-all}
+use Rattle.early_machine.specs.Plain.{plain, prints, next, is_finished}
+use Rattle.early_machine.proofs.PlainRun.{plain-prefix, plain-ended, plain-all}
 use Rattle.cdp_host.specs.Kept.{Session}
 use Rattle.cdp_host.specs.Command.{Command, command_of}
 use Rattle.cdp_host.specs.Session.{emptied, stopped, answer_of}

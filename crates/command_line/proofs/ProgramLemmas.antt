@@ -4,7 +4,7 @@ use Rattle.std.specs.Option.{option_and_then, unwrap_or}
 use Rattle.cdp_edge.specs.Outside.{Named, content_of, Told, GainsLess}
 use Rattle.cdp_edge.specs.Blame.{Faults}
 use Rattle.cdp_text.specs.Lines.{lines_of}
-use Rattle.js_machine.specs.Early.{early_of}
+use Rattle.early_machine.specs.Early.{early_of}
 use Rattle.cdp_host.specs.Meaning.{begin}
 use Rattle.command_line.specs.declared.outcome.Outcome.{Outcome}
 use Rattle.command_line.specs.declared.outcome.Outcome.TheVariants.{Done, OutOfMemory, Usage, FormNotBuilt, CannotRead, CannotWrite, LineRefused}

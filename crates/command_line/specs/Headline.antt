@@ -4,8 +4,8 @@ use Rattle.std.specs.Option.{option_and_then, unwrap_or}
 use Rattle.cdp_edge.specs.Outside.{Named, content_of}
 use Rattle.cdp_text.specs.Lines.{lines_of}
 use Rattle.cdp_text.specs.Parts.{behind}
-use Rattle.js_machine.specs.Early.{early_of}
-use Rattle.js_machine.specs.Plain.{plain, is_finished}
+use Rattle.early_machine.specs.Early.{early_of}
+use Rattle.early_machine.specs.Plain.{plain, is_finished}
 use Rattle.cdp_host.specs.Meaning.{Meaning, begin, is_attached, is_named}
 use Rattle.cdp_host.specs.Histories.{Entry, Attach, Tell, Take, Detach, Ran, apply, whole, steps_made}
 use Rattle.cdp_host.specs.Rules.{AllStopExactly, texts_at}

@@ -1,7 +1,7 @@
 // The command `replay`, from its files to its end.
 ghost use Rattle.std.specs.Prelude.{◌≡◌, ◌⊎◌};
 ghost use Rattle.cdp_edge.specs.Outside.{Rose, Told, gains, GainsPrefix, GainsLess};
-ghost use Rattle.js_machine.specs.Early.{early_of};
+ghost use Rattle.early_machine.specs.Early.{early_of};
 ghost use Rattle.command_line.specs.Ends.{IsCut};
 ghost use Rattle.command_line.specs.RequestHeld.{request_held};
 ghost use Rattle.command_line.specs.Status.{Because, IsUnplayed, IsWhole, end_over, output_over, output_in};
@@ -11,7 +11,7 @@ use crate::play::play;
 use crate::words::Request;
 use cdp_edge::{Shelf, ShelfFault, Sink};
 use cdp_host::Host;
-use js_machine::early::{EarlyFault, read_early};
+use early_machine::early::{EarlyFault, read_early};
 use std::alloc::Global;
 
 /// Replays the journal over the script that a request names: the journal is read first.

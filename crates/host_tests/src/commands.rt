@@ -1,6 +1,6 @@
 // Each command in each state of its session.
 use cdp_host::{Host, Told, is_early};
-use js_machine::early::read_early;
+use early_machine::early::read_early;
 use std::process::Abort;
 use std::test::Fail;
 

@@ -5,8 +5,8 @@ use cdp_text::lines::cut_line;
 use cdp_text::parts::{behind, halves};
 use cdp_text::position::{Place, Pos, offset_at, pos_at};
 use cdp_text::units::{Units, text_of, units_of};
-use js_machine::early::{EarlyFault, read_early};
-use js_machine::machine::Machine;
+use early_machine::early::{EarlyFault, read_early};
+use early_machine::machine::Machine;
 use std::test::Fail;
 
 #[test]

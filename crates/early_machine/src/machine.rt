@@ -1,7 +1,7 @@
 //! The machine: a script that is run step by step.
 ghost use Rattle.std.specs.Prelude.{◌≡◌, ◌+◌, ℕ, List, false, IsTrue};
-ghost use Rattle.js_machine.specs.Plain.{start, next, prints, is_finished, is_arrival, plain};
-ghost use Rattle.js_machine.specs.PlainLaws.{ended_after, arrives_after, IsPlainRun};
+ghost use Rattle.early_machine.specs.Plain.{start, next, prints, is_finished, is_arrival, plain};
+ghost use Rattle.early_machine.specs.PlainLaws.{ended_after, arrives_after, IsPlainRun};
 
 use crate::early::Early;
 use std::marker::Model;
@@ -27,11 +27,11 @@ pub struct Machine {
 
 impl Model for Machine {
     ghost use Rattle.std.specs.Prelude.{◌≤◌, length, take, drop};
-    ghost use Rattle.js_machine.specs.Plain.{Configuration};
+    ghost use Rattle.early_machine.specs.Plain.{Configuration};
 
     ghost Value = { Configuration };
 
-    ghost use Rattle.js_machine.specs.Pending.{residual_at};
+    ghost use Rattle.early_machine.specs.Pending.{residual_at};
 
     ghost view = { λ a. record {
       residual = residual_at a.pending (drop a.index a.script.items);

@@ -3,10 +3,10 @@ use Rattle.std.proofs.Common.{◌≡◌, ℕ, zero, suc, ◌+◌, ◌-◌, ◌*�
 use Rattle.std.proofs.lemmas.Bool.{leb-true}
 use Rattle.std.proofs.lemmas.Bool.Decides.{nat_tests}
 use Rattle.std.proofs.lemmas.List.{append-nil, take_all, take-append-drop}
-use Rattle.js_machine.specs.Plain.{Part, Statement, Console, Log, Call, Configuration, statements, next, plain, is_finished, is_arrival}
-use Rattle.js_machine.specs.Pending.{from_part}
-use Rattle.js_machine.specs.PlainLaws.{printed_after, ended_after, arrives_after, IsPlainRun}
-use Rattle.js_machine.proofs.Parts.{is_arriving, is_finished-from_part, is_arrival-from_part}
+use Rattle.early_machine.specs.Plain.{Part, Statement, Console, Log, Call, Configuration, statements, next, plain, is_finished, is_arrival}
+use Rattle.early_machine.specs.Pending.{from_part}
+use Rattle.early_machine.specs.PlainLaws.{printed_after, ended_after, arrives_after, IsPlainRun}
+use Rattle.early_machine.proofs.Parts.{is_arriving, is_finished-from_part, is_arrival-from_part}
 
 -- within the statements that are left, with what was printed
 abbrev within : Part → List ℕ → List ℕ → Configuration

@@ -1,6 +1,6 @@
 -- The plain run in closed form: one step for the script, then four for each of its statements.
 use Rattle.std.specs.Prelude.{◌≡◌, ℕ, ◌+◌, ◌*◌, ◌-◌, ◌/◌, ◌%◌, List, length, take, Bool, ◌&&◌, ◌||◌, ◌==◌, nat_lt, nat_le, IsTrue}
-use Rattle.js_machine.specs.Plain.{plain, is_finished, is_arrival}
+use Rattle.early_machine.specs.Plain.{plain, is_finished, is_arrival}
 
 -- what the plain run has printed after this many steps
 abbrev pub printed_after : List ℕ → ℕ → List ℕ

@@ -1,6 +1,6 @@
 //! Early scripts: each line is a statement `console.log(INTEGER);`.
 ghost use Rattle.std.specs.Prelude.{◌≡◌, ◌≢◌, ℕ, List, Some, None, IfOk, IsErrOf, MatchOption};
-ghost use Rattle.js_machine.specs.Early.{early_of, integer_of, log_call, IsEarly};
+ghost use Rattle.early_machine.specs.Early.{early_of, integer_of, log_call, IsEarly};
 
 use cdp_text::decimal::read_decimal_bytes;
 use cdp_text::lines::cut_line;

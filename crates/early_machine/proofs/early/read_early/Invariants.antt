@@ -1,7 +1,7 @@
 use Rattle.std.proofs.Common.{◌≡◌, length}
-use Rattle.js_machine.specs.Early.{early_of}
-use Rattle.js_machine.proofs.Scripts.{continued}
-use Rattle.js_machine.proofs.early.read_early.Given as goal
+use Rattle.early_machine.specs.Early.{early_of}
+use Rattle.early_machine.proofs.Scripts.{continued}
+use Rattle.early_machine.proofs.early.read_early.Given as goal
 
 -- the integers so far go on with those that are left
 abbrev pub invariant-loop-line : goal.invariant-loop-line

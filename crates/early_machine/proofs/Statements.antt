@@ -7,7 +7,7 @@ use Rattle.std.proofs.lemmas.List.{append_assoc, drop_at, take_at, append_cancel
 use Rattle.std.proofs.lemmas.Slice.Eq.{bytes_eq-Decides}
 use Rattle.cdp_text.specs.Decimal.{decimal_value}
 use Rattle.cdp_text.proofs.Decimals.{decimal_value-some, decimal_value-decimal}
-use Rattle.js_machine.specs.Early.{log_call, statement_text, safe, between, integer_between, integer_of}
+use Rattle.early_machine.specs.Early.{log_call, statement_text, safe, between, integer_between, integer_of}
 
 -- what stands between two texts is found
 between-enclosed : (p s d : List ℕ) → between p s ((p ++ d) ++ s) ≡ d

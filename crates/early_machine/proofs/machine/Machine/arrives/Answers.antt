@@ -1,8 +1,8 @@
 use Rattle.std.proofs.Common.{◌≡◌, nat_lt, false, rules}
-use Rattle.js_machine.specs.Plain.{is_arrival}
-use Rattle.js_machine.proofs.Parts.{parts}
-use Rattle.js_machine.proofs.PlainRun.{arrives-plain}
-use Rattle.js_machine.proofs.machine.Machine.arrives.Goals as goal
+use Rattle.early_machine.specs.Plain.{is_arrival}
+use Rattle.early_machine.proofs.Parts.{parts}
+use Rattle.early_machine.proofs.PlainRun.{arrives-plain}
+use Rattle.early_machine.proofs.machine.Machine.arrives.Goals as goal
 
 pub returns-in-Statement : goal.returns-in-Statement
 returns-in-Statement c =

@@ -1,8 +1,8 @@
 use Rattle.std.proofs.Common.{◌≡◌, nat_eq, rules}
-use Rattle.js_machine.specs.Plain.{is_finished}
-use Rattle.js_machine.proofs.Parts.{parts}
-use Rattle.js_machine.proofs.PlainRun.{ended-plain, ended-all}
-use Rattle.js_machine.proofs.machine.Machine.ended.Goals as goal
+use Rattle.early_machine.specs.Plain.{is_finished}
+use Rattle.early_machine.proofs.Parts.{parts}
+use Rattle.early_machine.proofs.PlainRun.{ended-plain, ended-all}
+use Rattle.early_machine.proofs.machine.Machine.ended.Goals as goal
 
 pub returns-in_default : goal.returns-in_default
 returns-in_default c =

@@ -1,6 +1,6 @@
 use Rattle.std.proofs.Common.{sym, arith}
-use Rattle.js_machine.proofs.Statements.{reads-large}
-use Rattle.js_machine.proofs.early.read_statement.Goals as goal
+use Rattle.early_machine.proofs.Statements.{reads-large}
+use Rattle.early_machine.proofs.early.read_statement.Goals as goal
 
 pub returns-else-integer-le-MAX_SAFE_INTEGER : goal.returns-else-integer-le-MAX_SAFE_INTEGER
 returns-else-integer-le-MAX_SAFE_INTEGER c =

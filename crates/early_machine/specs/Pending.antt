@@ -1,8 +1,8 @@
 -- What a machine leaves to reduce.
 use Rattle.std.specs.Prelude.{ℕ, List, [], ◌∷◌}
-use Rattle.js_machine.specs.Plain.{Part, Statement, Console, Log, Call, Residual, Script, Within, Finished}
-use Rattle.js_machine.specs.declared.machine.Pending.{Pending}
-use Rattle.js_machine.specs.declared.machine.Pending.TheVariants.{Script as ScriptNext, Statement as StatementNext, Console as ConsoleNext, Log as LogNext, Call as CallNext}
+use Rattle.early_machine.specs.Plain.{Part, Statement, Console, Log, Call, Residual, Script, Within, Finished}
+use Rattle.early_machine.specs.declared.machine.Pending.{Pending}
+use Rattle.early_machine.specs.declared.machine.Pending.TheVariants.{Script as ScriptNext, Statement as StatementNext, Console as ConsoleNext, Log as LogNext, Call as CallNext}
 
 -- the statements that print these integers, of the first of which this part is reduced next
 abbrev pub from_part : Part → List ℕ → Residual

@@ -2,8 +2,8 @@
 use Rattle.std.proofs.Common.{◌≡◌, ℕ, ◌≤◌, List, [], ◌∷◌, length, drop, Bool, true, false, ◌&&◌, nat_eq, nat_lt, nat_le, refl, arith}
 use Rattle.std.proofs.lemmas.Bool.Decides.{nat_tests}
 use Rattle.std.proofs.lemmas.List.{length-drop}
-use Rattle.js_machine.specs.Plain.{Part, Statement, Console, Log, Call, is_finished, is_arrival}
-use Rattle.js_machine.specs.Pending.{from_part}
+use Rattle.early_machine.specs.Plain.{Part, Statement, Console, Log, Call, is_finished, is_arrival}
+use Rattle.early_machine.specs.Pending.{from_part}
 
 -- a part is entered or called
 abbrev pub is_arriving : Part → Bool

@@ -1,6 +1,6 @@
 use Rattle.std.proofs.Common.{sym, ◌∙◌}
-use Rattle.js_machine.proofs.Scripts.{continued-end, early_of-is}
-use Rattle.js_machine.proofs.early.read_early.Goals as goal
+use Rattle.early_machine.proofs.Scripts.{continued-end, early_of-is}
+use Rattle.early_machine.proofs.early.read_early.Goals as goal
 
 pub returns-clause-is : goal.returns-clause-is
 returns-clause-is c =

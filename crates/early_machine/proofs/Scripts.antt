@@ -10,8 +10,8 @@ use Rattle.std.proofs.lemmas.List.Elements.{All-nil, All-cons, All-head, All-tai
 use Rattle.std.proofs.lemmas.List.Sums.{AllPass-from_list_all}
 use Rattle.cdp_text.specs.Lines.{lines_of, ended, IsOneLine, AreLines}
 use Rattle.cdp_text.proofs.LinesLemmas.{lines_of-are, lines_of-only}
-use Rattle.js_machine.specs.Early.{log_call, statement_text, script_text, IsEarly, integer_of, preceded, integers_of, early_of}
-use Rattle.js_machine.proofs.Statements.{integer_of-some, integer_of-statement}
+use Rattle.early_machine.specs.Early.{log_call, statement_text, script_text, IsEarly, integer_of, preceded, integers_of, early_of}
+use Rattle.early_machine.proofs.Statements.{integer_of-some, integer_of-statement}
 
 -- these integers, and the others behind them
 abbrev pub continued : List ℕ → Option (List ℕ) → Option (List ℕ)

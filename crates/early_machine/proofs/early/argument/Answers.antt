@@ -1,9 +1,9 @@
 use Rattle.std.proofs.Common.{Some, None, codes}
 use Rattle.std.proofs.lemmas.Bool.Decides.{Decides-eqb}
 use Rattle.std.proofs.lemmas.Slice.Eq.{strip_prefix_is, strip_suffix_is}
-use Rattle.js_machine.specs.Early.{log_call}
-use Rattle.js_machine.proofs.Statements.{argument-none, argument-behind}
-use Rattle.js_machine.proofs.early.argument.Goals as goal
+use Rattle.early_machine.specs.Early.{log_call}
+use Rattle.early_machine.proofs.Statements.{argument-none, argument-behind}
+use Rattle.early_machine.proofs.early.argument.Goals as goal
 
 pub returns-in_err-strip_prefix : goal.returns-in_err-strip_prefix
 unfolding log_call
