@@ -10,7 +10,7 @@ use Rattle.js_code.specs.Forms.{form_of}
 use Rattle.js_code.specs.Trees.{kid_at, kids_between, terms, tree, trees, EachBelow, IsTable}
 use Rattle.js_compile.proofs.TreeLemmas.{kids-some, tree-at, node-at}
 
-first_first : (a b c : Option FunctionCode) → first_code (first_code a b) c ≡ first_code a (first_code b c)
+pub first_first : (a b c : Option FunctionCode) → first_code (first_code a b) c ≡ first_code a (first_code b c)
 first_first (Some x) b c = refl
 first_first None b c = refl
 
@@ -62,7 +62,7 @@ get_kid [] i h = absurd (omega arith)
 get_kid (k ∷ ks) zero h = refl
 get_kid (k ∷ ks) (suc i) h = get_kid ks i (omega arith)
 
-kid_some : (t : NodeTable) (i : ℕ) → i < length t.kids.items → slice_get t.kids.items i ≡ Some (kid_at t i)
+pub kid_some : (t : NodeTable) (i : ℕ) → i < length t.kids.items → slice_get t.kids.items i ≡ Some (kid_at t i)
 unfolding kid_at
 kid_some t i h = get_kid t.kids.items i h
 

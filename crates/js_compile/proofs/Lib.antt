@@ -5,6 +5,10 @@ pub mod KeepLemmas
 pub mod TermSteps
 pub mod ScriptLemmas
 pub mod PlainLaws
+pub mod PlaceableMakers
+pub mod PlaceableSources
 pub mod TreeLemmas
 pub mod IndexLemmas
 pub mod PlaceLaws
+pub mod FillLemmas
+pub mod SourceIndexes

@@ -1,14 +1,37 @@
--- Untouched terms are plain once their literals have cells.
+-- Terms before the first step are plain once their literals have cells.
 use Rattle.std.proofs.Common.{◌≡◌, ℕ, ◌+◌, Bool, true, ◌&&◌, length, Some, None, refl, ap, ◌∙◌}
 use Rattle.js_heap.specs.declared.value.Addr.{Addr}
+use Rattle.js_heap.specs.declared.value.Addr.TheVariants.{Base}
+use Rattle.js_heap.specs.BuiltIns.{first_literal}
 use Rattle.js_semantics.specs.declared.form.Form.{Form}
 use Rattle.js_semantics.specs.declared.form.Form.TheVariants as forms
 use Rattle.js_semantics.specs.Terms.{Term, done, standing, part, Terms, end, more}
 use Rattle.js_semantics.specs.Run.{literals, literals_of, with_literals, all_with_literals, placed_scripts}
-use Rattle.js_heap.specs.declared.value.Addr.TheVariants.{Base}
-use Rattle.js_heap.specs.BuiltIns.{first_literal}
-use Rattle.js_semantics.specs.Untouched.{UntouchedForm, IsUntouched, AreUntouched}
-use Rattle.js_compile.specs.Plain.{is_plain_form, is_plain, are_plain, IsNoEnding, HasNoEnding, HaveNoEnding}
+use Rattle.js_compile.specs.Plain.{is_plain_form, is_plain, are_plain}
+
+-- ---- placeable terms: nothing in them comes up in a run alone
+
+abbrev pub PlaceableForm : Form → Type 0
+PlaceableForm (forms.Scoped a) = ⊥
+PlaceableForm (forms.Frame node a) = ⊥
+PlaceableForm (forms.Loop stage scope) = scope ≡ None
+PlaceableForm (forms.ListOf b) = ⊥
+PlaceableForm (forms.TurnOf b i) = ⊥
+PlaceableForm (forms.BodyOf b i) = ⊥
+PlaceableForm (forms.Ending kept) = ⊥
+PlaceableForm _ = Unit {0}
+
+abbrev mutual
+  pub IsPlaceable : Term → Type 0
+  IsPlaceable (done v) = Unit {0}
+  IsPlaceable (standing v s) = ⊥
+  IsPlaceable (part f now later) = PlaceableForm f × ArePlaceable now × ArePlaceable later
+
+  pub ArePlaceable : Terms → Type 0
+  ArePlaceable end = Unit {0}
+  ArePlaceable (more t ts) = IsPlaceable t × ArePlaceable ts
+
+-- ---- with their literals placed they are plain
 
 both_true : (b c : Bool) → b ≡ true → c ≡ true → (b && c) ≡ true
 both_true b c h k = ap (λ x. x && c) h ∙ k
@@ -16,29 +39,27 @@ both_true b c h k = ap (λ x. x && c) h ∙ k
 part_plain : (f : Form) (now later : Terms) → is_plain_form f ≡ true → are_plain now ≡ true → are_plain later ≡ true → is_plain (part f now later) ≡ true
 part_plain f now later e h k = both_true (is_plain_form f) (are_plain now && are_plain later) e (both_true (are_plain now) (are_plain later) h k)
 
--- a form and its parts with their literals placed
-placed_plain : (at : ℕ → Addr) (n : ℕ) (f : Form) (now later : Terms) → UntouchedForm f → IsNoEnding f → are_plain (all_with_literals at n now) ≡ true → are_plain (all_with_literals at (n + length (literals_of now)) later) ≡ true → is_plain (with_literals at n (part f now later)) ≡ true
-placed_plain at n (forms.Scoped a) now later u e h k = absurd u
-placed_plain at n (forms.Frame node a) now later u e h k = absurd u
-placed_plain at n (forms.ListOf b) now later u e h k = absurd u
-placed_plain at n (forms.TurnOf b i) now later u e h k = absurd u
-placed_plain at n (forms.BodyOf b i) now later u e h k = absurd u
-placed_plain at n (forms.Loop stage (Some a)) now later u e h k = absurd cc
-placed_plain at n (forms.Loop stage None) now later u e h k = part_plain (forms.Loop stage None) (all_with_literals at n now) (all_with_literals at (n + length (literals_of now)) later) refl h k
-placed_plain at n (forms.Ending kept) now later u e h k = absurd e
-placed_plain at n (forms.Literal text) now later u e h k = refl
-placed_plain at n _ now later u e h k = both_true _ _ h k
+placed_plain : (at : ℕ → Addr) (n : ℕ) (f : Form) (now later : Terms) → PlaceableForm f → are_plain (all_with_literals at n now) ≡ true → are_plain (all_with_literals at (n + length (literals_of now)) later) ≡ true → is_plain (with_literals at n (part f now later)) ≡ true
+placed_plain at n (forms.Scoped a) now later u h k = absurd u
+placed_plain at n (forms.Frame node a) now later u h k = absurd u
+placed_plain at n (forms.ListOf b) now later u h k = absurd u
+placed_plain at n (forms.TurnOf b i) now later u h k = absurd u
+placed_plain at n (forms.BodyOf b i) now later u h k = absurd u
+placed_plain at n (forms.Loop stage (Some a)) now later u h k = absurd cc
+placed_plain at n (forms.Loop stage None) now later u h k = part_plain (forms.Loop stage None) (all_with_literals at n now) (all_with_literals at (n + length (literals_of now)) later) refl h k
+placed_plain at n (forms.Ending kept) now later u h k = absurd u
+placed_plain at n (forms.Literal text) now later u h k = refl
+placed_plain at n _ now later u h k = both_true _ _ h k
 
 mutual
-  pub untouched-plain : (at : ℕ → Addr) (n : ℕ) (t : Term) → IsUntouched t → HasNoEnding t → is_plain (with_literals at n t) ≡ true
-  untouched-plain at n (done v) u e = refl
-  untouched-plain at n (standing v s) u e = absurd u
-  untouched-plain at n (part f now later) u e = placed_plain at n f now later u.0 e.0 (all-plain at n now u.1 e.1) (all-plain at (n + length (literals_of now)) later u.2 e.2)
+  one-plain : (at : ℕ → Addr) (n : ℕ) (t : Term) → IsPlaceable t → is_plain (with_literals at n t) ≡ true
+  one-plain at n (done v) u = refl
+  one-plain at n (standing v s) u = absurd u
+  one-plain at n (part f now later) u = placed_plain at n f now later u.0 (all-plain at n now u.1) (all-plain at (n + length (literals_of now)) later u.2)
 
-  pub all-plain : (at : ℕ → Addr) (n : ℕ) (ts : Terms) → AreUntouched ts → HaveNoEnding ts → are_plain (all_with_literals at n ts) ≡ true
-  all-plain at n end u e = refl
-  all-plain at n (more t ts) u e = both_true (is_plain (with_literals at n t)) (are_plain (all_with_literals at (n + length (literals t)) ts)) (untouched-plain at n t u.0 e.0) (all-plain at (n + length (literals t)) ts u.1 e.1)
+  all-plain : (at : ℕ → Addr) (n : ℕ) (ts : Terms) → ArePlaceable ts → are_plain (all_with_literals at n ts) ≡ true
+  all-plain at n end u = refl
+  all-plain at n (more t ts) u = both_true (is_plain (with_literals at n t)) (are_plain (all_with_literals at (n + length (literals t)) ts)) (one-plain at n t u.0) (all-plain at (n + length (literals t)) ts u.1)
 
--- so untouched scripts have nodes
-pub scripts-plain : (ts : Terms) → AreUntouched ts → HaveNoEnding ts → are_plain (placed_scripts ts) ≡ true
-scripts-plain ts u e = all-plain (λ n. Base n) first_literal ts u e
+pub placeable-plain : (ts : Terms) → ArePlaceable ts → are_plain (placed_scripts ts) ≡ true
+placeable-plain ts u = all-plain (λ n. Base n) first_literal ts u

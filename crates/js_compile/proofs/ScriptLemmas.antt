@@ -19,7 +19,7 @@ use Rattle.js_code.specs.declared.table.NodeTable.{NodeTable}
 use Rattle.js_code.specs.Trees.{tree, IsNodeAt, IsTable, source_tree, source_trees}
 use Rattle.js_compile.specs.Added.{IsNodeAdded}
 use Rattle.js_compile.specs.Grown.{IsPlacedNode, HasPlaces, Extends, HasTree, HaveTrees, Holds, HoldsAll}
-use Rattle.js_compile.specs.Scripts.{IsEmpty, Continues, IsSourceAdded, AddsSource, IsProgram, IsCompiled}
+use Rattle.js_compile.specs.Scripts.{IsEmpty, Continues, IsSourceAdded, AddsSource, IsProgram, HasNodes}
 use Rattle.js_compile.proofs.NameLemmas.{goes_on_twice}
 use Rattle.js_compile.proofs.GrownLemmas.{extends_same, extends_twice, node_extends, node_keeps, node_tree, no_trees}
 use Rattle.js_compile.proofs.EntryLemmas.{has_bare}
@@ -85,8 +85,8 @@ empty_places t e = record { nodes = λ n. subst (λ (o : Option Node). IsPlacedN
 
 -- ---- the node over all of them
 
-pub all_compiled : (ts us : List (List ℕ)) (s t u : NodeTable) (root : ℕ) (none : List ℕ) (o : Option (Vec ℕ)) (nodes : Vec ℕ) (xs : semantics.Terms) → IsEmpty s → Continues ts s us t → o ≡ Some nodes → HoldsAll us t xs o → IfSome o (λ v. IsProgram us t (program_from 1 xs)) → none ≡ [] → IsNodeAdded t u ops.Scripts 0 nodes.items none root → IsCompiled us xs u root
-all_compiled ts us s t u root none o nodes xs e g k h r z a =
+pub all_nodes : (ts us : List (List ℕ)) (s t u : NodeTable) (root : ℕ) (none : List ℕ) (o : Option (Vec ℕ)) (nodes : Vec ℕ) (xs : semantics.Terms) → IsEmpty s → Continues ts s us t → o ≡ Some nodes → HoldsAll us t xs o → IfSome o (λ v. IsProgram us t (program_from 1 xs)) → none ≡ [] → IsNodeAdded t u ops.Scripts 0 nodes.items none root → HasNodes us xs u root
+all_nodes ts us s t u root none o nodes xs e g k h r z a =
     let b : HaveTrees us t nodes.items xs = (let b' : HoldsAll us t xs (Some nodes) = subst (λ (q : Option (Vec ℕ)). HoldsAll us t xs q) k h in b') in
     let c : HaveTrees us t none semantics.end = subst (λ (ns : List ℕ). HaveTrees us t ns semantics.end) (sym z) (no_trees us t) in
     let p : IsProgram us t (program_from 1 xs) = (let p' : IfSome (let v : Option (Vec ℕ) = Some nodes in v) (λ v. IsProgram us t (program_from 1 xs)) = subst (λ (q : Option (Vec ℕ)). IfSome q (λ v. IsProgram us t (program_from 1 xs))) k r in p') in
@@ -104,5 +104,5 @@ pub source_added : (t u v : NodeTable) (e : SourceEntry) (number root : ℕ) →
 source_added t u v e number root s a b c = record { entry = e; source = b; node = c; sources = a ∙ ap (λ xs. xs.items ++ e ∷ []) s }
 
 -- the same of scripts that are equal
-pub compiled_same : (ts us : List (List ℕ)) (s t u : NodeTable) (root : ℕ) (none : List ℕ) (o : Option (Vec ℕ)) (nodes : Vec ℕ) (xs ys : semantics.Terms) → xs ≡ ys → IsEmpty s → Continues ts s us t → o ≡ Some nodes → HoldsAll us t xs o → IfSome o (λ v. IsProgram us t (program_from 1 xs)) → none ≡ [] → IsNodeAdded t u ops.Scripts 0 nodes.items none root → IsCompiled us ys u root
-compiled_same ts us s t u root none o nodes xs ys q e g k h r z a = subst (λ (zs : semantics.Terms). IsCompiled us zs u root) q (all_compiled ts us s t u root none o nodes xs e g k h r z a)
+pub nodes_same : (ts us : List (List ℕ)) (s t u : NodeTable) (root : ℕ) (none : List ℕ) (o : Option (Vec ℕ)) (nodes : Vec ℕ) (xs ys : semantics.Terms) → xs ≡ ys → IsEmpty s → Continues ts s us t → o ≡ Some nodes → HoldsAll us t xs o → IfSome o (λ v. IsProgram us t (program_from 1 xs)) → none ≡ [] → IsNodeAdded t u ops.Scripts 0 nodes.items none root → HasNodes us ys u root
+nodes_same ts us s t u root none o nodes xs ys q e g k h r z a = subst (λ (zs : semantics.Terms). HasNodes us zs u root) q (all_nodes ts us s t u root none o nodes xs e g k h r z a)

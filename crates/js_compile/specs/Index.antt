@@ -1,10 +1,14 @@
 -- The index of a source: for each node of the source the number of a function's entry, counted from 1.
-use Rattle.std.specs.Prelude.{ℕ, List, Option, Some, None, slice_get, unwrap_or, nat_lt, if◌then◌else◌}
+use Rattle.std.specs.Prelude.{◌≡◌, ℕ, List, [], ◌∷◌, Option, Some, None, slice_get, unwrap_or, nat_eq, nat_lt, if◌then◌else◌}
+use Rattle.js_semantics.specs.Functions.{FunctionCode, first_code, function_in}
 use Rattle.js_code.specs.declared.op.Op.{Op}
 use Rattle.js_code.specs.declared.op.Op.TheVariants as ops
 use Rattle.js_code.specs.declared.node.Node.{Node}
 use Rattle.js_code.specs.declared.node.FunctionEntry.{FunctionEntry}
+use Rattle.js_code.specs.declared.node.SourceEntry.{SourceEntry}
 use Rattle.js_code.specs.declared.table.NodeTable.{NodeTable}
+use Rattle.js_code.specs.Trees.{tree}
+use Rattle.js_code.specs.Codes.{code_of_number, indexed_code}
 
 -- the number of a node; 0 where it has none
 abbrev pub number_at : List ℕ → ℕ → ℕ
@@ -26,3 +30,28 @@ function_node_by op at = None
 -- the node in its source of the function that a node is, where it has a body
 abbrev pub function_node : NodeTable → Node → Option ℕ
 function_node t node = function_node_by node.op (body_node t node)
+
+-- the number of a node once another is put where there is a place
+abbrev pub number_with : Option ℕ → ℕ → List ℕ → ℕ → ℕ
+number_with None number index x = number_at index x
+number_with (Some at) number index x = if nat_eq at x then number else number_at index x
+
+-- the function that an index has for a node
+abbrev pub code_found : List (List ℕ) → NodeTable → List ℕ → ℕ → Option FunctionCode
+code_found ts t index x = code_of_number ts t (Some (number_at index x))
+
+-- an index with the functions of a node's tree before those that it had
+abbrev pub IsFilled : NodeTable → ℕ → List ℕ → List ℕ → Type 0
+IsFilled t n old new = (ts : List (List ℕ)) (x : ℕ) → code_found ts t new x ≡ first_code (function_in x (tree ts t n)) (code_found ts t old x)
+
+-- a source with its index
+pub record IsIndexed (t : NodeTable) (s e : SourceEntry) : Type 0 where
+  pub source : e.source ≡ s.source
+  pub root : e.root ≡ s.root
+  pub finds : (ts : List (List ℕ)) (x : ℕ) → function_in x (tree ts t e.root) ≡ indexed_code ts t e x
+
+abbrev pub AreIndexed : NodeTable → List SourceEntry → List SourceEntry → Type 0
+AreIndexed t [] [] = Unit {0}
+AreIndexed t (s ∷ ss) (e ∷ es) = IsIndexed t s e × AreIndexed t ss es
+AreIndexed t [] (e ∷ es) = ⊥
+AreIndexed t (s ∷ ss) [] = ⊥

@@ -2,5 +2,5 @@ pub mod Plain
 pub mod Added
 pub mod Grown
 pub mod Operations
-pub mod Scripts
 pub mod Index
+pub mod Scripts

@@ -24,19 +24,3 @@ abbrev mutual
   pub are_plain : Terms → Bool
   are_plain end = true
   are_plain (more t ts) = is_plain t && are_plain ts
-
--- ---- what no source has: the end of a `finally`
-
-abbrev pub IsNoEnding : Form → Type 0
-IsNoEnding (ending kept) = ⊥
-IsNoEnding f = Unit {0}
-
-abbrev mutual
-  pub HasNoEnding : Term → Type 0
-  HasNoEnding (done v) = Unit {0}
-  HasNoEnding (standing v s) = Unit {0}
-  HasNoEnding (part f now later) = IsNoEnding f × HaveNoEnding now × HaveNoEnding later
-
-  pub HaveNoEnding : Terms → Type 0
-  HaveNoEnding end = Unit {0}
-  HaveNoEnding (more t ts) = HasNoEnding t × HaveNoEnding ts

@@ -1,5 +1,6 @@
 -- The code of scripts.
 use Rattle.std.specs.Prelude.{◌≡◌, ℕ, false, List, [], ◌∷◌, ◌++◌, Option, Some, None}
+use Rattle.std.specs.Global.{Vec}
 use Rattle.js_semantics.specs.declared.form.Form.TheVariants.{Scripts as scripts}
 use Rattle.js_semantics.specs.declared.form.Source.TheVariants.{Script as script_source}
 use Rattle.js_semantics.specs.Terms.{Terms, part, end}
@@ -8,10 +9,12 @@ use Rattle.js_semantics.specs.Run.{program_from}
 use Rattle.js_world.specs.Names.{GoesOn}
 use Rattle.js_code.specs.declared.node.SourceEntry.{SourceEntry}
 use Rattle.js_code.specs.declared.table.NodeTable.{NodeTable}
+use Rattle.js_code.specs.Codes.{HasFunctions}
 use Rattle.js_code.specs.Trees.{tree, IsTable, source_trees, program_of}
 use Rattle.js_compile.specs.declared.scripts.ScriptCode.{ScriptCode}
 use Rattle.js_compile.specs.Plain.{are_plain}
 use Rattle.js_compile.specs.Grown.{Extends, HasPlaces}
+use Rattle.js_compile.specs.Index.{AreIndexed}
 
 -- a table without nodes and sources
 pub record IsEmpty (t : NodeTable) : Type 0 where
@@ -40,10 +43,32 @@ AddsSource t u number (Some root) = IsSourceAdded t u number root
 abbrev pub IsProgram : List (List ℕ) → NodeTable → Program → Type 0
 IsProgram ts t p = (us : List (List ℕ)) (u : NodeTable) → GoesOn ts us → Extends t u → source_trees us u t.sources.items ≡ p
 
--- the code stands for the scripts, however the names go on
+-- the nodes stand for the scripts, however the names go on
+pub record HasNodes (ts : List (List ℕ)) (xs : Terms) (t : NodeTable) (root : ℕ) : Type 0 where
+  pub table : IsTable t
+  pub places : HasPlaces t
+  pub program : (us : List (List ℕ)) → GoesOn ts us → program_of us t ≡ program_from 1 xs
+  pub tree : (us : List (List ℕ)) → GoesOn ts us → tree us t root ≡ part scripts xs end
+
+abbrev pub HaveNodes : List (List ℕ) → Terms → Option ScriptCode → Type 0
+HaveNodes ts xs None = are_plain xs ≡ false
+HaveNodes ts xs (Some c) = HasNodes ts xs c.table c.root
+
+-- a table with other sources
+abbrev pub with_sources : NodeTable → Vec SourceEntry → NodeTable
+with_sources t es = record t { sources = es }
+
+-- the same code, with an index for each source
+pub record IsIndexedCode (c d : ScriptCode) : Type 0 where
+  pub sources : AreIndexed c.table c.table.sources.items d.table.sources.items
+  pub others : d.table ≡ with_sources c.table d.table.sources
+  pub root : d.root ≡ c.root
+
+-- the code stands for the scripts, however the names go on, and each source's index finds its functions
 pub record IsCompiled (ts : List (List ℕ)) (xs : Terms) (t : NodeTable) (root : ℕ) : Type 0 where
   pub table : IsTable t
   pub places : HasPlaces t
+  pub functions : HasFunctions t
   pub program : (us : List (List ℕ)) → GoesOn ts us → program_of us t ≡ program_from 1 xs
   pub tree : (us : List (List ℕ)) → GoesOn ts us → tree us t root ≡ part scripts xs end
 

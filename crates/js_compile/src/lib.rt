@@ -4,6 +4,7 @@
 pub mod entries;
 pub mod forms;
 pub mod functions;
+pub mod laws;
 pub mod names;
 pub mod nodes;
 pub mod scripts;

@@ -1,6 +1,6 @@
 //! One more node.
 
-ghost use Rattle.std.specs.Prelude.{◌≡◌, OnOk, IfOk};
+ghost use Rattle.std.specs.Prelude.{◌≡◌, ◌+◌, OnOk, IfOk};
 ghost use Rattle.js_compile.specs.Added.{IsNodeAdded};
 
 use js_code::node::Node;
@@ -22,6 +22,16 @@ pub fn next_number(len: usize) -> Result<u32, AllocError>
     match u32::try_from(len) {
         Ok(n) => Ok(n),
         Err(_) => Err(AllocError),
+    }
+}
+
+/// A number counted from 1 in place of 0.
+pub fn counted_from_one(number: u32) -> Result<u32, AllocError>
+    ensures { IfOk result (λ n. n ≡ number + 1) }
+{
+    match number.checked_add(1) {
+        Some(number) => Ok(number),
+        None => Err(AllocError),
     }
 }
 

@@ -4,10 +4,12 @@ ghost use Rattle.std.specs.Prelude.{◌≡◌, ◌+◌, OnOk, IfOk, IfSome};
 ghost use Rattle.js_world.specs.Names.{GoesOn};
 ghost use Rattle.js_terms.specs.Views.{term_view, terms_view, listed_view};
 ghost use Rattle.js_semantics.specs.Run.{program_from};
-ghost use Rattle.js_compile.specs.Grown.{Holds, HoldsAll};
-ghost use Rattle.js_compile.specs.Scripts.{IsEmpty, Continues, AddsSource, IsProgram, AreCompiled};
+ghost use Rattle.js_code.specs.Trees.{IsTable};
+ghost use Rattle.js_compile.specs.Grown.{Holds, HoldsAll, HasPlaces};
+ghost use Rattle.js_compile.specs.Scripts.{IsEmpty, Continues, AddsSource, IsProgram, HaveNodes, IsIndexedCode, AreCompiled};
 
-use crate::nodes::{Entry, add_node, next_number};
+use crate::functions::indexed_sources;
+use crate::nodes::{Entry, add_node, counted_from_one, next_number};
 use crate::terms::add_term;
 use js_code::node::SourceEntry;
 use js_code::op::Op;
@@ -48,10 +50,7 @@ fn script_number(before: usize) -> Result<u32, AllocError>
     ensures { IfOk result (λ n. n ≡ before + 1) }
 {
     let number = next_number(before)?;
-    match number.checked_add(1) {
-        Some(number) => Ok(number),
-        None => Err(AllocError),
-    }
+    counted_from_one(number)
 }
 
 /// A script behind the others: its nodes, and its source; the answer is its node.
@@ -102,14 +101,14 @@ fn add_scripts(
     Ok(Some(roots))
 }
 
-/// The code of scripts; none where something in them comes up in a run alone, or is a literal without its cell.
-pub fn code_of_scripts(
+/// The code of scripts whose sources have no index yet.
+fn nodes_of_scripts(
     alloc: Global,
     names: &mut Names,
     scripts: &Terms,
 ) -> Result<Option<ScriptCode>, AllocError>
     ensures goes_on { OnOk result (GoesOn names.old names.new) }
-    ensures code { IfOk result (λ o. AreCompiled names.new (terms_view scripts.now) o) }
+    ensures code { IfOk result (λ o. HaveNodes names.new (terms_view scripts.now) o) }
 {
     let mut table = empty_table(alloc);
     let Some(roots) = add_scripts(alloc, names, &mut table, scripts.slice())? else {
@@ -122,4 +121,29 @@ pub fn code_of_scripts(
     };
     let root = add_node(&mut table, entry, &roots, &none)?;
     Ok(Some(ScriptCode { table, root }))
+}
+
+/// Code whose sources have their indexes.
+fn with_indexes(alloc: Global, mut code: ScriptCode) -> Result<ScriptCode, AllocError>
+    requires table { IsTable code.table }
+    requires places { HasPlaces code.table }
+    ensures { IfOk result (λ c. IsIndexedCode code c) }
+{
+    code.table.sources = indexed_sources(alloc, &code.table)?;
+    Ok(code)
+}
+
+/// The code of scripts; none where something in them comes up in a run alone, or is a literal without its cell.
+pub fn code_of_scripts(
+    alloc: Global,
+    names: &mut Names,
+    scripts: &Terms,
+) -> Result<Option<ScriptCode>, AllocError>
+    ensures goes_on { OnOk result (GoesOn names.old names.new) }
+    ensures code { IfOk result (λ o. AreCompiled names.new (terms_view scripts.now) o) }
+{
+    match nodes_of_scripts(alloc, names, scripts)? {
+        Some(code) => Ok(Some(with_indexes(alloc, code)?)),
+        None => Ok(None),
+    }
 }

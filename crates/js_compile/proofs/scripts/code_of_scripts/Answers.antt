@@ -1,6 +1,6 @@
-use Rattle.js_terms.specs.Views.{listed_view, terms_view}
-use Rattle.js_compile.proofs.ScriptLemmas.{compiled_same}
+use Rattle.js_terms.specs.Views.{terms_view}
+use Rattle.js_compile.proofs.SourceIndexes.{code_compiled}
 use Rattle.js_compile.proofs.scripts.code_of_scripts.Goals as goal
 
-pub returns-clause-code : goal.returns-clause-code
-returns-clause-code c = compiled_same c.args.names.now c.add_scripts.new.names c.empty_table-table.result c.add_scripts.new.table c.add_node.new.table c.in_ok-root.root c.new-none.result.items c.in_ok-roots.field-0 c.in-Some.roots (listed_view c.slice.result.now) (terms_view c.args.scripts.now) c.slice.ensures c.empty_table-table.ensures c.in_ok-roots.ensures.continues c.in-Some.is c.in_ok-roots.ensures.trees c.in_ok-roots.ensures.program c.new-none.ensures.items c.in_ok-root.ensures
+pub returns-in_ok-with_indexes-in-Some-clause-code : goal.returns-in_ok-with_indexes-in-Some-clause-code
+returns-in_ok-with_indexes-in-Some-clause-code c = code_compiled c.nodes_of_scripts.new.names (terms_view c.args.scripts.now) c.in-Some.code c.in_ok-with_indexes-in-Some.field-0 c.in_ok-code.field-0 c.in-Some.is c.in_ok-code.ensures.code c.in_ok-with_indexes-in-Some.ensures
