@@ -1,6 +1,6 @@
 //! What a step threads beside a world.
 
-ghost use Rattle.std.specs.Prelude.{◌≡◌, length, IfOk, OnOk, []};
+ghost use Rattle.std.specs.Prelude.{◌≡◌, length, slice_get, Some, None, IfOk, IfSome, IfNone, OnOk, []};
 ghost use Rattle.js_semantics.specs.State.{set_here as here_set, push_frame as frame_pushed, pop_frame as frame_popped, moved_frames, top_this, top_spot};
 ghost use Rattle.js_operations.specs.Contexts.{start_context, bare_context, Turns, Prints, Takes};
 
@@ -88,6 +88,14 @@ impl Context {
         ensures { result ≡ length self.now.frames }
     {
         self.frames.len()
+    }
+
+    /// The frame so many calls out from the top one, if there are as many.
+    pub fn frame_at(&self, d: usize) -> Option<&Frame>
+        ensures some { IfSome result (λ f. slice_get self.now.frames d ≡ Some f.now) }
+        ensures none { IfNone result (slice_get self.now.frames d ≡ None) }
+    {
+        self.frames.get(d)
     }
 
     /// The `this` of the top frame (ECMA-262, 13.2.1).

@@ -3,6 +3,7 @@ pub mod TreeLemmas
 pub mod ScopeLaws
 pub mod FollowLemmas
 pub mod StackLemmas
+pub mod TaskLemmas
 pub mod PartLemmas
 pub mod SettleLemmas
 pub mod FinishLemmas

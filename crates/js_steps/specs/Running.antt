@@ -1,10 +1,11 @@
 -- What a run of steps tells.
-use Rattle.std.specs.Prelude.{◌≡◌, ℕ, List, Option, Some, None}
+use Rattle.std.specs.Prelude.{◌≡◌, ℕ, zero, suc, ◌-◌, ◌<◌, ◌≤◌, Bool, true, false, List, Option, Some, None}
 use Rattle.js_heap.specs.declared.value.Addr.{Addr}
 use Rattle.js_heap.specs.World.{World}
 use Rattle.js_semantics.specs.Terms.{Term}
-use Rattle.js_semantics.specs.State.{State}
-use Rattle.js_semantics.specs.Run.{Run, over, by_effect, by_full, run_of, steps_in}
+use Rattle.js_semantics.specs.State.{Frame, State}
+use Rattle.js_semantics.specs.Functions.{Program}
+use Rattle.js_semantics.specs.Run.{Run, running, over, by_effect, by_full, run_of, step_in, steps_in}
 use Rattle.js_operations.specs.Contexts.{Context, state_of}
 use Rattle.js_code.specs.declared.table.NodeTable.{NodeTable}
 use Rattle.js_code.specs.Trees.{program_of}
@@ -43,7 +44,49 @@ IfGoes whys.Effect P = Unit {0}
 IfGoes (whys.Full what) P = Unit {0}
 IfGoes why P = P
 
+-- ---- how many steps
+
+-- where it stops because all steps are made, these are all; a step was made where a step is the reason
+abbrev pub CountsAs : Why → ℕ → ℕ → Type 0
+CountsAs whys.Spent k most = k ≡ most
+CountsAs (whys.Over f) k most = Unit {0}
+CountsAs why k most = 0 < k
+
+-- the run isn't over
+abbrev pub IsRunning : Run → Type 0
+IsRunning (running t s) = Unit {0}
+IsRunning (over f s) = ⊥
+
+-- before each of so many steps it isn't
+abbrev pub RunsFor : ℕ → Program → Addr → Run → Type 0
+RunsFor zero p scope r = Unit {0}
+RunsFor (suc k) p scope r = IsRunning r × RunsFor k p scope (step_in p scope r)
+
+-- ---- the host's question
+
+-- whether a stop is asked for where the run is
+abbrev pub asks_at : (Term → List Frame → Bool) → Run → Bool
+asks_at f (running t s) = f t s.frames
+asks_at f (over e s) = false
+
+-- behind none of so many steps a stop was asked for
+pub record HasPassed (f : Term → List Frame → Bool) (k : ℕ) (p : Program) (scope : Addr) (r : Run) : Type 0 where
+  pub none : (j : ℕ) → 0 < j → j ≤ k → asks_at f (steps_in j p scope r) ≡ false
+
+-- one was asked for behind the last step where that is why it stops
+abbrev pub IsAsked : (Term → List Frame → Bool) → Why → Run → Type 0
+IsAsked f whys.Asked r = asks_at f r ≡ true
+IsAsked f why r = Unit {0}
+
+-- how many steps passed that are followed by others, or by none because all are made
+abbrev pub passed_steps : Why → ℕ → ℕ
+passed_steps whys.Spent k = k
+passed_steps why k = k - 1
+
+-- ---- the loop
+
 -- after so many steps a machine stands so
 pub record HasRun (ts : List (List ℕ)) (t : NodeTable) (root : Addr) (ws : List Wide) (p : Point) (w : World) (c : Context) (k : ℕ) (vs : List Wide) (q : Point) (v : World) (d : Context) : Type 0 where
   pub runs : (taken : List (List ℕ)) → steps_in k (program_of ts t) root (run_of (term_at ts t ws p) (state_of w c taken)) ≡ run_of (term_at ts t vs q) (state_of v d taken)
+  pub left : (taken : List (List ℕ)) → RunsFor k (program_of ts t) root (run_of (term_at ts t ws p) (state_of w c taken))
   pub stands : StandsIn t root vs q

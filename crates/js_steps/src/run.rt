@@ -5,8 +5,9 @@ ghost use Rattle.js_semantics.specs.Run.{steps_in, run_of};
 ghost use Rattle.js_operations.specs.Contexts.{state_of};
 ghost use Rattle.js_code.specs.Codes.{HasFunctions};
 ghost use Rattle.js_code.specs.Trees.{program_of, IsTable};
-ghost use Rattle.js_steps.specs.Points.{term_at};
-ghost use Rattle.js_steps.specs.Running.{why_of, RunsTo, IfGoes};
+ghost use Rattle.js_heap.specs.World.{World as AnyWorld};
+ghost use Rattle.js_steps.specs.Points.{term_at, IsAt};
+ghost use Rattle.js_steps.specs.Running.{why_of, RunsTo, RunsFor, CountsAs, IsAsked, HasPassed, passed_steps, asks_at, IfGoes};
 ghost use Rattle.js_steps.specs.Stepping.{StandsIn};
 
 use crate::rows::Rows;
@@ -23,9 +24,22 @@ use js_world::world::World;
 use std::alloc::Global;
 
 /// Who is asked after each step that goes on whether the run stops there.
+///
+/// The answer depends on the residual term, without the texts of its names, and on the frames.
 pub trait Asks {
+    ghost use Rattle.std.specs.Prelude.{◌≡◌, List, ℕ, Bool};
+    ghost use Rattle.js_semantics.specs.Terms.{Term as AnyTerm};
+    ghost use Rattle.js_semantics.specs.State.{Frame as AnyFrame};
+    ghost use Rattle.js_code.specs.Trees.{IsTable};
+    ghost use Rattle.js_steps.specs.Points.{term_at, IsAt};
+
+    ghost stops: { Self → AnyTerm → List AnyFrame → Bool };
+
     /// Whether the run stops where the machine stands now.
-    fn asks(&mut self, table: &NodeTable, context: &Context, stack: &Stack, point: Point) -> bool;
+    fn asks(&self, table: &NodeTable, context: &Context, stack: &Stack, point: Point) -> bool
+        requires table { IsTable table.now }
+        requires at { IsAt table.now stack.now point }
+        ensures { (names : List (List ℕ)) → result ≡ stops self.now (term_at names table.now stack.now point) context.now.frames };
 }
 
 /// Why a run stops.
@@ -72,6 +86,25 @@ fn why_of(stepped: Stepped) -> Option<Why>
     }
 }
 
+/// Whether the host asks for a stop where the machine stands; it isn't asked where nothing is left to reduce.
+#[inline(always)]
+fn stops_at<H: Asks>(
+    host: &H,
+    table: &NodeTable,
+    context: &Context,
+    stack: &Stack,
+    point: Point,
+) -> bool
+    requires table { IsTable table.now }
+    requires at { IsAt table.now stack.now point }
+    ensures { (names : List (List ℕ)) (world : AnyWorld) (taken : List (List ℕ)) → result ≡ asks_at (H.stops host.now) (run_of (term_at names table.now stack.now point) (state_of world context.now taken)) }
+{
+    match point {
+        Point::Done(_) => false,
+        _ => host.asks(table, context, stack, point),
+    }
+}
+
 /// Steps until the host asks for a stop, until a raise, a print or the end, or until so many.
 pub fn run<T: Rows, W: World, H: Asks>(
     alloc: Global,
@@ -83,14 +116,20 @@ pub fn run<T: Rows, W: World, H: Asks>(
     stack: &mut Stack,
     point: &mut Point,
     most: u64,
-    host: &mut H,
+    host: &H,
 ) -> Ran
     requires table { IsTable table.now }
     requires functions { HasFunctions table.now }
     requires stands { StandsIn table.now root stack.old point.old }
     ensures told { (taken : List (List ℕ)) → RunsTo (steps_in result.steps (program_of names.now table.now) root (run_of (term_at names.now table.now stack.old point.old) (state_of (W.world names.now world.old) context.old taken))) result.why (term_at names.now table.now stack.new point.new) (state_of (W.world names.now world.new) context.new taken) }
+    // Each of the steps is one of a run that isn't over.
+    ensures left { (taken : List (List ℕ)) → RunsFor result.steps (program_of names.now table.now) root (run_of (term_at names.now table.now stack.old point.old) (state_of (W.world names.now world.old) context.old taken)) }
     ensures stands { IfGoes result.why (StandsIn table.now root stack.new point.new) }
     ensures within { result.steps ≤ most }
+    ensures counted { CountsAs result.why result.steps most }
+    // The host asked for a stop behind the last step, if that is the reason, and behind none before.
+    ensures asked { (taken : List (List ℕ)) → IsAsked (H.stops host.now) result.why (steps_in result.steps (program_of names.now table.now) root (run_of (term_at names.now table.now stack.old point.old) (state_of (W.world names.now world.old) context.old taken))) }
+    ensures passed { (taken : List (List ℕ)) → HasPassed (H.stops host.now) (passed_steps result.why result.steps) (program_of names.now table.now) root (run_of (term_at names.now table.now stack.old point.old) (state_of (W.world names.now world.old) context.old taken)) }
 {
     for steps in 0..most {
         if let Point::Done(value) = *point {
@@ -106,7 +145,7 @@ pub fn run<T: Rows, W: World, H: Asks>(
                 why,
             };
         }
-        if host.asks(table, context, stack, *point) {
+        if stops_at(host, table, context, stack, *point) {
             return Ran {
                 steps: steps + 1,
                 why: Why::Asked,

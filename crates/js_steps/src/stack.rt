@@ -1,6 +1,6 @@
 //! The stack of a machine: the forms that it is in, with the values of their parts.
 
-ghost use Rattle.std.specs.Prelude.{◌≡◌, true, false, List, [], ◌∷◌, length, Some, None, reverse, OnOk, OnErr, IfOk, IfSome, IfNone};
+ghost use Rattle.std.specs.Prelude.{◌≡◌, true, false, List, [], ◌∷◌, length, drop, slice_get, Some, None, reverse, OnOk, OnErr, IfOk, IfSome, IfNone};
 ghost use Rattle.js_steps.specs.Tasks.{scope_of};
 ghost use Rattle.js_steps.specs.Stacks.{has_extra, wide, begun, values_of, extra_of, outer_of, with_value, without_values, at_part, changed, within, turned, owning, OwnsAs, OwnsOnly, other_extras, next_turn, turned_extras};
 
@@ -127,6 +127,25 @@ impl Stack {
         ensures owned { OwnsOnly self.now }
     {
         self.tasks.last().copied()
+    }
+
+    /// How many tasks there are.
+    pub fn len(&self) -> usize
+        ensures { result ≡ length self.now }
+    {
+        self.tasks.len()
+    }
+
+    /// The task of a number, counted from 0 for the innermost one, if there is one.
+    pub fn task_at(&self, i: usize) -> Option<Task>
+        ensures some { IfSome result (λ t. slice_get self.now i ≡ Some (wide t (values_of (drop i self.now)) (extra_of (drop i self.now)))) }
+        ensures none { IfNone result (slice_get self.now i ≡ None) }
+    {
+        let n = self.tasks.len();
+        if i < n {
+            return Some(self.tasks[n - 1 - i]);
+        }
+        None
     }
 
     /// The values of the innermost task.

@@ -114,19 +114,22 @@ pub fn call_slots(
 ) -> Result<Vec<Slot>, AllocError>
     ensures { IfOk result (λ slots. (names : List (List ℕ)) → bindings names slots.items ≡ definition_parameters 0 (texts_of names parameters.now) arguments.now ++ bindings names others.now) }
 {
-    let mut slots = parameters_from(alloc, parameters, arguments)?;
+    let room = parameters.len().saturating_add(others.len());
+    let mut slots = parameters_from(alloc, parameters, arguments, room)?;
     slots.extend_from_slice(others)?;
     Ok(slots)
 }
 
+/// Parameters with their arguments, in memory for so many names.
 fn parameters_from(
     alloc: Global,
     parameters: &[NameId],
     arguments: &[Value],
+    room: usize,
 ) -> Result<Vec<Slot>, AllocError>
     ensures { IfOk result (λ slots. slots.items ≡ slots_from 0 parameters.now arguments.now) }
 {
-    let mut slots = Vec::with_capacity(alloc, parameters.len())?;
+    let mut slots = Vec::with_capacity(alloc, room)?;
     for i in 0..parameters.len() {
         slots.push(Slot {
             name: parameters[i],

@@ -1,9 +1,25 @@
 use Rattle.std.proofs.Common.{sym, ◌∙◌, arith}
-use Rattle.js_steps.proofs.RunLemmas.{going, done-runs, stop-runs, stop-stands, next-runs}
+use Rattle.js_steps.proofs.RunLemmas.{going, runs-init, none-passed, done-runs, stop-runs, stop-stands, stop-counted, stop-asked, stop-passed, next-runs, more-left, more-passed, asked-so, passed-but-last, first-passed}
 use Rattle.js_steps.proofs.run.run.Goals as goal
 
-pub returns-in-Done-clause-told : goal.returns-in-Done-clause-told
-returns-in-Done-clause-told g c = λ taken. done-runs c.args.names.now c.args.table.now c.args.root c.args.stack.now c.args.point.now (g.W.World.world c.args.names.now c.args.world.now) c.args.context.now c.loop-steps.steps c.loop-steps.stack c.loop-steps.point (g.W.World.world c.args.names.now c.loop-steps.world) c.loop-steps.context c.in-Done.value c.loop-steps.invariant c.in-Done.is taken
+pub loop-steps-init : goal.loop-steps-init
+loop-steps-init g c = record {
+  run = runs-init c.args.names.now c.args.table.now c.args.root c.args.stack.now c.args.point.now (g.W.World.world c.args.names.now c.args.world.now) c.args.context.now c.requires.stands;
+  passed = λ taken. none-passed (g.H.Asks.stops c.args.host.now) _ _ _;
+}
+
+pub returns-in-Done : goal.returns-in-Done
+returns-in-Done g c =
+    let i = c.loop-steps.invariant in
+    record {
+      told = λ taken. done-runs c.args.names.now c.args.table.now c.args.root c.args.stack.now c.args.point.now (g.W.World.world c.args.names.now c.args.world.now) c.args.context.now c.loop-steps.steps c.loop-steps.stack c.loop-steps.point (g.W.World.world c.args.names.now c.loop-steps.world) c.loop-steps.context c.in-Done.value i.run c.in-Done.is taken;
+      left = i.run.left;
+      stands = tt;
+      within = omega (arith, c.loop-steps-test.true);
+      counted = tt;
+      asked = λ taken. tt;
+      passed = λ taken. first-passed _ _ _ _ _ (i.passed taken);
+    }
 
 pub returns-in-Some : goal.returns-in-Some
 returns-in-Some g c =
@@ -12,24 +28,38 @@ returns-in-Some g c =
     let w = g.W.World.world ts c.args.world.now in
     let v = g.W.World.world ts c.loop-steps.world in
     let x = g.W.World.world ts c.step-stepped.new.world in
+    let i = c.loop-steps.invariant in
     let going_on = going c.loop-steps.point c.in_default.not-Done in
     let y = sym c.why_of.ensures ∙ c.in-Some.is in
     record {
-      told = λ taken. stop-runs ts t c.args.root c.args.stack.now c.args.point.now w c.args.context.now c.loop-steps.steps c.loop-steps.stack c.step-stepped.new.stack c.loop-steps.point c.step-stepped.new.point v x c.loop-steps.context c.step-stepped.new.context c.step-stepped.result c.in-Some.why c.loop-steps.invariant going_on y taken (c.step-stepped.ensures.told taken);
+      told = λ taken. stop-runs ts t c.args.root c.args.stack.now c.args.point.now w c.args.context.now c.loop-steps.steps c.loop-steps.stack c.step-stepped.new.stack c.loop-steps.point c.step-stepped.new.point v x c.loop-steps.context c.step-stepped.new.context c.step-stepped.result c.in-Some.why i.run going_on y taken (c.step-stepped.ensures.told taken);
+      left = more-left ts t c.args.root c.args.stack.now c.args.point.now w c.args.context.now c.loop-steps.steps c.loop-steps.stack c.loop-steps.point v c.loop-steps.context i.run going_on;
       stands = stop-stands t c.args.root c.step-stepped.new.stack c.step-stepped.new.point c.step-stepped.result c.in-Some.why y c.step-stepped.ensures.stands;
       within = omega (arith, c.loop-steps-test.true);
+      counted = stop-counted c.step-stepped.result c.in-Some.why c.loop-steps.steps c.args.most y;
+      asked = λ taken. stop-asked (g.H.Asks.stops c.args.host.now) c.step-stepped.result c.in-Some.why _ y;
+      passed = λ taken. stop-passed (g.H.Asks.stops c.args.host.now) c.step-stepped.result c.in-Some.why c.loop-steps.steps _ _ _ y (i.passed taken);
     }
 
-pub returns-then-asks : goal.returns-then-asks
-returns-then-asks g c =
+pub returns-then-stops_at : goal.returns-then-stops_at
+returns-then-stops_at g c =
     let ts = c.args.names.now in
     let t = c.args.table.now in
     let w = g.W.World.world ts c.args.world.now in
     let v = g.W.World.world ts c.loop-steps.world in
     let x = g.W.World.world ts c.step-stepped.new.world in
+    let i = c.loop-steps.invariant in
     let going_on = going c.loop-steps.point c.in_default.not-Done in
-    let n = next-runs ts t c.args.root c.args.stack.now c.args.point.now w c.args.context.now c.loop-steps.steps c.loop-steps.stack c.step-stepped.new.stack c.loop-steps.point c.step-stepped.new.point v x c.loop-steps.context c.step-stepped.new.context c.step-stepped.result c.loop-steps.invariant going_on (sym c.why_of.ensures ∙ c.in_default-why_of.is) c.step-stepped.ensures.told c.step-stepped.ensures.stands in
-    record { told = n.runs; stands = n.stands; within = omega (arith, c.loop-steps-test.true) }
+    let n = next-runs ts t c.args.root c.args.stack.now c.args.point.now w c.args.context.now c.loop-steps.steps c.loop-steps.stack c.step-stepped.new.stack c.loop-steps.point c.step-stepped.new.point v x c.loop-steps.context c.step-stepped.new.context c.step-stepped.result i.run going_on (sym c.why_of.ensures ∙ c.in_default-why_of.is) c.step-stepped.ensures.told c.step-stepped.ensures.stands in
+    record {
+      told = n.runs;
+      left = n.left;
+      stands = n.stands;
+      within = omega (arith, c.loop-steps-test.true);
+      counted = omega arith;
+      asked = λ taken. asked-so (g.H.Asks.stops c.args.host.now) _ _ _ (n.runs taken) (c.stops_at.ensures ts x taken) c.if-stops_at.true;
+      passed = λ taken. passed-but-last (g.H.Asks.stops c.args.host.now) c.loop-steps.steps _ _ _ (i.passed taken);
+    }
 
 pub loop-steps-preserved : goal.loop-steps-preserved
 loop-steps-preserved g c =
@@ -38,5 +68,10 @@ loop-steps-preserved g c =
     let w = g.W.World.world ts c.args.world.now in
     let v = g.W.World.world ts c.loop-steps.world in
     let x = g.W.World.world ts c.step-stepped.new.world in
+    let i = c.loop-steps.invariant in
     let going_on = going c.loop-steps.point c.in_default.not-Done in
-    next-runs ts t c.args.root c.args.stack.now c.args.point.now w c.args.context.now c.loop-steps.steps c.loop-steps.stack c.step-stepped.new.stack c.loop-steps.point c.step-stepped.new.point v x c.loop-steps.context c.step-stepped.new.context c.step-stepped.result c.loop-steps.invariant going_on (sym c.why_of.ensures ∙ c.in_default-why_of.is) c.step-stepped.ensures.told c.step-stepped.ensures.stands
+    let n = next-runs ts t c.args.root c.args.stack.now c.args.point.now w c.args.context.now c.loop-steps.steps c.loop-steps.stack c.step-stepped.new.stack c.loop-steps.point c.step-stepped.new.point v x c.loop-steps.context c.step-stepped.new.context c.step-stepped.result i.run going_on (sym c.why_of.ensures ∙ c.in_default-why_of.is) c.step-stepped.ensures.told c.step-stepped.ensures.stands in
+    record {
+      run = n;
+      passed = λ taken. more-passed (g.H.Asks.stops c.args.host.now) c.loop-steps.steps _ _ _ (i.passed taken) (asked-so (g.H.Asks.stops c.args.host.now) _ _ _ (n.runs taken) (c.stops_at.ensures ts x taken) c.if-stops_at.false);
+    }
