@@ -1,0 +1,5 @@
+pub mod KindLaws
+pub mod ActiveLaws
+pub mod CatchLaws
+pub mod FrameLaws
+pub mod ShownLaws

@@ -1,0 +1,5 @@
+pub mod Kinds
+pub mod Sources
+pub mod Catchers
+pub mod Scopes
+pub mod Shown

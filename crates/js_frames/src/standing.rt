@@ -1,0 +1,10 @@
+//! What is told of a throw that stands.
+
+use js_heap::value::Value;
+
+/// A throw that stands: its value, and whether no catch will take it.
+#[derive(Clone, Copy, Debug, PartialEq, Eq)]
+pub struct Thrown {
+    pub value: Value,
+    pub uncaught: bool,
+}
