@@ -7,5 +7,4 @@ pub mod names;
 pub mod objects;
 pub mod operators;
 pub mod places;
-pub mod program;
 pub mod references;

@@ -1,2 +1,1 @@
 pub mod TermLaws
-pub mod ProgramLaws

@@ -45,22 +45,3 @@ pub listed_view-append : (xs ys : List Term) → listed_view (xs ++ ys) ≡ sema
 listed_view-append xs ys = ap listed (map-append term_view xs ys) ∙ listed-append (map term_view xs) (map term_view ys)
 
 pub ruleset joined_laws = (listed_view-append)
-
-pub last_value_more : (v : Value) (t : semantics.Term) (ts : semantics.Terms) → semantics.last_value v (semantics.more t ts) ≡ semantics.last_value (semantics.last_value v (semantics.one t)) ts
-last_value_more v (semantics.done u) ts = refl
-last_value_more v (semantics.standing u s) ts = refl
-last_value_more v (semantics.part f now later) ts = refl
-
-pub ruleset last_value_laws = (last_value_more)
-
--- a loop's update and body are the next parts
-pub update_rest : (t : semantics.Term) (ts : semantics.Terms) → semantics.update_of (semantics.more t ts) ≡ semantics.test_of ts
-update_rest t semantics.end = refl
-update_rest t (semantics.more u ts) = refl
-
-pub body_rest : (t : semantics.Term) (ts : semantics.Terms) → semantics.body_of_loop (semantics.more t ts) ≡ semantics.update_of ts
-body_rest t semantics.end = refl
-body_rest t (semantics.more u semantics.end) = refl
-body_rest t (semantics.more u (semantics.more b ts)) = refl
-
-pub ruleset loop_laws = (update_rest, body_rest)

@@ -1,9 +1,7 @@
-//! Copies of forms and terms.
+//! Copies of forms.
 
-ghost use Rattle.std.specs.Prelude.{◌≡◌, IfOk, map};
-ghost use Rattle.js_terms.specs.Views.{term_view, terms_view};
+ghost use Rattle.std.specs.Prelude.{◌≡◌, IfOk};
 
-use crate::term::{Term, Terms, part, terms_of};
 use js_heap::cell::{Binding, Names as ScopeNames};
 use js_semantics::form::{Form, FunctionForm, Member, Members, Reference};
 use js_tree::names::Names;
@@ -152,41 +150,4 @@ pub fn form_copy(alloc: Global, form: &Form) -> Result<Form, AllocError>
             *node,
         )),
     }
-}
-
-/// A copy of a part.
-#[cycle(copy)]
-#[tactic(auto, using(crate::proofs::TermLaws::term_laws))]
-pub fn term_copy(alloc: Global, term: &Term) -> Result<Term, AllocError>
-    ensures { IfOk result (λ t. term_view t ≡ term_view term.now) }
-{
-    match term {
-        Term::Done(value) => Ok(Term::Done(*value)),
-        Term::Standing(value, spot) => Ok(Term::Standing(*value, *spot)),
-        Term::Part { form, now, later } => {
-            let now = terms_copy(alloc, now)?;
-            let later = terms_copy(alloc, later)?;
-            part(alloc, form_copy(alloc, form)?, now, later)
-        }
-    }
-}
-
-/// A copy of parts.
-#[cycle(copy)]
-#[tactic(auto, using(crate::proofs::TermLaws::terms_listed))]
-pub fn terms_copy(alloc: Global, terms: &Terms) -> Result<Terms, AllocError>
-    ensures { IfOk result (λ ts. terms_view ts ≡ terms_view terms.now) }
-{
-    Ok(terms_of(items_copy(alloc, &terms.items)?))
-}
-
-#[cycle(copy)]
-fn items_copy(alloc: Global, items: &Vec<Term>) -> Result<Vec<Term>, AllocError>
-    ensures { IfOk result (λ v. map term_view v.items ≡ map term_view items.now.items) }
-{
-    let mut copies = Vec::new(alloc);
-    for item in items {
-        copies.push(term_copy(alloc, item)?)?;
-    }
-    Ok(copies)
 }

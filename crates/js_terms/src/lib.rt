@@ -1,7 +1,5 @@
-//! Residual terms as code, and the functions of a program.
+//! Residual terms as code.
 #![tactic(auto)]
 
 pub mod copies;
-pub mod program;
-pub mod settle;
 pub mod term;

@@ -131,61 +131,6 @@ impl Terms {
     }
 }
 
-/// Whether it is a value.
-#[tactic(auto, using(crate::proofs::TermLaws::term_laws))]
-pub fn is_done(term: &Term) -> bool
-    ensures { result ≡ semantics.is_done (term_view term.now) }
-{
-    match term {
-        Term::Done(_) => true,
-        Term::Standing(..) | Term::Part { .. } => false,
-    }
-}
-
-/// Whether all parts are values.
-pub fn all_done(terms: &Terms) -> bool
-    ensures { result ≡ semantics.all_done (terms_view terms.now) }
-{
-    are_done(terms.slice())
-}
-
-fn are_done(terms: &[Term]) -> bool
-    ensures { result ≡ semantics.all_done (listed_view terms.now) }
-{
-    match terms {
-        [] => true,
-        [first, rest @ ..] => is_done(first) && are_done(rest),
-    }
-}
-
-/// The value of the last part that is one; this one where there is none.
-pub fn last_value(value: Value, terms: &Terms) -> Value
-    ensures { result ≡ semantics.last_value value (terms_view terms.now) }
-{
-    last_value_of(value, terms.slice())
-}
-
-#[tactic(auto, using(crate::proofs::TermLaws::last_value_laws))]
-fn last_value_of(value: Value, terms: &[Term]) -> Value
-    ensures { result ≡ semantics.last_value value (listed_view terms.now) }
-{
-    match terms {
-        [] => value,
-        [first, rest @ ..] => last_value_of(value_or(value, first), rest),
-    }
-}
-
-// the value of a term, or this one where it isn't a value
-#[tactic(auto, using(crate::proofs::TermLaws::term_laws))]
-fn value_or(value: Value, term: &Term) -> Value
-    ensures { result ≡ semantics.last_value value (semantics.one (term_view term.now)) }
-{
-    match term {
-        Term::Done(own) => *own,
-        Term::Standing(..) | Term::Part { .. } => value,
-    }
-}
-
 /// These parts and then those.
 #[tactic(auto, using(crate::proofs::TermLaws::joined_laws))]
 pub fn joined(first: Terms, second: Terms) -> Result<Terms, AllocError>

@@ -17,12 +17,10 @@ mod whole_scripts;
 
 use cdp_text::decimal::read_decimal;
 use cdp_text::units::{Units, text_of, units_of};
-use js_interpreter::run::{Finish, Progress};
+use js_machine::plain::{Outcome, run_scripts};
+use js_operations::shown::shown;
 use js_parser::parse::parse_script;
-use js_run::run::Outcome;
-use js_run::scripts::run_scripts;
-use js_state::shown::shown;
-use js_state::state::State;
+use js_steps::stepped::Finish;
 use js_tree::script::Script;
 use std::alloc::{AllocError, Global};
 use std::collections::VecDeque;
@@ -32,19 +30,19 @@ use std::test::Fail;
 
 /// How a run ended, as a program tells it.
 fn end_of(alloc: Global, outcome: &Outcome) -> Result<String, AllocError> {
-    let value = match outcome.progress {
-        Progress::Running(_) => return String::from_str(alloc, "running"),
-        Progress::Over(Finish::Ended(_)) => return String::from_str(alloc, "ended"),
-        Progress::Over(Finish::Threw(value, _)) => value,
+    let value = match outcome.machine.finished() {
+        None => return String::from_str(alloc, "running"),
+        Some(Finish::Ended(_)) => return String::from_str(alloc, "ended"),
+        Some(Finish::Threw(value, _)) => value,
     };
-    let units = shown(alloc, outcome.state.world(), value)?;
+    let units = shown(alloc, &outcome.heap, outcome.machine.names(), value)?;
     format!(in alloc; "Uncaught {}", text_of(alloc, units.as_slice())?)
 }
 
-/// The lines that a run printed.
-pub(crate) fn printed_by(alloc: Global, state: &State) -> Result<String, AllocError> {
+/// Texts, each in a line.
+pub(crate) fn lines_of(alloc: Global, texts: &[Units]) -> Result<String, AllocError> {
     let mut lines = String::new(alloc);
-    for units in state.printed() {
+    for units in texts {
         lines.push_str(&text_of(alloc, units.as_slice())?)?;
         lines.push('\n')?;
     }
@@ -54,7 +52,7 @@ pub(crate) fn printed_by(alloc: Global, state: &State) -> Result<String, AllocEr
 /// How many steps a run took and how it ended, and in further lines what it printed.
 fn told(alloc: Global, outcome: &Outcome) -> Result<String, AllocError> {
     let end = end_of(alloc, outcome)?;
-    let printed = printed_by(alloc, &outcome.state)?;
+    let printed = lines_of(alloc, outcome.machine.printed())?;
     format!(in alloc; "{} {end}\n{printed}", outcome.steps)
 }
 

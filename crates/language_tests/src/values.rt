@@ -3,10 +3,13 @@
 use cdp_text::units::{text_of as utf8_of, units_of};
 use js_heap::computed::Computed;
 use js_heap::value::{Addr, Value};
-use js_interpreter::expressions::is_safe;
-use js_state::world::PlainWorld;
+use js_operations::seen::Seen;
+use js_rows::operators::is_safe;
 use js_tree::operator::BinaryOperator;
 use js_values::operators::{binary_result, text_of};
+use js_world::heap::BaseHeap;
+use js_world::names::Names;
+use js_world::start::add_built_in_names;
 use std::alloc::{AllocError, Global};
 use std::process::Abort;
 use std::test::Fail;
@@ -20,10 +23,17 @@ const B: Value = Value::Text(Addr::Base(25));
 /// `console`
 const OBJECT: Value = Value::Object(Addr::Base(4));
 
-/// A world with these.
-fn cells(alloc: Global) -> Result<PlainWorld, AllocError> {
+/// The names of a heap.
+fn built_in_names(alloc: Global) -> Result<Names, AllocError> {
+    let mut names = Names::new(alloc);
+    add_built_in_names(alloc, &mut names)?;
+    Ok(names)
+}
+
+/// A heap with these.
+fn heap(alloc: Global, names: &Names) -> Result<BaseHeap, AllocError> {
     let literals = [units_of(alloc, "ab")?, units_of(alloc, "b")?];
-    PlainWorld::start(alloc, &literals)
+    BaseHeap::start(alloc, names, &literals)
 }
 
 /// Operations, and their results.
@@ -88,7 +98,7 @@ const BINARY: [(Value, BinaryOperator, Value, &str); 12] = [
 ];
 
 /// A result as a text: a value's text, the text, or an error's message.
-fn shown(alloc: Global, cells: &PlainWorld, computed: Computed) -> Result<String, AllocError> {
+fn shown(alloc: Global, cells: &Seen<BaseHeap>, computed: Computed) -> Result<String, AllocError> {
     let units = match computed {
         Computed::Value(value) => text_of(alloc, cells, value)?,
         Computed::Text(units) => Some(units),
@@ -106,7 +116,12 @@ fn come_to(
     alloc: Global,
     rows: &[(Value, BinaryOperator, Value, &str)],
 ) -> Result<(), Fail> {
-    let cells = cells(alloc)?;
+    let names = built_in_names(alloc)?;
+    let heap = heap(alloc, &names)?;
+    let cells = Seen {
+        names: &names,
+        world: &heap,
+    };
     for (left, operator, right, want) in rows {
         assert!(rt; is_safe(*left));
         assert!(rt; is_safe(*right));

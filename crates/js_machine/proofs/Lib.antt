@@ -1,0 +1,4 @@
+pub mod ScriptLemmas
+pub mod PlainLemmas
+pub mod MachineLemmas
+pub mod StartLemmas

@@ -1,0 +1,18 @@
+use Rattle.std.proofs.Common.{refl}
+use Rattle.js_terms.specs.Views.{terms_view}
+use Rattle.js_world.specs.Heaps.{heap_world}
+use Rattle.js_steps.specs.Points.{term_at}
+use Rattle.js_compile.proofs.NameLemmas.{goes_on_same}
+use Rattle.js_machine.proofs.StartLemmas.{starts-so}
+use Rattle.js_machine.proofs.machine.Machine.of_terms.Goals as goal
+
+pub returns : goal.returns
+returns c =
+    let p = c.in_ok-names.field-0 in
+    let h = c.in_ok-names.ensures in
+    let u = term_at p.names p.code.table c.uncover.new.stack c.uncover.new.point in
+    record {
+      going = refl;
+      program = h.code.program p.names (goes_on_same p.names);
+      run = starts-so (terms_view c.args.scripts.now) c.args.input.items p.names p.code.table p.code.root u (heap_world p.names p.heap) c.in_ok-context.context c.new-stack.result h.code c.new-stack.ensures (c.in_ok-uncover.ensures.term p.names) h.cells c.in_ok-context.ensures;
+    }

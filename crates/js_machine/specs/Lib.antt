@@ -1,0 +1,4 @@
+pub mod Machines
+pub mod Starts
+pub mod Plain
+pub mod Standing

@@ -1,0 +1,124 @@
+-- Machines, and the runs that they are with a world.
+use Rattle.std.specs.Prelude.{◌≡◌, ℕ, List, Option, Some, None}
+use Rattle.js_heap.specs.World.{World}
+use Rattle.js_heap.specs.BuiltIns.{script_scope}
+use Rattle.js_semantics.specs.Terms.{Term}
+use Rattle.js_semantics.specs.State.{State}
+use Rattle.js_semantics.specs.Functions.{Program}
+use Rattle.js_semantics.specs.Run.{Run, over, by_effect, by_full, run_of}
+use Rattle.js_operations.specs.Contexts as contexts
+use Rattle.js_operations.specs.Contexts.{Context}
+use Rattle.js_code.specs.declared.table.NodeTable.{NodeTable}
+use Rattle.js_code.specs.Codes.{HasFunctions}
+use Rattle.js_code.specs.Trees as trees
+use Rattle.js_code.specs.Trees.{IsTable}
+use Rattle.js_steps.specs.declared.run.Why.{Why}
+use Rattle.js_steps.specs.declared.run.Why.TheVariants as whys
+use Rattle.js_steps.specs.declared.stepped.Finish.{Finish}
+use Rattle.js_steps.specs.declared.stepped.Finish.TheVariants as finishes
+use Rattle.js_steps.specs.declared.stepped.Stepped.{Stepped}
+use Rattle.js_steps.specs.declared.stepped.Stepped.TheVariants as steppeds
+use Rattle.js_steps.specs.declared.task.Point.{Point}
+use Rattle.js_steps.specs.declared.task.Point.TheVariants as points
+use Rattle.js_steps.specs.Tasks.{Wide}
+use Rattle.js_steps.specs.Points.{term_at}
+use Rattle.js_steps.specs.Stepping.{finish_of, StandsIn}
+use Rattle.js_machine.specs.declared.end.End.{End}
+use Rattle.js_machine.specs.declared.end.End.TheVariants as ends
+
+-- the code with its names, what a step threads beside the world, the tasks from the innermost one, where it stands, and how
+-- it ended
+pub record Machine : Type 0 where
+  pub table : NodeTable
+  pub names : List (List ℕ)
+  pub context : Context
+  pub tasks : List Wide
+  pub point : Point
+  pub ended : Option End
+
+-- ---- what it is of a run
+
+-- the sources in which the code of functions is looked up
+abbrev pub program_of : Machine → Program
+program_of m = trees.program_of m.names m.table
+
+-- what is left to reduce
+abbrev pub term_of : Machine → Term
+term_of m = term_at m.names m.table m.tasks m.point
+
+-- with a world, behind the texts that were taken
+abbrev pub state_of : Machine → World → List (List ℕ) → State
+state_of m w taken = contexts.state_of w m.context taken
+
+abbrev pub run_by : Option End → Term → State → Run
+run_by None t s = run_of t s
+run_by (Some (ends.Finished f)) t s = over (finish_of f) s
+run_by (Some ends.Effect) t s = over by_effect s
+run_by (Some (ends.Full what)) t s = over (by_full what) s
+run_by (Some ends.Lost) t s = run_of t s
+
+-- the run: a term with its state, or the end with its state
+abbrev pub run_at : Machine → World → List (List ℕ) → Run
+run_at m w taken = run_by m.ended (term_of m) (state_of m w taken)
+
+-- ---- ends
+
+-- something is left to reduce
+abbrev pub IsLeft : Option End → Point → Type 0
+IsLeft (Some e) p = ⊥
+IsLeft None (points.Done v) = ⊥
+IsLeft None p = Unit {0}
+
+abbrev pub IsGoing : Machine → Type 0
+IsGoing m = IsLeft m.ended m.point
+
+-- the machine was not given up
+abbrev pub IsKept : Option End → Type 0
+IsKept (Some ends.Lost) = ⊥
+IsKept e = Unit {0}
+
+-- the end, where all is reduced
+abbrev pub finish_at : Option End → Point → Option Finish
+finish_at (Some (ends.Finished f)) p = Some f
+finish_at (Some ends.Effect) p = None
+finish_at (Some (ends.Full what)) p = None
+finish_at (Some ends.Lost) p = None
+finish_at None (points.Done v) = Some (finishes.Ended v)
+finish_at None p = None
+
+-- how a step ends the run
+abbrev pub end_of : Stepped → Option End
+end_of steppeds.Went = None
+end_of steppeds.Raised = None
+end_of (steppeds.Printed vs) = None
+end_of (steppeds.Over f) = Some (ends.Finished f)
+end_of steppeds.Effect = Some ends.Effect
+end_of (steppeds.Full what) = Some (ends.Full what)
+end_of steppeds.Memory = Some ends.Lost
+
+-- how many steps end it
+abbrev pub end_of_run : Why → Option End
+end_of_run whys.Asked = None
+end_of_run whys.Spent = None
+end_of_run whys.Raised = None
+end_of_run (whys.Printed vs) = None
+end_of_run (whys.Over f) = Some (ends.Finished f)
+end_of_run whys.Effect = Some ends.Effect
+end_of_run (whys.Full what) = Some (ends.Full what)
+end_of_run whys.Memory = Some ends.Lost
+
+-- ---- what holds of every machine
+
+abbrev pub StandsUntilEnd : NodeTable → List Wide → Point → Option End → Type 0
+StandsUntilEnd t ws p None = StandsIn t script_scope ws p
+StandsUntilEnd t ws p (Some e) = Unit {0}
+
+pub record IsSound (t : NodeTable) (ws : List Wide) (p : Point) (e : Option End) : Type 0 where
+  pub table : IsTable t
+  pub functions : HasFunctions t
+  pub stands : StandsUntilEnd t ws p e
+
+-- the code stays
+pub record HasSameCode (m n : Machine) : Type 0 where
+  pub table : n.table ≡ m.table
+  pub names : n.names ≡ m.names

@@ -1,0 +1,8 @@
+//! The machine that runs scripts, step by step.
+#![tactic(auto)]
+
+pub mod end;
+pub mod machine;
+pub mod plain;
+pub mod scripts;
+pub mod start;

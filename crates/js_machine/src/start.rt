@@ -1,0 +1,40 @@
+//! What a run needs before its first step.
+
+ghost use Rattle.std.specs.Prelude.{IfOk};
+ghost use Rattle.js_terms.specs.Views.{terms_view};
+ghost use Rattle.js_machine.specs.Starts.{IsPrepared};
+
+use js_compile::scripts::{ScriptCode, code_of_scripts};
+use js_programs::literals::{literals_of, placed_scripts};
+use js_terms::term::Terms;
+use js_world::heap::BaseHeap;
+use js_world::names::Names;
+use js_world::start::add_built_in_names;
+use std::alloc::{AllocError, Global};
+
+/// The code of scripts, the names in it, and the cells before the first step.
+#[derive(Drop)]
+pub struct Prepared {
+    pub names: Names,
+    pub code: ScriptCode,
+    pub heap: BaseHeap,
+}
+
+/// Makes the code of scripts and the cells before the first step.
+///
+/// # Errors
+///
+/// There is no memory for them, also where the scripts have more string literals than there are addresses.
+pub fn prepare(alloc: Global, scripts: &Terms) -> Result<Prepared, AllocError>
+    ensures { IfOk result (λ p. IsPrepared (terms_view scripts.now) p) }
+{
+    let literals = literals_of(alloc, scripts)?;
+    let placed = placed_scripts(alloc, scripts)?;
+    let mut names = Names::new(alloc);
+    add_built_in_names(alloc, &mut names)?;
+    let Some(code) = code_of_scripts(alloc, &mut names, &placed)? else {
+        return Err(AllocError);
+    };
+    let heap = BaseHeap::start(alloc, &names, literals.as_slice())?;
+    Ok(Prepared { names, code, heap })
+}

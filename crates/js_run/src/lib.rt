@@ -1,5 +1,0 @@
-//! Plain runs of scripts that are given as terms or as trees.
-#![tactic(auto)]
-
-pub mod run;
-pub mod scripts;

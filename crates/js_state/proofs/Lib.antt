@@ -1,9 +1,0 @@
-pub mod FlowLemmas
-pub mod WeightLemmas
-pub mod FitLemmas
-pub mod ApplyLemmas
-pub mod NameLemmas
-pub mod ShownLemmas
-pub mod ListLemmas
-pub mod CallLemmas
-pub mod StartLemmas

@@ -1,5 +1,0 @@
-use Rattle.js_state.proofs.FlowLemmas.{pushes-by}
-use Rattle.js_state.proofs.state.State.push_frame.Goals as goal
-
-pub returns : goal.returns
-returns c = pushes-by _ c.args.self.now c.self.view_is c.args.frame c.push_front.new.self.items c.in_ok-push_front.ensures.items

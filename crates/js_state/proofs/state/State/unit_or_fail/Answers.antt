@@ -1,7 +1,0 @@
-use Rattle.js_heap.specs.Operators.{not_safe}
-use Rattle.js_state.proofs.FlowLemmas.{result-gives}
-use Rattle.js_state.proofs.state.State.unit_or_fail.Goals as goal
-
-pub returns-in_ok-error-in-None : goal.returns-in_ok-error-in-None
-returns-in_ok-error-in-None c =
-    rw c.in-None.is (result-gives c.in_ok-error-in-None.error not_safe c.args.self.now c.with_result.new.self c.with_result.result c.in_ok-error-in-None.ensures c.with_result.ensures)
