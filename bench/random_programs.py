@@ -1,16 +1,16 @@
 #!/usr/bin/env python3
-"""Compares the plain interpreter with a counter of steps that was written from the rules alone, over random programs.
+"""Compares the machine with a counter of steps that was written from the rules alone, over random programs.
 
     python3 bench/random_programs.py [COUNT] [SEED]        (default 300 1)
 
 Makes COUNT programs of one script each from SEED, runs each for at most 300 steps, with the lines `l1` and `l2` as
-its input, by `bench/counted_steps.js` and by `js_run`, and compares the steps, the end and the printed lines. It prints
+its input, by `bench/counted_steps.js` and by `js_machine`, and compares the steps, the end and the printed lines. It prints
 each program on which they differ, with both answers, and at the end how many were equal, how many differ, and how the
 programs ended by the counter. The status is 1 where some differ.
 
 `FORMS` shows which forms are made, and how often each. Names have a kind (`NAMES`), and forms ask for parts of a kind,
 so that programs get some way; by chance a part is of another kind, or a name isn't known where it is used, so that the
-errors come up too. `js_run` is built into a small program in a folder of its own, which is run with no proof, compiled
+errors come up too. `js_machine` is built into a small program in a folder of its own, which is run with no proof, compiled
 with checks (`rt try`). 300 programs take some 70 seconds on a machine with four processors. It is no part of the gate,
 and needs node.
 """
@@ -395,15 +395,15 @@ def programs(count, seed):
 
 # ---- both answers
 
-PROGRAM = r"""// Runs programs by the plain interpreter.
+PROGRAM = r"""// Runs programs by the machine.
 #![tactic(auto)]
 
-use cdp_text::units::units_of;
-use js_interpreter::run::{Finish, Progress};
+use cdp_text::units::{Units, units_of};
+use js_machine::end::End;
+use js_machine::plain::{Outcome, run_scripts};
+use js_operations::shown::shown;
 use js_parser::parse::parse_script;
-use js_run::run::Outcome;
-use js_run::scripts::run_scripts;
-use js_state::shown::shown;
+use js_steps::stepped::Finish;
 use std::alloc::{AllocError, Global};
 use std::collections::VecDeque;
 
@@ -432,13 +432,16 @@ fn answer(alloc: Global, source: &str) -> Result<String, AllocError> {
     for line in INPUT.split(' ') {
         input.push_back(units_of(alloc, line)?)?;
     }
-    let outcome = run_scripts(alloc, scripts.as_slice(), input, MOST)?;
+    let outcome = match run_scripts(alloc, scripts.as_slice(), input, MOST) {
+        Ok(outcome) => outcome,
+        Err(_) => return format!(in alloc; "{{\"error\":\"no memory\"}}"),
+    };
     let steps = outcome.steps;
     let mut line = format!(in alloc; "{{\"steps\":{steps},\"end\":\"")?;
     push_end(alloc, &mut line, &outcome)?;
     line.push_str("\",\"printed\":[")?;
     let mut before = "\"";
-    for text in outcome.state.printed() {
+    for text in outcome.machine.printed() {
         line.push_str(before)?;
         push_escaped(alloc, &mut line, text.as_slice())?;
         line.push_str("\"")?;
@@ -450,11 +453,11 @@ fn answer(alloc: Global, source: &str) -> Result<String, AllocError> {
 
 /// Appends how a run ended.
 fn push_end(alloc: Global, line: &mut String, outcome: &Outcome) -> Result<(), AllocError> {
-    match outcome.progress {
-        Progress::Running(_) => line.push_str("running"),
-        Progress::Over(Finish::Ended(_)) => line.push_str("ended"),
-        Progress::Over(Finish::Threw(value, _)) => {
-            let text = shown(alloc, outcome.state.world(), value)?;
+    match outcome.machine.finished() {
+        None => line.push_str("running"),
+        Some(Finish::Ended(_)) => line.push_str("ended"),
+        Some(Finish::Threw(value, _)) => {
+            let text = shown(alloc, &outcome.heap, outcome.machine.names(), value)?;
             line.push_str("Uncaught ")?;
             push_escaped(alloc, line, text.as_slice())
         }
@@ -471,7 +474,7 @@ fn push_escaped(alloc: Global, line: &mut String, units: &[u16]) -> Result<(), A
 }
 """
 
-USES = ["cdp_text", "js_interpreter", "js_parser", "js_run", "js_state", "anyhow"]
+USES = ["cdp_text", "js_machine", "js_operations", "js_parser", "js_steps", "js_world", "anyhow"]
 
 
 def counted(sources):
@@ -485,7 +488,7 @@ def counted(sources):
 
 
 def interpreted(sources):
-    """The answers of the plain interpreter."""
+    """The answers of the machine."""
     text = PROGRAM.replace("INPUT_LINES", " ".join(INPUT)).replace("MOST_STEPS", str(MOST))
     with tempfile.TemporaryDirectory() as folder:
         crate = write_crate(folder, text, USES)
