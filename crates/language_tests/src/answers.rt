@@ -1,6 +1,6 @@
 //! That texts are answered as the rows of a table have it.
 
-use crate::{heap, lexer, parser, runs};
+use crate::{break_locations, heap, lexer, parser, runs};
 use cdp_text::units::units_of;
 use std::alloc::{AllocError, Global};
 use std::process::Abort;
@@ -25,6 +25,8 @@ pub(crate) enum Question {
     Expression,
     /// A function, and what it is parsed as.
     Function,
+    /// A script, and its break locations.
+    Locations,
     /// A script, and what its run comes to.
     Run,
     /// The same within so many steps.
@@ -43,6 +45,7 @@ fn of_source(alloc: Global, question: Question, text: &str) -> Result<String, Al
         Question::Tokens => lexer::tokens_of(alloc, source),
         Question::Value => lexer::value_of(alloc, source),
         Question::Later => parser::later_of(alloc, source),
+        Question::Locations => break_locations::locations_of(alloc, source),
         Question::Expression => parser::expression_of(alloc, source),
         Question::Function => parser::function_of(alloc, source),
         _ => parser::script_of(alloc, source),

@@ -5,6 +5,8 @@
 #[cfg(test)]
 mod answers;
 #[cfg(test)]
+mod break_locations;
+#[cfg(test)]
 mod heap;
 #[cfg(test)]
 mod lexer;

@@ -1,0 +1,6 @@
+pub mod TreeLaws
+pub mod WalkLemmas
+pub mod KindLemmas
+pub mod OrderLemmas
+pub mod SearchLemmas
+pub mod CoverLemmas

@@ -1,0 +1,5 @@
+pub mod Marks
+pub mod Kinds
+pub mod Locations
+pub mod Order
+pub mod Search

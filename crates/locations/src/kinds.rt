@@ -1,0 +1,86 @@
+//! What stands at each offset of a source.
+
+ghost use Rattle.std.specs.Prelude.{◌≡◌, ◌<◌, ◌≤◌, ℕ, None, IfOk, length};
+ghost use Rattle.js_semantics.specs.Frames.{offset_of};
+ghost use Rattle.locations.specs.Kinds.{stronger, with_mark, kind_of, AreKinds};
+
+use crate::marks::Marked;
+use crate::spot::SpotKind;
+use js_semantics::form::Mark;
+use js_tree::node::NodeId;
+use js_tree::script::Script;
+use js_tree::span::span;
+use std::alloc::{AllocError, Global};
+
+// of two kinds the stronger one
+fn stronger(first: SpotKind, second: SpotKind) -> SpotKind
+    ensures { result ≡ stronger first second }
+{
+    match first {
+        SpotKind::Plain => second,
+        SpotKind::Debugger => match second {
+            SpotKind::Plain => SpotKind::Debugger,
+            SpotKind::Debugger => SpotKind::Debugger,
+            SpotKind::Return => SpotKind::Return,
+            SpotKind::Call => SpotKind::Call,
+        },
+        SpotKind::Return => match second {
+            SpotKind::Plain => SpotKind::Return,
+            SpotKind::Debugger => SpotKind::Return,
+            SpotKind::Return => SpotKind::Return,
+            SpotKind::Call => SpotKind::Call,
+        },
+        SpotKind::Call => SpotKind::Call,
+    }
+}
+
+// what stands where a mark is added to what stood there
+fn with_mark(before: Option<SpotKind>, kind: SpotKind) -> Option<SpotKind>
+    ensures { result ≡ with_mark before kind }
+{
+    match before {
+        None => Some(kind),
+        Some(before) => Some(stronger(before, kind)),
+    }
+}
+
+// where a mark is in a script
+fn offset_of(script: &Script, mark: Mark) -> usize
+    ensures offset { result ≡ offset_of script.now.spans mark }
+    ensures within { result ≤ length script.now.source }
+{
+    match mark {
+        Mark::Beginning => 0,
+        Mark::Start(node) => span(script, NodeId(node)).start,
+        Mark::BeforeEnd(node, back) => span(script, NodeId(node)).end.saturating_sub(back),
+    }
+}
+
+// so many offsets at which nothing stands
+fn no_kinds(alloc: Global, count: usize) -> Result<Vec<Option<SpotKind>>, AllocError>
+    ensures long { IfOk result (λ kinds. length kinds.items ≡ count) }
+    ensures empty { IfOk result (λ kinds. (x : ℕ) → kind_of kinds.items x ≡ None) }
+{
+    let mut kinds = Vec::new(alloc);
+    for _i in 0..count {
+        kinds.push(None)?;
+    }
+    Ok(kinds)
+}
+
+// what stands at each offset of a script that has these marks
+pub fn kinds_of(
+    alloc: Global,
+    script: &Script,
+    marks: &[Marked],
+) -> Result<Vec<Option<SpotKind>>, AllocError>
+    requires { length script.now.source < usize.MAX }
+    ensures { IfOk result (λ kinds. AreKinds script.now marks.now kinds.items) }
+{
+    let mut kinds = no_kinds(alloc, script.source.len() + 1)?;
+    for marked in marks {
+        let offset = offset_of(script, marked.mark);
+        kinds[offset] = with_mark(kinds[offset], marked.kind);
+    }
+    Ok(kinds)
+}
