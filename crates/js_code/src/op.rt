@@ -3,7 +3,7 @@
 ghost use Rattle.std.specs.Prelude.{◌≡◌, true};
 ghost use Rattle.js_code.specs.Ops.{is_literal, is_loop};
 
-use js_tree::operator::{BinaryOperator, UnaryOperator};
+use js_operators::operator::{BinaryOperator, UnaryOperator};
 
 /// `++` or `--` in front of its target or behind it (ECMA-262, 13.4).
 #[derive(Clone, Copy, Debug, PartialEq, Eq)]

@@ -12,8 +12,8 @@ use Rattle.js_semantics.specs.declared.form.FunctionForm.{FunctionForm}
 use Rattle.js_heap.specs.declared.value.Addr.{Addr}
 use Rattle.js_semantics.specs.declared.form.Stage.{Stage}
 use Rattle.js_semantics.specs.declared.form.Stage.TheVariants as stages
-use Rattle.js_tree.specs.declared.operator.BinaryOperator.{BinaryOperator}
-use Rattle.js_tree.specs.declared.operator.UpdateOperator.{UpdateOperator}
+use Rattle.js_operators.specs.declared.operator.BinaryOperator.{BinaryOperator}
+use Rattle.js_operators.specs.declared.operator.UpdateOperator.{UpdateOperator}
 use Rattle.js_semantics.specs.declared.form.Mark.{Mark}
 use Rattle.js_semantics.specs.declared.form.Reference.{Reference}
 use Rattle.js_semantics.specs.declared.form.Member.{Member}

@@ -16,8 +16,8 @@ use cdp_text::units::Units;
 use js_code::op::{Op, UpdateKind};
 use js_code::table::NodeTable;
 use js_heap::value::Addr;
+use js_operators::operator::{BinaryOperator, UpdateOperator};
 use js_semantics::form::{Form, Mark, Reference, Stage};
-use js_tree::operator::{BinaryOperator, UpdateOperator};
 use js_world::names::Names;
 use std::alloc::{AllocError, Global};
 

@@ -21,13 +21,13 @@ use crate::parsed::{Parsed, deeper};
 use js_language::expressions::{assign, comma, conditional};
 use js_language::parts::expressions_of;
 use js_lexer::token::{Token, TokenKind};
+use js_operators::operator::AssignmentOperator;
 use js_syntax::classes::arrows::{Head, arrow_head};
 use js_syntax::classes::expressions::{Joint, joint_of};
 use js_syntax::fault::ParseError;
 use js_syntax::nodes::Nodes;
 use js_syntax::targets::{assignment_kind, is_target};
 use js_syntax::token::{expect, is_next, tail};
-use js_tree::operator::AssignmentOperator;
 use js_tree::tree::Expr;
 
 // An Expression, at most `room` high.

@@ -20,12 +20,12 @@ use crate::calls::{call_at, call_below};
 use crate::parsed::{Parsed, deeper};
 use js_language::expressions::{binary, postfix, prefix, unary};
 use js_lexer::token::Token;
+use js_operators::operator::{BinaryOperator, UnaryOperator, UpdateOperator};
 use js_syntax::classes::expressions::{Prefix, operator_of, prefix_of, update_near};
 use js_syntax::fault::ParseError;
 use js_syntax::nodes::Nodes;
 use js_syntax::targets::{above, is_property, is_target, strength};
 use js_syntax::token::tail;
-use js_tree::operator::{BinaryOperator, UnaryOperator, UpdateOperator};
 use js_tree::tree::Expr;
 
 // An operation of this strength at least, at most `room` high.

@@ -4,7 +4,7 @@ use Rattle.std.specs.Prelude.{if◌then◌else◌}
 use Rattle.std.proofs.lemmas.List.{append-nil}
 use Rattle.js_lexer.specs.declared.token.TokenKind.{TokenKind}
 use Rattle.js_lexer.specs.declared.token.TokenKind.TheVariants as kinds
-use Rattle.js_tree.specs.declared.operator.AssignmentOperator.{AssignmentOperator}
+use Rattle.js_operators.specs.declared.operator.AssignmentOperator.{AssignmentOperator}
 use Rattle.js_tree.specs.Trees as trees
 use Rattle.js_tree.specs.Trees.{Identifier, Parameters, Expression, Expressions}
 use Rattle.js_language.specs.Tokens.{Token, fixed, identifier, numeric_literal, Mark, token, beside, head_of, tail_of, IsNext, Matches}

@@ -2,7 +2,7 @@
 use Rattle.std.proofs.Common.{◌≡◌, Bool, true, false, List, [], ◌∷◌, ◌++◌, length, Option, None, refl, ap, ◌∙◌, inl, inr, arith}
 use Rattle.js_lexer.specs.declared.token.TokenKind.{TokenKind}
 use Rattle.js_lexer.specs.declared.token.TokenKind.TheVariants as kinds
-use Rattle.js_tree.specs.declared.operator.UnaryOperator.TheVariants as unaries
+use Rattle.js_operators.specs.declared.operator.UnaryOperator.TheVariants as unaries
 use Rattle.js_tree.specs.Trees as trees
 use Rattle.js_tree.specs.Trees.{Identifier, Expression, Statement}
 use Rattle.js_language.specs.Tokens.{Token, fixed, identifier, identifier_name, numeric_literal, Mark, token, beside, semicolon, plain, after_expression, after_word, after_do, head_of, tail_of, IsNext, Matches}

@@ -2,12 +2,12 @@
 use Rattle.std.proofs.Common.{◌≡◌, ℕ, ◌≤◌, Bool, true, false, List, [], ◌∷◌, ◌++◌, Some, None, refl, ap, subst, ◌∙◌, ◌⊎◌, inl, inr, arith}
 use Rattle.js_lexer.specs.declared.token.TokenKind.{TokenKind}
 use Rattle.js_lexer.specs.declared.token.TokenKind.TheVariants as kinds
-use Rattle.js_tree.specs.declared.operator.UnaryOperator.{UnaryOperator}
-use Rattle.js_tree.specs.declared.operator.UnaryOperator.TheVariants as unaries
-use Rattle.js_tree.specs.declared.operator.UpdateOperator.{UpdateOperator}
-use Rattle.js_tree.specs.declared.operator.UpdateOperator.TheVariants as updates
-use Rattle.js_tree.specs.declared.operator.BinaryOperator.{BinaryOperator}
-use Rattle.js_tree.specs.declared.operator.AssignmentOperator.{AssignmentOperator}
+use Rattle.js_operators.specs.declared.operator.UnaryOperator.{UnaryOperator}
+use Rattle.js_operators.specs.declared.operator.UnaryOperator.TheVariants as unaries
+use Rattle.js_operators.specs.declared.operator.UpdateOperator.{UpdateOperator}
+use Rattle.js_operators.specs.declared.operator.UpdateOperator.TheVariants as updates
+use Rattle.js_operators.specs.declared.operator.BinaryOperator.{BinaryOperator}
+use Rattle.js_operators.specs.declared.operator.AssignmentOperator.{AssignmentOperator}
 use Rattle.js_tree.specs.Trees as trees
 use Rattle.js_tree.specs.Trees.{Identifier, Expression, Expressions}
 use Rattle.js_language.specs.Tokens.{Token, fixed, identifier, identifier_name, plain, token, beside, trailing_comma, head_of, tail_of, IsNext, Matches}

@@ -4,7 +4,7 @@ use Rattle.std.specs.Prelude.{nat_le}
 use Rattle.std.proofs.lemmas.Bool.{le-leb}
 use Rattle.js_lexer.specs.declared.token.TokenKind.{TokenKind}
 use Rattle.js_lexer.specs.declared.token.TokenKind.TheVariants as kinds
-use Rattle.js_tree.specs.declared.operator.AssignmentOperator.{AssignmentOperator}
+use Rattle.js_operators.specs.declared.operator.AssignmentOperator.{AssignmentOperator}
 use Rattle.js_tree.specs.Trees as trees
 use Rattle.js_tree.specs.Trees.{Identifier, Parameters, Expression, Expressions, Statements}
 use Rattle.js_language.specs.Tokens.{Token, fixed, identifier, Edge, plain, braces, update, Mark, token, beside, head_of, tail_of, IsNext, Matches}

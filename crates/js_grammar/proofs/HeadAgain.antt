@@ -3,12 +3,12 @@ use Rattle.std.proofs.Common.{◌≡◌, ℕ, Bool, true, false, cond, List, Opt
 use Rattle.std.specs.Prelude.{◌&&◌, not}
 use Rattle.js_lexer.specs.declared.token.TokenKind.{TokenKind}
 use Rattle.js_lexer.specs.declared.token.TokenKind.TheVariants as kinds
-use Rattle.js_tree.specs.declared.operator.UpdateOperator.{UpdateOperator}
-use Rattle.js_tree.specs.declared.operator.UpdateOperator.TheVariants as updates
-use Rattle.js_tree.specs.declared.operator.BinaryOperator.{BinaryOperator}
-use Rattle.js_tree.specs.declared.operator.BinaryOperator.TheVariants as binaries
-use Rattle.js_tree.specs.declared.operator.AssignmentOperator.{AssignmentOperator}
-use Rattle.js_tree.specs.declared.operator.AssignmentOperator.TheVariants as assigns
+use Rattle.js_operators.specs.declared.operator.UpdateOperator.{UpdateOperator}
+use Rattle.js_operators.specs.declared.operator.UpdateOperator.TheVariants as updates
+use Rattle.js_operators.specs.declared.operator.BinaryOperator.{BinaryOperator}
+use Rattle.js_operators.specs.declared.operator.BinaryOperator.TheVariants as binaries
+use Rattle.js_operators.specs.declared.operator.AssignmentOperator.{AssignmentOperator}
+use Rattle.js_operators.specs.declared.operator.AssignmentOperator.TheVariants as assigns
 use Rattle.js_language.specs.Tokens.{Token, fixed, identifier, numeric_literal, string_literal, IsNext, is_on_line}
 use Rattle.js_language.specs.Flat.{update_kind, binary_kind, assign_kind}
 use Rattle.js_syntax.specs.Kinds.{is_kind, is_same_kind}

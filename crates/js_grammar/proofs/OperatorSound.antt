@@ -2,9 +2,9 @@
 use Rattle.std.proofs.Common.{◌≡◌, ℕ, zero, suc, ◌≤◌, ◌<◌, true, List, [], ◌∷◌, ◌++◌, length, Option, Some, None, Ok, Err, refl, subst, arith}
 use Rattle.std.specs.Prelude.{nat_le, if◌then◌else◌}
 use Rattle.std.proofs.lemmas.Bool.{leb-true}
-use Rattle.js_tree.specs.declared.operator.UnaryOperator.TheVariants as unaries
-use Rattle.js_tree.specs.declared.operator.UpdateOperator.{UpdateOperator}
-use Rattle.js_tree.specs.declared.operator.BinaryOperator.{BinaryOperator}
+use Rattle.js_operators.specs.declared.operator.UnaryOperator.TheVariants as unaries
+use Rattle.js_operators.specs.declared.operator.UpdateOperator.{UpdateOperator}
+use Rattle.js_operators.specs.declared.operator.BinaryOperator.{BinaryOperator}
 use Rattle.js_tree.specs.Trees as trees
 use Rattle.js_tree.specs.Trees.{Expression}
 use Rattle.js_language.specs.Tokens.{Token, fixed, token, beside, head_of, tail_of}

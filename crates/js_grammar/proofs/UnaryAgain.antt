@@ -3,9 +3,9 @@ use Rattle.std.proofs.Common.{◌≡◌, ℕ, suc, ◌+◌, ◌-◌, ◌<◌, �
 use Rattle.std.specs.Prelude.{nat_le}
 use Rattle.std.proofs.lemmas.Bool.{le-leb}
 use Rattle.js_lexer.specs.declared.token.TokenKind.TheVariants as kinds
-use Rattle.js_tree.specs.declared.operator.UnaryOperator.{UnaryOperator}
-use Rattle.js_tree.specs.declared.operator.UnaryOperator.TheVariants as unaries
-use Rattle.js_tree.specs.declared.operator.UpdateOperator.{UpdateOperator}
+use Rattle.js_operators.specs.declared.operator.UnaryOperator.{UnaryOperator}
+use Rattle.js_operators.specs.declared.operator.UnaryOperator.TheVariants as unaries
+use Rattle.js_operators.specs.declared.operator.UpdateOperator.{UpdateOperator}
 use Rattle.js_tree.specs.Trees as trees
 use Rattle.js_tree.specs.Trees.{Expression}
 use Rattle.js_language.specs.Tokens.{Token, fixed, identifier_name, Edge, plain, Mark, token, beside, head_of, tail_of, Matches}

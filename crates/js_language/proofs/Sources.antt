@@ -4,10 +4,10 @@ use lib.Chars.{codes}
 use Prim.Native.String.{String}
 use Rattle.js_lexer.specs.declared.token.TokenKind.{TokenKind}
 use Rattle.js_lexer.specs.declared.token.TokenKind.TheVariants as k
-use Rattle.js_tree.specs.declared.operator.UnaryOperator.TheVariants as unaries
-use Rattle.js_tree.specs.declared.operator.UpdateOperator.TheVariants as updates
-use Rattle.js_tree.specs.declared.operator.BinaryOperator.TheVariants as binaries
-use Rattle.js_tree.specs.declared.operator.AssignmentOperator.TheVariants as assigns
+use Rattle.js_operators.specs.declared.operator.UnaryOperator.TheVariants as unaries
+use Rattle.js_operators.specs.declared.operator.UpdateOperator.TheVariants as updates
+use Rattle.js_operators.specs.declared.operator.BinaryOperator.TheVariants as binaries
+use Rattle.js_operators.specs.declared.operator.AssignmentOperator.TheVariants as assigns
 use Rattle.js_tree.specs.Trees.{one_name, name_list, Expression, this, name, number, string, boolean, null, array, object, function, arrow, arrow_block, parenthesized, member, index, call, postfix, prefix, unary, binary, conditional, assign, comma, omitted, present, word_key, string_key, number_key, computed_key, shorthand, value, method, declarator, block, lexical, empty, expression, if_then, if_else, do_while, while, for, for_lexical, for_of, continue, break, return, throw, try, debugger, declared_function, no_catch, catch, no_finally, finally}
 use Rattle.js_tree.specs.Views.{expressions, statements, properties, declarators}
 use Rattle.js_language.specs.Tokens.{Token, token, beside, semicolon, trailing_comma, fixed, identifier, numeric_literal, after_expression, after_word, after_do, plain, braces, update}

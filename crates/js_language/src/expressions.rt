@@ -14,10 +14,10 @@ ghost use Rattle.js_language.specs.Boxes.{unboxed};
 ghost use Rattle.js_language.specs.Places.{in_turn, plain, a_symbol, may_stand, node_of, in_braces, in_parentheses, with_commas, assign_if_some, optional_places, handler_places, finalizer_places, expression_places, property_places, key_places, statement_places, block_places, catch_places, declarator_places, declarators_places, expressions_places, properties_places, statements_places};
 
 use cdp_text::units::Units;
+use js_operators::operator::{AssignmentOperator, BinaryOperator, UnaryOperator, UpdateOperator};
 use js_tree::integer::SafeInteger;
 use js_tree::names::Names;
 use js_tree::node::NodeId;
-use js_tree::operator::{AssignmentOperator, BinaryOperator, UnaryOperator, UpdateOperator};
 use js_tree::tree::{ArrowParameters, Expr, Exprs, PropertyDefinitions, Stmts};
 use std::alloc::{AllocError, Global};
 

@@ -1,9 +1,9 @@
 -- What is made of a term that is read, and of every other.
 use Rattle.std.proofs.Common.{◌≡◌, ℕ, Bool, Option, Some, None, refl, sym, ap, ◌∙◌}
-use Rattle.js_tree.specs.declared.operator.UnaryOperator.TheVariants as unaries
-use Rattle.js_tree.specs.declared.operator.UpdateOperator.{UpdateOperator}
-use Rattle.js_tree.specs.declared.operator.BinaryOperator.{BinaryOperator}
-use Rattle.js_tree.specs.declared.operator.BinaryOperator.TheVariants as binaries
+use Rattle.js_operators.specs.declared.operator.UnaryOperator.TheVariants as unaries
+use Rattle.js_operators.specs.declared.operator.UpdateOperator.{UpdateOperator}
+use Rattle.js_operators.specs.declared.operator.BinaryOperator.{BinaryOperator}
+use Rattle.js_operators.specs.declared.operator.BinaryOperator.TheVariants as binaries
 use Rattle.js_heap.specs.declared.value.Value.TheVariants as values
 use Rattle.js_semantics.specs.declared.form.Mark.{Mark}
 use Rattle.js_semantics.specs.declared.form.Reference.{Reference}

@@ -1,7 +1,7 @@
 -- Terms that are read, and so may be targets and callees by reference.
 use Rattle.std.specs.Prelude.{◌≡◌, Option, Some, None}
-use Rattle.js_tree.specs.declared.operator.BinaryOperator.{BinaryOperator}
-use Rattle.js_tree.specs.declared.operator.BinaryOperator.TheVariants as binaries
+use Rattle.js_operators.specs.declared.operator.BinaryOperator.{BinaryOperator}
+use Rattle.js_operators.specs.declared.operator.BinaryOperator.TheVariants as binaries
 use Rattle.js_semantics.specs.declared.form.Form.{Form}
 use Rattle.js_semantics.specs.declared.form.Reference.{Reference}
 use Rattle.js_semantics.specs.declared.form.Form.TheVariants as forms

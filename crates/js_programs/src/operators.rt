@@ -9,9 +9,9 @@ ghost use Rattle.js_programs.specs.Targets.{deciding_form};
 
 use crate::references::{deleted, type_of};
 use js_heap::value::Value;
+use js_operators::operator::{BinaryOperator, UnaryOperator};
 use js_semantics::form::Form;
 use js_terms::term::{Term, Terms, done, end, one, part, terms_of, two};
-use js_tree::operator::{BinaryOperator, UnaryOperator};
 use std::alloc::{AllocError, Global};
 
 /// An operator on one value.

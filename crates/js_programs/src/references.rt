@@ -4,15 +4,15 @@ ghost use Rattle.std.specs.Prelude.{◌≡◌, IfOk};
 ghost use Rattle.js_semantics.specs.Terms as semantics;
 ghost use Rattle.js_semantics.specs.Makers as makers;
 ghost use Rattle.js_heap.specs.declared.value.Value.TheVariants as values;
-ghost use Rattle.js_tree.specs.declared.operator.UnaryOperator.TheVariants as unaries;
+ghost use Rattle.js_operators.specs.declared.operator.UnaryOperator.TheVariants as unaries;
 ghost use Rattle.js_semantics.specs.declared.form.Form.TheVariants as forms;
 ghost use Rattle.js_terms.specs.Views.{term_view, terms_view};
 ghost use Rattle.js_programs.specs.Targets.{IsTarget};
 
 use js_heap::value::Value;
+use js_operators::operator::{AssignmentOperator, BinaryOperator, UnaryOperator, UpdateOperator};
 use js_semantics::form::{Form, Mark, Reference};
 use js_terms::term::{Term, Terms, done, end, joined, leaf, one, part, standing, terms_of};
-use js_tree::operator::{AssignmentOperator, BinaryOperator, UnaryOperator, UpdateOperator};
 use std::alloc::{AllocError, Global};
 
 /// A term that is read, with its parts, or another term.

@@ -8,9 +8,9 @@ use Rattle.js_heap.specs.Operators.{binary_result, unary_result}
 use Rattle.js_heap.specs.Properties.{property_of, property_written}
 use Rattle.js_heap.specs.Values.{key_of}
 use Rattle.js_heap.specs.World.{World}
-use Rattle.js_tree.specs.declared.operator.BinaryOperator.{BinaryOperator}
-use Rattle.js_tree.specs.declared.operator.UnaryOperator.{UnaryOperator}
-use Rattle.js_tree.specs.declared.operator.UpdateOperator.{UpdateOperator}
+use Rattle.js_operators.specs.declared.operator.BinaryOperator.{BinaryOperator}
+use Rattle.js_operators.specs.declared.operator.UnaryOperator.{UnaryOperator}
+use Rattle.js_operators.specs.declared.operator.UpdateOperator.{UpdateOperator}
 use Rattle.js_semantics.specs.declared.form.Form.{Form}
 use Rattle.js_semantics.specs.declared.form.Reference.{Reference}
 use Rattle.js_semantics.specs.declared.form.Completion.{Completion}

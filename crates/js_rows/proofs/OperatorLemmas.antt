@@ -1,7 +1,7 @@
 -- Lemmas on operators.
 use Rattle.std.proofs.Common.{◌≡◌, Option, sym, subst}
 use Rattle.std.specs.Prelude.{ℤ, IfSome}
-use Rattle.js_tree.specs.declared.operator.BinaryOperator.{BinaryOperator}
+use Rattle.js_operators.specs.declared.operator.BinaryOperator.{BinaryOperator}
 use Rattle.js_heap.specs.declared.value.Value.{Value}
 use Rattle.js_heap.specs.declared.value.Value.TheVariants as values
 use Rattle.js_heap.specs.declared.computed.Computed.TheVariants.{Value as a_value}

@@ -1,13 +1,13 @@
 -- The terms of trees: what each form of the grammar is before its first step. Parentheses, empty statements and
 -- function declarations are dropped, and number, string and boolean literals and `null` are values.
 use Rattle.std.specs.Prelude.{ℕ, Bool, true, false, List, [], ◌∷◌, ◌++◌, map, length, Option, Some, None, pos}
-use Rattle.js_tree.specs.declared.operator.UnaryOperator.{UnaryOperator}
-use Rattle.js_tree.specs.declared.operator.UnaryOperator.TheVariants as unaries
-use Rattle.js_tree.specs.declared.operator.UpdateOperator.{UpdateOperator}
-use Rattle.js_tree.specs.declared.operator.BinaryOperator.{BinaryOperator}
-use Rattle.js_tree.specs.declared.operator.BinaryOperator.TheVariants as binaries
-use Rattle.js_tree.specs.declared.operator.AssignmentOperator.{AssignmentOperator}
-use Rattle.js_tree.specs.declared.operator.AssignmentOperator.TheVariants as assigns
+use Rattle.js_operators.specs.declared.operator.UnaryOperator.{UnaryOperator}
+use Rattle.js_operators.specs.declared.operator.UnaryOperator.TheVariants as unaries
+use Rattle.js_operators.specs.declared.operator.UpdateOperator.{UpdateOperator}
+use Rattle.js_operators.specs.declared.operator.BinaryOperator.{BinaryOperator}
+use Rattle.js_operators.specs.declared.operator.BinaryOperator.TheVariants as binaries
+use Rattle.js_operators.specs.declared.operator.AssignmentOperator.{AssignmentOperator}
+use Rattle.js_operators.specs.declared.operator.AssignmentOperator.TheVariants as assigns
 use Rattle.js_heap.specs.declared.value.Value.{Value}
 use Rattle.js_heap.specs.declared.value.Value.TheVariants as values
 use Rattle.js_heap.specs.declared.built_in.Code.{Code}

@@ -13,9 +13,9 @@ ghost use Rattle.js_semantics.specs.Run.{Run, Finish, over, program_of, state_of
 ghost use Rattle.js_heap.specs.declared.value.Value.{Value};
 ghost use Rattle.js_heap.specs.World.{World};
 ghost use Rattle.js_heap.specs.Operators.{binary_result, unary_result, update_result};
-ghost use Rattle.js_tree.specs.declared.operator.BinaryOperator.{BinaryOperator};
-ghost use Rattle.js_tree.specs.declared.operator.UnaryOperator.{UnaryOperator};
-ghost use Rattle.js_tree.specs.declared.operator.UpdateOperator.{UpdateOperator};
+ghost use Rattle.js_operators.specs.declared.operator.BinaryOperator.{BinaryOperator};
+ghost use Rattle.js_operators.specs.declared.operator.UnaryOperator.{UnaryOperator};
+ghost use Rattle.js_operators.specs.declared.operator.UpdateOperator.{UpdateOperator};
 ghost use Rattle.js_semantics.specs.Safe.{IsSafe, AnswersSafe};
 ghost use Rattle.js_tree.specs.declared.node.Span.{Span};
 ghost use Rattle.js_semantics.specs.Frames.{active, at, is_debugger};

@@ -21,7 +21,7 @@ use Rattle.js_steps.specs.declared.task.Point.TheVariants as points
 use Rattle.js_steps.specs.Points.{row_term, term_at}
 use Rattle.js_steps.specs.declared.task.Task.{Task}
 use Rattle.js_steps.specs.declared.reduced.Reduced.TheVariants as answers
-use Rattle.js_tree.specs.declared.operator.BinaryOperator.{BinaryOperator}
+use Rattle.js_operators.specs.declared.operator.BinaryOperator.{BinaryOperator}
 use Rattle.js_steps.specs.declared.task.Extra.{Extra}
 use Rattle.js_steps.specs.declared.closing.Next.{Next}
 use Rattle.js_steps.specs.Settling.{proceeding, looped, IsInnermost, Comes, ComesIn}

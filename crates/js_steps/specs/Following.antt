@@ -9,7 +9,7 @@ use Rattle.js_steps.specs.Gaps.{resettled}
 use Rattle.js_steps.specs.Tasks.{Wide, gaps_of}
 use Rattle.js_steps.specs.Points.{term_at}
 use Rattle.js_steps.specs.Stacks.{outer_of}
-use Rattle.js_tree.specs.declared.operator.BinaryOperator.{BinaryOperator}
+use Rattle.js_operators.specs.declared.operator.BinaryOperator.{BinaryOperator}
 use Rattle.js_code.specs.declared.op.Op.{Op}
 use Rattle.js_code.specs.declared.op.Op.TheVariants as ops
 use Rattle.js_heap.specs.declared.value.Addr.TheVariants.{Base}

@@ -2,9 +2,9 @@
 use Rattle.std.specs.Prelude.{ℕ, zero, suc, Bool, true, false, ◌&&◌, not, List, [], ◌∷◌, length, Option, Some, None, Result, Ok, Err, nat_le, if◌then◌else◌, codes}
 use Rattle.js_lexer.specs.declared.token.TokenKind.{TokenKind}
 use Rattle.js_lexer.specs.declared.token.TokenKind.TheVariants as kinds
-use Rattle.js_tree.specs.declared.operator.UnaryOperator.TheVariants as unaries
-use Rattle.js_tree.specs.declared.operator.UpdateOperator.{UpdateOperator}
-use Rattle.js_tree.specs.declared.operator.BinaryOperator.{BinaryOperator}
+use Rattle.js_operators.specs.declared.operator.UnaryOperator.TheVariants as unaries
+use Rattle.js_operators.specs.declared.operator.UpdateOperator.{UpdateOperator}
+use Rattle.js_operators.specs.declared.operator.BinaryOperator.{BinaryOperator}
 use Rattle.js_tree.specs.Trees as trees
 use Rattle.js_tree.specs.Trees.{Identifier, Parameters, Expression, Key, Property, Properties, Statement, Statements, Handler, Finalizer}
 use Rattle.js_language.specs.Tokens.{Token, after_word, after_do, head_of, tail_of, is_on_line}

@@ -6,7 +6,7 @@ ghost use Rattle.js_tree.specs.Views.{expression_view};
 ghost use Rattle.js_language.specs.Well as well;
 
 use js_lexer::token::TokenKind;
-use js_tree::operator::{AssignmentOperator, BinaryOperator};
+use js_operators::operator::{AssignmentOperator, BinaryOperator};
 use js_tree::tree::Expr;
 
 /// Whether an expression is a property, also in parentheses.

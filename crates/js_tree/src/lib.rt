@@ -4,7 +4,6 @@
 pub mod integer;
 pub mod names;
 pub mod node;
-pub mod operator;
 pub mod script;
 pub mod span;
 pub mod tree;

@@ -5,8 +5,8 @@
 use crate::integer::SafeInteger;
 use crate::names::Names;
 use crate::node::NodeId;
-use crate::operator::{AssignmentOperator, BinaryOperator, UnaryOperator, UpdateOperator};
 use cdp_text::units::Units;
+use js_operators::operator::{AssignmentOperator, BinaryOperator, UnaryOperator, UpdateOperator};
 
 /// The parameters of an arrow function (ECMA-262, 15.3, ArrowParameters).
 #[derive(Debug, Drop)]

@@ -8,7 +8,7 @@ use crate::numbers::{shift_count, shifted_right, to_signed, to_unsigned};
 use crate::results::{not_numbers, not_safe, quotient, remainder, safe};
 use js_heap::computed::Computed;
 use js_heap::value::Value;
-use js_tree::operator::{BinaryOperator, UpdateOperator};
+use js_operators::operator::{BinaryOperator, UpdateOperator};
 use std::alloc::{AllocError, Global};
 
 /// A product, where it is a safe integer.

@@ -15,7 +15,7 @@ use cdp_text::units::Units;
 use js_heap::computed::Computed;
 use js_heap::reading::Cells;
 use js_heap::value::Value;
-use js_tree::operator::{BinaryOperator, UnaryOperator, UpdateOperator};
+use js_operators::operator::{BinaryOperator, UnaryOperator, UpdateOperator};
 use std::alloc::{AllocError, Global};
 
 /// The text of a boolean.

@@ -16,7 +16,7 @@ use crate::task::Point;
 use js_code::op::Op;
 use js_code::table::NodeTable;
 use js_heap::value::{Addr, Value};
-use js_tree::operator::BinaryOperator;
+use js_operators::operator::BinaryOperator;
 use std::alloc::AllocError;
 
 /// The `this` of a call whose callee was a name, or a property of its first value; None where it is no such call.

@@ -8,8 +8,8 @@ ghost use Rattle.js_syntax.specs.Views.{tokens_view};
 
 use js_lexer::number::number_value;
 use js_lexer::token::{Token, TokenKind};
+use js_operators::operator::{AssignmentOperator, BinaryOperator, UnaryOperator, UpdateOperator};
 use js_tree::integer::SafeInteger;
-use js_tree::operator::{AssignmentOperator, BinaryOperator, UnaryOperator, UpdateOperator};
 
 /// What begins a PrimaryExpression (ECMA-262, 13.2).
 #[derive(Clone, Copy, Debug)]

@@ -1,0 +1,4 @@
+//! The operators of the language.
+#![tactic(auto)]
+
+pub mod operator;
