@@ -92,6 +92,17 @@ impl Eq for Units {
     ghost laws = { Prim.search (comparing, rules) };
 }
 
+/// The text of these bytes, one unit for each.
+pub fn ascii(alloc: Global, bytes: &[u8]) -> Result<Units, AllocError>
+    ensures { IfOk result (λ units. units ≡ bytes.now) }
+{
+    let mut items = Vec::with_capacity(alloc, bytes.len())?;
+    for byte in bytes {
+        items.push(u16::from(*byte))?;
+    }
+    Ok(Units::from_vec(items))
+}
+
 /// The UTF-16 form of a text.
 pub fn units_of(alloc: Global, s: &str) -> Result<Units, AllocError>
     ensures form { IfOk result (λ u. u ≡ utf16_of s.now) }

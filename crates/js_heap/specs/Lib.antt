@@ -7,3 +7,6 @@ pub mod BuiltIns
 pub mod Values
 pub mod Operators
 pub mod Properties
+pub mod Scopes
+pub mod Arguments
+pub mod ScratchSpaces

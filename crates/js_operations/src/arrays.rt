@@ -15,12 +15,11 @@ use crate::lists::{
 use crate::seen::{Seen, units_at};
 use crate::shown::between;
 use crate::stop::Stop;
-use cdp_text::units::Units;
+use cdp_text::units::{Units, ascii};
 use js_heap::built_in::BuiltIn;
 use js_heap::cell::Values;
 use js_heap::value::{Addr, Value};
 use js_values::results::not_a_text;
-use js_values::text::ascii;
 use js_world::names::Names;
 use js_world::world::World;
 use std::alloc::{AllocError, Global};

@@ -10,13 +10,12 @@ ghost use Rattle.js_operations.specs.References.{IsOfProperty};
 
 use crate::cells::{cut, make, make_text, put, put_element, remove};
 use crate::stop::Stop;
-use cdp_text::units::Units;
+use cdp_text::units::{Units, ascii};
 use js_heap::built_in::ErrorClass;
 use js_heap::cell::Property;
 use js_heap::change::Change;
 use js_heap::computed::{Computed, Written};
 use js_heap::value::Value;
-use js_values::text::ascii;
 use js_world::names::Names;
 use js_world::properties::PropertyMap;
 use js_world::stored::Stored;

@@ -6,12 +6,11 @@ ghost use Rattle.js_semantics.specs.BuiltIns.{argument, last_of, keys_of_cell, e
 ghost use Rattle.js_world.specs.Cells.{cell_at};
 ghost use Rattle.js_operations.specs.Texts.{elements_at, elements_of_cell, both_places, unit_of, key_if};
 
-use cdp_text::units::Units;
+use cdp_text::units::{Units, ascii};
 use js_heap::cell::Property;
 use js_heap::reading::Cells;
 use js_heap::value::{Addr, Value};
 use js_values::operators::text_of;
-use js_values::text::ascii;
 use js_values::values::is_same;
 use js_world::names::Names;
 use js_world::properties::PropertyMap;

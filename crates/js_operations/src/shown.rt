@@ -5,13 +5,13 @@ ghost use Rattle.js_heap.specs.Values.{shown, cell_text, error_text, with_messag
 ghost use Rattle.js_world.specs.Cells.{cell_at, name_text};
 
 use crate::seen::{Seen, name_text, units_at};
-use cdp_text::units::Units;
+use cdp_text::units::{Units, ascii};
 use js_heap::built_in::ErrorClass;
 use js_heap::cell::Property;
 use js_heap::reading::Cells;
 use js_heap::value::Value;
 use js_values::operators::{bool_text, number_text};
-use js_values::text::{ascii, joined};
+use js_values::text::joined;
 use js_values::values::class_text;
 use js_world::names::Names;
 use js_world::stored::{FunctionName, Stored};

@@ -1,5 +1,5 @@
 -- The built-in functions.
-use Rattle.std.specs.Prelude.{ℕ, zero, suc, ◌+◌, ◌-◌, Bool, true, false, ◌&&◌, List, [], ◌∷◌, map, length, take, drop, min, Option, Some, None, ℤ, pos, negsuc, slice_get, nat_eq, codes, decimal, if◌then◌else◌}
+use Rattle.std.specs.Prelude.{ℕ, suc, ◌+◌, ◌-◌, Bool, true, false, ◌&&◌, List, [], ◌∷◌, map, length, take, drop, min, Option, Some, None, ℤ, pos, negsuc, slice_get, nat_eq, codes, decimal, if◌then◌else◌}
 use Rattle.js_heap.specs.declared.value.Addr.{Addr}
 use Rattle.js_heap.specs.declared.value.Value.{Value}
 use Rattle.js_heap.specs.declared.value.Value.TheVariants as values
@@ -17,14 +17,7 @@ use Rattle.js_heap.specs.Values.{text_of, units_at, is_same, shown, between}
 use Rattle.js_semantics.specs.State.{Action, make, write, print, take_line, give, make_text, fail}
 use Rattle.js_heap.specs.Operators.{not_a_text, not_safe}
 use Rattle.js_semantics.specs.References.{with_result}
-
--- ---- arguments
-
--- missing arguments are undefined
-abbrev pub argument : List Value → ℕ → Value
-argument [] i = values.Undefined
-argument (v ∷ vs) zero = v
-argument (v ∷ vs) (suc i) = argument vs i
+pub use Rattle.js_heap.specs.Arguments.{argument}
 
 abbrev pub wrong_type : Action
 wrong_type = fail classes.TypeError (codes "Argument has a wrong type")

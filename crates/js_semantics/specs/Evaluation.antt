@@ -1,5 +1,5 @@
 -- Pure evaluation: an expression, or a call of a function, on a copy of the world with the cells of a session's scratch.
-use Rattle.std.specs.Prelude.{ℕ, ◌+◌, ◌-◌, Bool, List, [], ◌∷◌, ◌++◌, length, Some, ℤ, nat_le, if◌then◌else◌}
+use Rattle.std.specs.Prelude.{ℕ, ◌+◌, ◌-◌, Bool, List, [], ◌∷◌, ◌++◌, length, ℤ, nat_le, if◌then◌else◌}
 use Rattle.js_heap.specs.declared.value.Addr.{Addr}
 use Rattle.js_heap.specs.declared.value.Addr.TheVariants.{Base, Scratch}
 use Rattle.js_heap.specs.declared.value.Value.{Value}
@@ -8,10 +8,10 @@ use Rattle.js_heap.specs.declared.cell.Cell.TheVariants as cells
 use Rattle.js_heap.specs.declared.cell.Property.{Property}
 use Rattle.js_heap.specs.declared.change.Counted.{Counted}
 use Rattle.js_heap.specs.declared.change.Counted.TheVariants as counted
-use Rattle.js_heap.specs.declared.cell.Cell.{Cell}
 use Rattle.js_heap.specs.Keys.{put_property}
-use Rattle.js_heap.specs.World.{Room, World, Tried, fine, effect, full, make_cell}
+use Rattle.js_heap.specs.World.{World, Tried, fine, effect, full, make_cell}
 use Rattle.js_heap.specs.BuiltIns.{script_scope}
+pub use Rattle.js_heap.specs.ScratchSpaces.{ScratchSpace, copied_world}
 use Rattle.js_tree.specs.declared.script.Expression.{Expression}
 use Rattle.js_tree.specs.declared.script.FunctionCode.{FunctionCode}
 use Rattle.js_semantics.specs.Terms.{kept_source, beginning, call, Term, done, part, end, more, dones}
@@ -22,15 +22,6 @@ use Rattle.js_semantics.specs.Sources.{expression_source}
 use Rattle.js_semantics.specs.Run.{ended, threw, by_effect, by_full, Run, running, over, run_of, steps_in, literals, with_literals}
 
 -- ---- the world of an evaluation
-
--- what a session made so far: its cells, and the room that is left
-pub record ScratchSpace : Type 0 where
-  pub cells : List Cell
-  pub room : Room
-
--- the program's world, copied, with a session's cells; only cells from here on are the evaluation's own
-abbrev pub copied_world : World → ScratchSpace → World
-copied_world w x = record { base = w.base; scratch = x.cells; start = Some (length x.cells); room = x.room }
 
 abbrev pub after_try : {A B : Type 0} → Tried A → (A → World → Tried B) → Tried B
 after_try (fine a w) k = k a w

@@ -16,7 +16,8 @@ use Rattle.js_heap.specs.World.{read_cell}
 use Rattle.js_semantics.specs.Terms.{Source, script_source, kept_source, Mark, start, FunctionForm, Form, function, method, frame, Term, done, standing, part, Terms, end, more, one, settle}
 use Rattle.js_heap.specs.Values.{same_address}
 use Rattle.js_semantics.specs.State.{State, Action, go, make, write, set_here, push_frame, give, fail, this_of}
-use Rattle.js_semantics.specs.BuiltIns.{argument, built_in_call}
+use Rattle.js_semantics.specs.BuiltIns.{built_in_call}
+pub use Rattle.js_heap.specs.Arguments.{parameters_from}
 
 -- ---- sources: the untouched trees by which a function's code is found
 
@@ -105,11 +106,6 @@ with_names scope [] k = k
 with_names scope (b ∷ bs) k = write scope (changes.Declare b.name b.constant) (with_names scope bs k)
 
 -- ---- calls (10.2.1)
-
--- parameters with their arguments
-abbrev pub parameters_from : ℕ → List (List ℕ) → List Value → List Binding
-parameters_from i [] args = []
-parameters_from i (n ∷ ns) args = record { name = n; constant = false; value = Some (argument args i) } ∷ parameters_from (i + 1) ns args
 
 abbrev pub too_deep : Action
 too_deep = fail classes.RangeError (codes "Maximum call stack size exceeded")

@@ -1,15 +1,11 @@
--- Names in their scopes, and reading and writing what a reference refers to.
-use Rattle.std.specs.Prelude.{ℕ, zero, suc, ◌+◌, Bool, true, false, List, ◌∷◌, ◌++◌, length, Option, Some, None, codes}
+-- The values of names, and reading and writing what a reference refers to.
+use Rattle.std.specs.Prelude.{ℕ, Bool, true, false, List, ◌∷◌, ◌++◌, Option, Some, None, codes}
 use Rattle.js_heap.specs.declared.value.Addr.{Addr}
 use Rattle.js_heap.specs.declared.value.Value.{Value}
 use Rattle.js_heap.specs.declared.value.Value.TheVariants as values
 use Rattle.js_heap.specs.declared.built_in.ErrorClass.TheVariants as classes
-use Rattle.js_heap.specs.declared.cell.Binding.{Binding}
-use Rattle.js_heap.specs.declared.cell.Cell.{Cell}
-use Rattle.js_heap.specs.declared.cell.Cell.TheVariants as cells
 use Rattle.js_heap.specs.declared.change.Change.TheVariants as changes
-use Rattle.js_heap.specs.Cells.{binding_of}
-use Rattle.js_heap.specs.World.{World, read_cell}
+use Rattle.js_heap.specs.World.{World}
 use Rattle.js_semantics.specs.Terms.{Reference, to_name, to_member, to_index}
 use Rattle.js_heap.specs.Values.{key_of}
 use Rattle.js_heap.specs.declared.computed.Computed.{Computed as Result}
@@ -18,33 +14,9 @@ use Rattle.js_semantics.specs.State.{Action, write, give, make_text, fail}
 use Rattle.js_heap.specs.Properties.{bad_key, property_of, property_written, property_deleted}
 use Rattle.js_heap.specs.declared.computed.Written.{Written}
 use Rattle.js_heap.specs.declared.computed.Written.TheVariants.{Change as a_change, Refused as refused}
+pub use Rattle.js_heap.specs.Scopes.{Found, found_here, found_outward, found_in, found_within, found}
 
 -- ---- names (9.1.2.1)
-
--- the scope that has a name, and the name's binding
-pub record Found : Type 0 where
-  pub scope : Addr
-  pub binding : Binding
-
-abbrev pub found_here : Addr → Option Binding → Option Found → Option Found
-found_here a (Some b) further = Some (record { scope = a; binding = b })
-found_here a None further = further
-
-abbrev pub found_outward : Option Addr → (Addr → Option Found) → Option Found
-found_outward None further = None
-found_outward (Some a) further = further a
-
-abbrev pub found_in : Addr → Option Cell → List ℕ → (Addr → Option Found) → Option Found
-found_in a (Some (cells.Bindings k n outer ns)) name further = found_here a (binding_of ns name) (found_outward outer further)
-found_in a _ name further = None
-
--- from the scope at an address outward; no chain of scopes is longer than the cells are many
-abbrev pub found_within : ℕ → World → List ℕ → Addr → Option Found
-found_within zero w name a = None
-found_within (suc n) w name a = found_in a (read_cell w a) name (found_within n w name)
-
-abbrev pub found : World → Addr → List ℕ → Option Found
-found w scope name = found_within (length w.base + length w.scratch) w name scope
 
 abbrev pub not_defined : List ℕ → Result
 not_defined name = an_error classes.ReferenceError (name ++ codes " is not defined")

@@ -10,9 +10,9 @@ ghost use Rattle.js_heap.specs.Properties.{bad_key, cannot_read, cannot_set, can
 ghost use Rattle.js_heap.specs.declared.built_in.ErrorClass.TheVariants as classes;
 ghost use Rattle.js_heap.specs.declared.computed.Written.TheVariants.{Refused as refused};
 
-use crate::text::{ascii, is_ascii, quoted};
+use crate::text::{is_ascii, quoted};
 use crate::values::class_text;
-use cdp_text::units::Units;
+use cdp_text::units::{Units, ascii};
 use js_heap::built_in::{BuiltIn, ErrorClass, built_in_at};
 use js_heap::cell::Cell;
 use js_heap::change::Change;

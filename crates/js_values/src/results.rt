@@ -3,7 +3,7 @@
 ghost use Rattle.std.specs.Prelude.{◌≡◌, ◌<◌, ◌^◌, nat_abs, IfOk, ◌≤ℤ◌, ◌<ℤ◌, pos};
 ghost use Rattle.js_heap.specs.Operators.{safe, quotient, remainder, not_safe, not_numbers, not_a_text, not_comparable};
 
-use crate::text::ascii;
+use cdp_text::units::ascii;
 use js_heap::built_in::ErrorClass;
 use js_heap::computed::Computed;
 use js_heap::value::Value;

@@ -1,21 +1,10 @@
-//! Texts made of other texts and of ASCII bytes.
+//! Texts compared with ASCII bytes and made of other texts.
 
 ghost use Rattle.std.specs.Prelude.{◌≡◌, ◌++◌, IfOk};
 ghost use Rattle.js_heap.specs.Keys.{same_units};
 
-use cdp_text::units::Units;
+use cdp_text::units::{Units, ascii};
 use std::alloc::{AllocError, Global};
-
-/// The text of these bytes, one unit for each.
-pub fn ascii(alloc: Global, bytes: &[u8]) -> Result<Units, AllocError>
-    ensures { IfOk result (λ units. units ≡ bytes.now) }
-{
-    let mut items = Vec::with_capacity(alloc, bytes.len())?;
-    for byte in bytes {
-        items.push(u16::from(*byte))?;
-    }
-    Ok(Units::from_vec(items))
-}
 
 /// Whether a text is these bytes, one unit for each.
 pub fn is_ascii(units: &[u16], bytes: &[u8]) -> bool

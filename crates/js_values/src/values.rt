@@ -4,8 +4,7 @@ ghost use Rattle.std.specs.Prelude.{◌≡◌, IfOk, option_copied};
 ghost use Rattle.js_heap.specs.World.{World as AnyWorld, read_cell};
 ghost use Rattle.js_heap.specs.Values.{units_at, units_of_cell, bool_text, text_of, key_of, type_text, object_type, is_truthy, is_same, same_integer, same_address, class_text};
 
-use crate::text::ascii;
-use cdp_text::units::Units;
+use cdp_text::units::{Units, ascii};
 use js_heap::built_in::ErrorClass;
 use js_heap::cell::Cell;
 use js_heap::keys::same_units;

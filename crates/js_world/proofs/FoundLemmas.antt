@@ -3,7 +3,7 @@ use Rattle.std.proofs.Common.{◌≡◌, ℕ, zero, suc, ◌+◌, ◌-◌, ◌<�
 use Rattle.js_heap.specs.declared.value.Addr.{Addr}
 use Rattle.js_heap.specs.World.{World, read_cell}
 use Rattle.js_heap.specs.declared.cell.Cell.{Cell}
-use Rattle.js_semantics.specs.References.{Found, found_in, found_within}
+use Rattle.js_heap.specs.Scopes.{Found, found_in, found_within}
 use Rattle.js_world.specs.Calls.{Kept, kept_found}
 
 pub found-step : (n m : ℕ) (w : World) (name : List ℕ) (a : Addr) → n ≡ suc m → found_within n w name a ≡ found_in a (read_cell w a) name (found_within m w name)

@@ -11,9 +11,8 @@ use Rattle.js_world.specs.Names.{name_of, Differ}
 use Rattle.js_world.specs.declared.names.NameId.{NameId}
 use Rattle.js_heap.specs.declared.value.Addr.{Addr}
 use Rattle.js_heap.specs.declared.value.Value.TheVariants as values
-use Rattle.js_semantics.specs.References.{Found, found_here}
-use Rattle.js_semantics.specs.Functions.{parameters_from}
-use Rattle.js_semantics.specs.BuiltIns.{argument}
+use Rattle.js_heap.specs.Scopes.{Found, found_here}
+use Rattle.js_heap.specs.Arguments.{argument, parameters_from}
 use Rattle.js_world.specs.Calls.{kept_found}
 use Rattle.js_world.specs.Places.{with_value_at}
 use Rattle.js_world.proofs.TableLemmas.{same-names}

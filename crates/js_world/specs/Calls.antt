@@ -8,7 +8,7 @@ use Rattle.js_heap.specs.declared.change.Change.{Change}
 use Rattle.js_heap.specs.declared.change.Change.TheVariants as changes
 use Rattle.js_heap.specs.Places.{name_place}
 use Rattle.js_heap.specs.World.{World, Room, Tried, fine, effect, full, base_room, scratch_room}
-use Rattle.js_semantics.specs.References.{Found}
+use Rattle.js_heap.specs.Scopes.{Found}
 use Rattle.js_world.specs.declared.world.Refused.{Refused}
 use Rattle.js_world.specs.declared.world.Refused.TheVariants.{Effect, Full, Memory}
 use Rattle.js_world.specs.declared.stored.FoundSlot.{FoundSlot}

@@ -4,7 +4,7 @@ use Rattle.js_heap.specs.declared.value.Value.{Value}
 use Rattle.js_heap.specs.declared.cell.Binding.{Binding}
 use Rattle.js_heap.specs.declared.cell.Cell.{Cell}
 use Rattle.js_heap.specs.declared.cell.Cell.TheVariants as cells
-use Rattle.js_semantics.specs.BuiltIns.{argument}
+use Rattle.js_heap.specs.Arguments.{argument}
 use Rattle.js_world.specs.Names.{name_of}
 use Rattle.js_world.specs.declared.names.NameId.{NameId}
 use Rattle.js_world.specs.declared.stored.Slot.{Slot}

@@ -2,7 +2,7 @@
 use Rattle.std.specs.Prelude.{ℕ, List, [], Some}
 use Rattle.js_heap.specs.declared.cell.Cell.{Cell}
 use Rattle.js_heap.specs.World.{World, scratch_room}
-use Rattle.js_semantics.specs.Evaluation.{ScratchSpace}
+use Rattle.js_heap.specs.ScratchSpaces.{ScratchSpace}
 use Rattle.js_world.specs.declared.stored.Stored.{Stored}
 use Rattle.js_world.specs.Cells.{cells_of}
 use Rattle.js_world.specs.Heaps.{Heap}

@@ -2,7 +2,7 @@
 
 ghost use Rattle.std.specs.Prelude.{◌≡◌, IfSome};
 ghost use Rattle.js_heap.specs.World.{read_cell};
-ghost use Rattle.js_semantics.specs.References.{found};
+ghost use Rattle.js_heap.specs.Scopes.{found};
 ghost use Rattle.js_world.specs.Names.{name_of};
 ghost use Rattle.js_world.specs.Calls.{kept_slot, kept_found, HasPlace};
 

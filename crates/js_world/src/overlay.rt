@@ -2,7 +2,7 @@
 
 ghost use Rattle.std.specs.Prelude.{◌≡◌, ◌≤◌, ◌++◌, List, ℕ, OnErr, length};
 ghost use Rattle.js_heap.specs.World.{write_cell};
-ghost use Rattle.js_semantics.specs.Evaluation.{copied_world};
+ghost use Rattle.js_heap.specs.ScratchSpaces.{copied_world};
 ghost use Rattle.js_world.specs.Calls.{Tries};
 ghost use Rattle.js_world.specs.Changes.{change_of, Distinguishes, ChangeWithin};
 ghost use Rattle.js_world.specs.Heaps.{heap_world};

@@ -5,9 +5,8 @@ ghost use Rattle.js_heap.specs.Cells.{declared, bound, binding_of};
 ghost use Rattle.js_heap.specs.declared.value.Addr.{Addr as AnyAddr};
 ghost use Rattle.js_world.specs.Names.{name_of, Differ};
 ghost use Rattle.js_world.specs.Cells.{slot_place, bindings, SlotsWithin, cell_at, texts_of, slots_from};
-ghost use Rattle.js_semantics.specs.References.{Found, found_in, found_here, found_outward};
-ghost use Rattle.js_semantics.specs.BuiltIns.{argument};
-ghost use Rattle.js_semantics.specs.Functions.{parameters_from as definition_parameters};
+ghost use Rattle.js_heap.specs.Scopes.{Found, found_in, found_here, found_outward};
+ghost use Rattle.js_heap.specs.Arguments.{argument, parameters_from as definition_parameters};
 ghost use Rattle.js_world.specs.Calls.{kept_found};
 ghost use Rattle.js_world.specs.Looks.{looked_on, IsPlaced, IsPlacedIn, IsNotHere};
 

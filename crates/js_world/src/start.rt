@@ -13,11 +13,10 @@ use crate::heap::push_cell;
 use crate::names::{NameId, Names};
 use crate::properties::PropertyMap;
 use crate::stored::{FunctionCell, FunctionName, Slot, Slots, Stored};
-use cdp_text::units::Units;
+use cdp_text::units::{Units, ascii};
 use js_heap::built_in::{BuiltIn, Code, ErrorClass};
 use js_heap::cell::{Property, ScopeKind};
 use js_heap::value::{Addr, Value};
-use js_values::text::ascii;
 use std::alloc::{AllocError, Global};
 
 // The names of the global scope, and those of the built-in functions that aren't among them.

@@ -1,5 +1,5 @@
 use Rattle.std.proofs.Common.{◌≡◌, ◌-◌}
-use Rattle.js_semantics.specs.References.{found_within}
+use Rattle.js_heap.specs.Scopes.{found_within}
 use Rattle.js_world.specs.Names.{name_of}
 use Rattle.js_world.specs.Calls.{kept_found}
 use Rattle.js_world.proofs.lookup.lookup.Given as goal

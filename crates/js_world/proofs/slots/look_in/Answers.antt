@@ -1,5 +1,5 @@
 use Rattle.std.proofs.Common.{arith, ◌∙◌, refl}
-use Rattle.js_semantics.specs.References.{found_outward}
+use Rattle.js_heap.specs.Scopes.{found_outward}
 use Rattle.js_world.proofs.ScopeLemmas.{look-there, look-outward, place-there}
 use Rattle.js_world.proofs.slots.look_in.Goals as goal
 

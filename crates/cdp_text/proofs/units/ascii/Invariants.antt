@@ -1,5 +1,5 @@
 use Rattle.std.proofs.Common.{◌≡◌, take}
-use Rattle.js_values.proofs.text.ascii.Given as goal
+use Rattle.cdp_text.proofs.units.ascii.Given as goal
 
 abbrev pub invariant-loop-byte : goal.invariant-loop-byte
 invariant-loop-byte l = l.items.items ≡ take l.byte-index l.bytes
