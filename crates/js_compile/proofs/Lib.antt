@@ -5,8 +5,6 @@ pub mod KeepLemmas
 pub mod TermSteps
 pub mod ScriptLemmas
 pub mod PlainLaws
-pub mod PlaceableMakers
-pub mod PlaceableSources
 pub mod TreeLemmas
 pub mod IndexLemmas
 pub mod PlaceLaws

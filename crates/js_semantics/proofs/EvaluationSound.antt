@@ -21,7 +21,8 @@ use Rattle.js_heap.proofs.SoundLemmas.{sound-value, sound-scope, sound_propertie
 use Rattle.js_semantics.specs.Terms.{Term}
 use Rattle.js_semantics.specs.State.{State}
 use Rattle.js_semantics.specs.Functions.{Program}
-use Rattle.js_semantics.specs.Makers.{Made}
+use Rattle.js_semantics.specs.Makers.{Context, Made}
+use Rattle.js_semantics.specs.Untouched.{IsUntouched}
 use Rattle.js_semantics.specs.Run.{ended, threw, by_effect, by_full, Run, running, over, run_of, steps_in, literals}
 use Rattle.js_semantics.specs.Evaluation.{ScratchSpace, copied_world, after_try, keep_source, make_literals, Json, json_null, json_bool, json_number, json_string, json_array, json_object, Jsons, no_jsons, a_json, Members, no_members, a_member, object_value, make_json, make_jsons, make_members, Argument, given, made_of, make_argument, make_arguments, budget, Answer, answer_of, evaluation_state, answered, next_kept, kept_term, kept_tree, with_source, prepared, evaluated, evaluate, call_term, with_arguments, evaluate_call}
 use Rattle.js_semantics.specs.Sound.{SoundTerm, Later, SoundRun, SoundArguments, IsReady, SoundAnswer}
@@ -30,7 +31,6 @@ use Rattle.js_semantics.proofs.SoundTerms.{later-same, later-trans, sound-term, 
 use Rattle.js_semantics.proofs.SoundValues.{leads-as}
 use Rattle.js_semantics.proofs.SoundSteps.{of-sound, steps-sound}
 use Rattle.js_semantics.proofs.StartLemmas.{AreTexts, placed-sound}
-use Rattle.js_semantics.proofs.UntouchedLemmas.{Fresh}
 
 -- ---- what is made, in a later sound world
 
@@ -129,7 +129,11 @@ source-good k w us s e =
 abbrev IsTree : ScratchSpace → Made → World → Term → Type 0
 IsTree x e z t = SoundTerm z t × SoundTerm z (kept_tree (next_kept x) e)
 
-placed-good : (k : ℕ) (x : ScratchSpace) (e : Made) (v : World) → Fresh e → IsSound v → v.start ≡ Some k → length v.scratch ≡ suc (length x.cells) → Good v (after_try (make_literals v (literals (kept_term (next_kept x) e))) (λ u z. fine (kept_tree (next_kept x) e) z)) (IsTree x e)
+-- what is made holds no address, wherever it stands
+abbrev pub MadeUntouched : Made → Type 0
+MadeUntouched e = (c : Context) → IsUntouched (e.term c)
+
+placed-good : (k : ℕ) (x : ScratchSpace) (e : Made) (v : World) → MadeUntouched e → IsSound v → v.start ≡ Some k → length v.scratch ≡ suc (length x.cells) → Good v (after_try (make_literals v (literals (kept_term (next_kept x) e))) (λ u z. fine (kept_tree (next_kept x) e) z)) (IsTree x e)
 placed-good k x e v f s q n =
     let t : Term = kept_term (next_kept x) e in
     then-good v (make_literals v (literals t)) (λ u z. fine (kept_tree (next_kept x) e) z) (λ z u. AreTexts z (λ i. Scratch i) (length v.scratch) (length v.scratch + length (literals t))) (IsTree x e)
@@ -138,7 +142,7 @@ placed-good k x e v f s q n =
     let tree : SoundTerm z (kept_tree (next_kept x) e) = placed-sound z (λ i. Scratch i) (length x.cells + 1) t (f _) (λ i low high. h i (omega (arith, n, low)) (omega (arith, n, high))) in
     (t_sound, later-same z, (tree, tree)))
 
-prepared-good : (w : World) (x : ScratchSpace) (source : List ℕ) (e : Made) → Fresh e → IsSound (copied_world w x) → Good (copied_world w x) (prepared w x source e) (IsTree x e)
+prepared-good : (w : World) (x : ScratchSpace) (source : List ℕ) (e : Made) → MadeUntouched e → IsSound (copied_world w x) → Good (copied_world w x) (prepared w x source e) (IsTree x e)
 prepared-good w x source e f s =
     let c : World = copied_world w x in
     let k : Addr → World → Tried Term = λ at v. after_try (make_literals v (literals (kept_term at e))) (λ u z. fine (kept_tree at e) z) in
@@ -231,14 +235,14 @@ ready-later p w v scope receiver x e h s l tree = record {
   receiver_lives = sound-value w v l receiver h.receiver_lives;
 }
 
-pub evaluate-sound : (p : Program) (w : World) (x : ScratchSpace) (scope : Addr) (receiver : Value) (source : List ℕ) (e : Made) → Fresh e → IsReady p (copied_world w x) scope receiver → SoundAnswer (with_source p x e) (evaluate p w x scope receiver source e)
+pub evaluate-sound : (p : Program) (w : World) (x : ScratchSpace) (scope : Addr) (receiver : Value) (source : List ℕ) (e : Made) → MadeUntouched e → IsReady p (copied_world w x) scope receiver → SoundAnswer (with_source p x e) (evaluate p w x scope receiver source e)
 evaluate-sound p w x scope receiver source e f h =
     let c : World = copied_world w x in
     let q : Program = with_source p x e in
     answered-sound c q (prepared w x source e) (evaluated q scope receiver) (IsTree x e) (prepared-good w x source e f h.world)
     (λ v u s l k. evaluated-sound q scope receiver v u (ready-later p c v scope receiver x e h s l k.1) k.0)
 
-called-good : (w : World) (x : ScratchSpace) (source : List ℕ) (e : Made) (receiver : Value) (args : List Argument) → Fresh e → IsSound (copied_world w x) → SoundValue (copied_world w x) receiver → SoundArguments (copied_world w x) args → Good (copied_world w x) (with_arguments receiver args (prepared w x source e)) (IsTree x e)
+called-good : (w : World) (x : ScratchSpace) (source : List ℕ) (e : Made) (receiver : Value) (args : List Argument) → MadeUntouched e → IsSound (copied_world w x) → SoundValue (copied_world w x) receiver → SoundArguments (copied_world w x) args → Good (copied_world w x) (with_arguments receiver args (prepared w x source e)) (IsTree x e)
 called-good w x source e receiver args f s h a =
     let c : World = copied_world w x in
     then-good c (prepared w x source e) (λ g v. after_try (make_arguments v args) (λ vs u. fine (call_term receiver g vs) u)) (IsTree x e) (IsTree x e) (prepared-good w x source e f s)
@@ -252,7 +256,7 @@ called-good w x source e receiver args f s h a =
       ),
     )))
 
-pub evaluate_call-sound : (p : Program) (w : World) (x : ScratchSpace) (source : List ℕ) (e : Made) (receiver : Value) (args : List Argument) → Fresh e → IsReady p (copied_world w x) script_scope receiver → SoundArguments (copied_world w x) args → SoundAnswer (with_source p x e) (evaluate_call p w x source e receiver args)
+pub evaluate_call-sound : (p : Program) (w : World) (x : ScratchSpace) (source : List ℕ) (e : Made) (receiver : Value) (args : List Argument) → MadeUntouched e → IsReady p (copied_world w x) script_scope receiver → SoundArguments (copied_world w x) args → SoundAnswer (with_source p x e) (evaluate_call p w x source e receiver args)
 evaluate_call-sound p w x source e receiver args f h a =
     let c : World = copied_world w x in
     let q : Program = with_source p x e in

@@ -1,3 +1,5 @@
+pub mod TreeFolds
+pub mod SourceFolds
 pub mod Reports
 pub mod Steps
 pub mod Cases
@@ -12,7 +14,7 @@ pub mod SoundRows
 pub mod SoundSteps
 pub mod EvaluationLemmas
 pub mod StartLemmas
-pub mod UntouchedLemmas
+pub mod UnstartedMakers
 pub mod SourceLemmas
 pub mod SafeLemmas
 pub mod GiveLemmas

@@ -6,9 +6,11 @@ use Rattle.js_operators.specs.declared.operator.UpdateOperator.{UpdateOperator}
 use Rattle.js_operators.specs.declared.operator.BinaryOperator.{BinaryOperator}
 use Rattle.js_operators.specs.declared.operator.BinaryOperator.TheVariants as binaries
 use Rattle.js_heap.specs.declared.value.Value.TheVariants as values
-use Rattle.js_semantics.specs.Terms.{Mark, to_name, first, doing, read, return_, function, choose, loop, Term, done, standing, part, Terms, end, more, one, joined}
+use Rattle.js_semantics.specs.Terms.{Mark, to_name, first, doing, read, return_, function, choose, loop, Term, done, standing, part, Terms, end, more, one, joined, enter_debugger, break_, continue_, throw_}
 use Rattle.js_semantics.specs.Shapes.{size, AreFunctions, AreMethods, methods_size, members_size, IsShaped, AreShaped}
-use Rattle.js_semantics.specs.Makers.{Context, Made, Item, Items, entered, lexical_item, if_item, while_item, do_while_item, for_item, for_lexical_item, for_of_item, return_item, try_item, function_item, unnamed, naming, within, plain, plains, assigned_to, compounded, updated, deleted, type_of, assignment, unary_term, binary_term, comma_term, call_term, form_of, body_terms, function_term, returned_body, PropertyKey, fixed_key, computed_key, PropertyMade, value_property, method_property, member_of, Parts, property_parts, properties_parts, object_term, and_items, block_term, DeclaratorMade, initializer_terms, declarators_terms, optional_term, optional_terms, for_parts, CatchMade, caught, finally_term, script_term}
+use Rattle.js_semantics.specs.Makers.{Context, Made, Item, Items, entered, lexical_item, if_item, while_item, do_while_item, for_item, for_lexical_item, for_of_item, return_item, try_item, function_item, unnamed, naming, within, plain, plains, assigned_to, compounded, updated, deleted, type_of, assignment, unary_term, binary_term, comma_term, call_term, form_of, body_terms, function_term, returned_body, PropertyKey, fixed_key, computed_key, PropertyMade, value_property, method_property, member_of, Parts, property_parts, properties_parts, object_term, and_items, block_term, DeclaratorMade, initializer_terms, declarators_terms, optional_term, optional_terms, for_parts, CatchMade, caught, finally_term, script_term, leaf, nothing, item}
+use Rattle.js_semantics.specs.Clean.{parameter_names}
+use Rattle.js_semantics.proofs.SourceFolds.{Relations, Keeps}
 use Rattle.js_semantics.proofs.ShapeLemmas.{joined-shaped, size-joined}
 
 -- ---- what is made is well-shaped
@@ -30,7 +32,7 @@ abbrev pub AllShaped : List Made → Type 0
 AllShaped [] = Unit {0}
 AllShaped (e ∷ es) = MadeShaped e × AllShaped es
 
-pub plains-shaped : (es : List Made) (c : Context) → AllShaped es → AreShaped (plains es c)
+plains-shaped : (es : List Made) (c : Context) → AllShaped es → AreShaped (plains es c)
 plains-shaped [] c h = tt
 plains-shaped (e ∷ es) c h = (h.0 (unnamed c), plains-shaped es c h.1)
 
@@ -48,11 +50,11 @@ compounded-shaped o (standing v place) e h k = h
 compounded-shaped o (part (read r) now later) e h k = let s = h.0 in (record { reduced = s.reduced; kept = omega arith; others = tt }, h.1, (k, tt))
 compounded-shaped o (part f now later) e h k = h
 
-pub assignment-shaped : (o : Option BinaryOperator) (t e : Term) → IsShaped t → IsShaped e → IsShaped (assignment o t e)
+assignment-shaped : (o : Option BinaryOperator) (t e : Term) → IsShaped t → IsShaped e → IsShaped (assignment o t e)
 assignment-shaped None t e h k = assigned-shaped t e h k
 assignment-shaped (Some o) t e h k = compounded-shaped o t e h k
 
-pub updated-shaped : (o : UpdateOperator) (b : Bool) (t : Term) → IsShaped t → IsShaped (updated o b t)
+updated-shaped : (o : UpdateOperator) (b : Bool) (t : Term) → IsShaped t → IsShaped (updated o b t)
 updated-shaped o b (done v) h = h
 updated-shaped o b (standing v place) h = h
 updated-shaped o b (part (read r) now later) h = let s = h.0 in (record { reduced = s.reduced; kept = omega arith; others = tt }, h.1, tt)
@@ -70,7 +72,7 @@ type-shaped (standing v place) h = (record { reduced = omega arith; kept = omega
 type-shaped (part (read (to_name n)) now later) h = (record { reduced = omega arith; kept = omega arith; others = tt }, tt, tt)
 type-shaped (part f now later) h = (record { reduced = omega arith; kept = omega arith; others = tt }, (h, tt), tt)
 
-pub unary-shaped : (o : UnaryOperator) (t : Term) → IsShaped t → IsShaped (unary_term o t)
+unary-shaped : (o : UnaryOperator) (t : Term) → IsShaped t → IsShaped (unary_term o t)
 unary-shaped unaries.Typeof t h = type-shaped t h
 unary-shaped unaries.Delete t h = deleted-shaped t h
 unary-shaped unaries.Void t h = (record { reduced = omega arith; kept = omega arith; others = tt }, (h, tt), tt)
@@ -79,16 +81,16 @@ unary-shaped unaries.Minus t h = (record { reduced = omega arith; kept = omega a
 unary-shaped unaries.BitwiseNot t h = (record { reduced = omega arith; kept = omega arith; others = tt }, (h, tt), tt)
 unary-shaped unaries.LogicalNot t h = (record { reduced = omega arith; kept = omega arith; others = tt }, (h, tt), tt)
 
-pub binary-shaped : (o : BinaryOperator) (l r : Term) → IsShaped l → IsShaped r → IsShaped (binary_term o l r)
+binary-shaped : (o : BinaryOperator) (l r : Term) → IsShaped l → IsShaped r → IsShaped (binary_term o l r)
 binary-shaped binaries.LogicalAnd l r h k = (record { reduced = omega arith; kept = omega arith; others = tt }, (h, tt), (k, tt))
 binary-shaped binaries.LogicalOr l r h k = (record { reduced = omega arith; kept = omega arith; others = tt }, (h, tt), (k, tt))
 binary-shaped o l r h k = (record { reduced = omega arith; kept = omega arith; others = tt }, (h, (k, tt)), tt)
 
-pub comma-shaped : (ts : Terms) → AreShaped ts → IsShaped (comma_term ts)
+comma-shaped : (ts : Terms) → AreShaped ts → IsShaped (comma_term ts)
 comma-shaped end h = tt
 comma-shaped (more t ts) h = (record { reduced = omega arith; kept = omega arith; others = tt }, (h.0, tt), h.1)
 
-pub call-shaped : (m : Mark) (node : ℕ) (t : Term) (args : Terms) → IsShaped t → AreShaped args → IsShaped (call_term m node t args)
+call-shaped : (m : Mark) (node : ℕ) (t : Term) (args : Terms) → IsShaped t → AreShaped args → IsShaped (call_term m node t args)
 call-shaped m node (done v) args h k = (record { reduced = omega arith; kept = omega arith; others = tt }, (tt, (h, k)), tt)
 call-shaped m node (standing v place) args h k = (record { reduced = omega arith; kept = omega arith; others = tt }, (tt, (h, k)), tt)
 call-shaped m node (part (read r) now later) args h k = let s = h.0 in (record { reduced = s.reduced; kept = omega arith; others = tt }, h.1, k)
@@ -99,18 +101,18 @@ call-shaped m node (part f now later) args h k = (record { reduced = omega arith
 body-shaped : (b : Items) (c : Context) → ItemsShaped b → AreShaped (body_terms b c)
 body-shaped b c h = ((record { reduced = omega arith; kept = omega arith; others = tt }, h.terms_shaped (within 0 c), tt), h.functions_shaped (within 0 c))
 
-pub function-shaped : (node : ℕ) (n : Option (List ℕ)) (ps : List (List ℕ)) (b : Items) (c : Context) → ItemsShaped b → IsShaped (function_term node n ps b c)
+function-shaped : (node : ℕ) (n : Option (List ℕ)) (ps : List (List ℕ)) (b : Items) (c : Context) → ItemsShaped b → IsShaped (function_term node n ps b c)
 function-shaped node (Some n) ps b c h = (record { reduced = omega arith; kept = omega arith; others = h.functions_only (within 0 c) }, tt, body-shaped b c h)
 function-shaped node None ps b c h = (record { reduced = omega arith; kept = omega arith; others = h.functions_only (within 0 c) }, tt, body-shaped b c h)
 
-pub returned-shaped : (e : Made) → MadeShaped e → ItemsShaped (returned_body e)
+returned-shaped : (e : Made) → MadeShaped e → ItemsShaped (returned_body e)
 returned-shaped e h = record {
   functions_only = λ c. tt;
   functions_shaped = λ c. tt;
   terms_shaped = λ c. ((record { reduced = omega arith; kept = omega arith; others = tt }, tt, ((record { reduced = omega arith; kept = omega arith; others = tt }, (h (within e.node c), tt), tt), tt)), tt);
 }
 
-pub arrow-shaped : (node : ℕ) (n : List ℕ) (ps : List (List ℕ)) (b : Items) (c : Context) → ItemsShaped b → IsShaped (part (function (form_of node c.source n ps b.names true false)) end (body_terms b c))
+arrow-shaped : (node : ℕ) (n : List ℕ) (ps : List (List ℕ)) (b : Items) (c : Context) → ItemsShaped b → IsShaped (part (function (form_of node c.source n ps b.names true false)) end (body_terms b c))
 arrow-shaped node n ps b c h = (record { reduced = omega arith; kept = omega arith; others = h.functions_only (within 0 c) }, tt, body-shaped b c h)
 
 -- ---- statements
@@ -120,14 +122,14 @@ functions-joined end us h k = k
 functions-joined (more (part (function f) now later) ts) us h k = functions-joined ts us h k
 functions-joined (more _ ts) us h k = absurd h
 
-pub and-shaped : (i : Item) (is : Items) → ItemShaped i → ItemsShaped is → ItemsShaped (and_items i is)
+and-shaped : (i : Item) (is : Items) → ItemShaped i → ItemsShaped is → ItemsShaped (and_items i is)
 and-shaped i is h k = record {
   functions_only = λ c. functions-joined (i.functions c) (is.functions c) (h.functions_only c) (k.functions_only c);
   functions_shaped = λ c. joined-shaped (i.functions c) (is.functions c) (h.functions_shaped c) (k.functions_shaped c);
   terms_shaped = λ c. (h.term_shaped c, k.terms_shaped c);
 }
 
-pub block-shaped : (b : Items) (c : Context) → ItemsShaped b → IsShaped (block_term b c)
+block-shaped : (b : Items) (c : Context) → ItemsShaped b → IsShaped (block_term b c)
 block-shaped b c h = (record { reduced = omega arith; kept = omega arith; others = h.functions_only c }, tt, ((record { reduced = omega arith; kept = omega arith; others = tt }, h.terms_shaped c, tt), h.functions_shaped c))
 
 pub script-shaped : (number : ℕ) (b : Items) → ItemsShaped b → IsShaped (script_term number b)
@@ -154,7 +156,7 @@ declarators-shaped : (ds : List DeclaratorMade) (c : Context) → DeclaratorsSha
 declarators-shaped [] c h = tt
 declarators-shaped (d ∷ ds) c h = ((record { reduced = omega arith; kept = omega arith; others = tt }, initializer-shaped d.name d.initializer c h.0, tt), declarators-shaped ds c h.1)
 
-pub lexical-shaped : (node : ℕ) (constant : Bool) (ds : List DeclaratorMade) → DeclaratorsShaped ds → ItemShaped (lexical_item node constant ds)
+lexical-shaped : (node : ℕ) (constant : Bool) (ds : List DeclaratorMade) → DeclaratorsShaped ds → ItemShaped (lexical_item node constant ds)
 lexical-shaped node constant ds h = record {
   functions_only = λ c. tt;
   functions_shaped = λ c. tt;
@@ -172,36 +174,36 @@ optional-shaped (Some e) c t h k = h (unnamed c)
 parts-shaped : (t u : Option Made) (s : Item) (c : Context) → OptionalShaped t → OptionalShaped u → ItemShaped s → AreShaped (for_parts t u s c)
 parts-shaped t u s c h k i = (optional-shaped t c (done (values.Bool true)) h tt, (optional-shaped u c (done values.Undefined) k tt, (i.term_shaped c, tt)))
 
-pub if-shaped : (node : ℕ) (e : Made) (s t : Item) → MadeShaped e → ItemShaped s → ItemShaped t → ItemShaped (if_item node e s (Some t))
+if-shaped : (node : ℕ) (e : Made) (s t : Item) → MadeShaped e → ItemShaped s → ItemShaped t → ItemShaped (if_item node e s (Some t))
 if-shaped node e s t h k i = entered-shaped node (λ c. part choose (one (plain e c)) (more (s.term c) (one (t.term c)))) (λ c. (record { reduced = omega arith; kept = omega arith; others = tt }, (h (unnamed c), tt), (k.term_shaped c, (i.term_shaped c, tt))))
 
-pub if_then-shaped : (node : ℕ) (e : Made) (s : Item) → MadeShaped e → ItemShaped s → ItemShaped (if_item node e s None)
+if_then-shaped : (node : ℕ) (e : Made) (s : Item) → MadeShaped e → ItemShaped s → ItemShaped (if_item node e s None)
 if_then-shaped node e s h k = entered-shaped node (λ c. part choose (one (plain e c)) (more (s.term c) (one (done values.Undefined)))) (λ c. (record { reduced = omega arith; kept = omega arith; others = tt }, (h (unnamed c), tt), (k.term_shaped c, (tt, tt))))
 
-pub while-shaped : (node : ℕ) (e : Made) (s : Item) → MadeShaped e → ItemShaped s → ItemShaped (while_item node e s)
+while-shaped : (node : ℕ) (e : Made) (s : Item) → MadeShaped e → ItemShaped s → ItemShaped (while_item node e s)
 while-shaped node e s h k = entered-shaped node (λ c. part (loop first None) end (more (plain e c) (more (done values.Undefined) (one (s.term c))))) (λ c. (record { reduced = omega arith; kept = omega arith; others = tt }, tt, (h (unnamed c), (tt, (k.term_shaped c, tt)))))
 
-pub do_while-shaped : (node : ℕ) (s : Item) (e : Made) → ItemShaped s → MadeShaped e → ItemShaped (do_while_item node s e)
+do_while-shaped : (node : ℕ) (s : Item) (e : Made) → ItemShaped s → MadeShaped e → ItemShaped (do_while_item node s e)
 do_while-shaped node s e k h = entered-shaped node (λ c. part (loop doing None) end (more (plain e c) (more (done values.Undefined) (one (s.term c))))) (λ c. (record { reduced = omega arith; kept = omega arith; others = tt }, tt, (h (unnamed c), (tt, (k.term_shaped c, tt)))))
 
-pub for-shaped : (node : ℕ) (i t u : Option Made) (s : Item) → OptionalShaped i → OptionalShaped t → OptionalShaped u → ItemShaped s → ItemShaped (for_item node i t u s)
+for-shaped : (node : ℕ) (i t u : Option Made) (s : Item) → OptionalShaped i → OptionalShaped t → OptionalShaped u → ItemShaped s → ItemShaped (for_item node i t u s)
 for-shaped node i t u s a b d k = entered-shaped node (λ c. part (loop first None) (optional_terms i c) (for_parts t u s c)) (λ c. (record { reduced = omega arith; kept = omega arith; others = tt }, optional_terms-shaped i c a, parts-shaped t u s c b d k))
 
-pub for_lexical-shaped : (node : ℕ) (constant : Bool) (ds : List DeclaratorMade) (t u : Option Made) (s : Item) → DeclaratorsShaped ds → OptionalShaped t → OptionalShaped u → ItemShaped s → ItemShaped (for_lexical_item node constant ds t u s)
+for_lexical-shaped : (node : ℕ) (constant : Bool) (ds : List DeclaratorMade) (t u : Option Made) (s : Item) → DeclaratorsShaped ds → OptionalShaped t → OptionalShaped u → ItemShaped s → ItemShaped (for_lexical_item node constant ds t u s)
 for_lexical-shaped node constant ds t u s h a b k = record {
   functions_only = λ c. tt;
   functions_shaped = λ c. tt;
   term_shaped = λ c. (record { reduced = omega arith; kept = omega arith; others = tt }, tt, ((record { reduced = omega arith; kept = omega arith; others = tt }, declarators-shaped ds (within node c) h, tt), parts-shaped t u s (within node c) a b k));
 }
 
-pub for_of-shaped : (node : ℕ) (constant : Bool) (n : List ℕ) (e : Made) (s : Item) → MadeShaped e → ItemShaped s → ItemShaped (for_of_item node constant n e s)
+for_of-shaped : (node : ℕ) (constant : Bool) (n : List ℕ) (e : Made) (s : Item) → MadeShaped e → ItemShaped s → ItemShaped (for_of_item node constant n e s)
 for_of-shaped node constant n e s h k = record {
   functions_only = λ c. tt;
   functions_shaped = λ c. tt;
   term_shaped = λ c. (record { reduced = omega arith; kept = omega arith; others = tt }, tt, (h (unnamed (within node c)), (k.term_shaped (within node c), tt)));
 }
 
-pub return-shaped : (node : ℕ) (e : Option Made) → OptionalShaped e → ItemShaped (return_item node e)
+return-shaped : (node : ℕ) (e : Option Made) → OptionalShaped e → ItemShaped (return_item node e)
 return-shaped node e h = entered-shaped node (λ c. part return_ (optional_terms e c) end) (λ c. (record { reduced = omega arith; kept = omega arith; others = tt }, optional_terms-shaped e c h, tt))
 
 abbrev pub HandlerShaped : Option CatchMade → Type 0
@@ -220,10 +222,10 @@ finally-shaped : (f : Option Items) (t : Term) (c : Context) → FinalizerShaped
 finally-shaped None t c k i = i
 finally-shaped (Some f) t c k i = (record { reduced = omega arith; kept = omega arith; others = tt }, (i, tt), (block-shaped f c k, tt))
 
-pub try-shaped : (node : ℕ) (b : Items) (h : Option CatchMade) (f : Option Items) → ItemsShaped b → HandlerShaped h → FinalizerShaped f → ItemShaped (try_item node b h f)
+try-shaped : (node : ℕ) (b : Items) (h : Option CatchMade) (f : Option Items) → ItemsShaped b → HandlerShaped h → FinalizerShaped f → ItemShaped (try_item node b h f)
 try-shaped node b h f i j k = entered-shaped node (λ c. finally_term f (caught h (block_term b c) c) c) (λ c. finally-shaped f (caught h (block_term b c) c) c k (caught-shaped h (block_term b c) c j (block-shaped b c i)))
 
-pub function_item-shaped : (node : ℕ) (n : List ℕ) (ps : List (List ℕ)) (b : Items) → ItemsShaped b → ItemShaped (function_item node n ps b)
+function_item-shaped : (node : ℕ) (n : List ℕ) (ps : List (List ℕ)) (b : Items) → ItemsShaped b → ItemShaped (function_item node n ps b)
 function_item-shaped node n ps b h = record {
   functions_only = λ c. tt;
   functions_shaped = λ c. ((record { reduced = omega arith; kept = omega arith; others = h.functions_only (within 0 c) }, tt, body-shaped b c h), tt);
@@ -275,5 +277,92 @@ properties-shaped : (ms : List PropertyMade) (c : Context) → PropertiesShaped 
 properties-shaped [] c h = record { methods = tt; counted = refl; now_shaped = tt; later_shaped = tt }
 properties-shaped (m ∷ ms) c h = property-shaped m ms c (properties_parts ms c) h.0 (properties-shaped ms c h.1)
 
-pub object-shaped : (ms : List PropertyMade) (c : Context) → PropertiesShaped ms → IsShaped (object_term ms (properties_parts ms c))
+object-shaped : (ms : List PropertyMade) (c : Context) → PropertiesShaped ms → IsShaped (object_term ms (properties_parts ms c))
 object-shaped ms c h = let q = properties-shaped ms c h in (record { reduced = omega arith; kept = omega arith; others = (q.methods, q.counted) }, q.now_shaped, q.later_shaped)
+
+-- ---- trees
+
+abbrev pub well_shaped : Relations
+well_shaped = record {
+  expression = λ e x. MadeShaped e;
+  expressions = λ es xs. AllShaped es;
+  optional = λ e x. OptionalShaped e;
+  key = λ k x. KeyShaped k;
+  property = λ m x. PropertyShaped m;
+  properties = λ ms xs. PropertiesShaped ms;
+  declarator = λ d x. OptionalShaped d.initializer;
+  declarators = λ ds xs. DeclaratorsShaped ds;
+  statement = λ i x. ItemShaped i;
+  handler = λ h x. HandlerShaped h;
+  finalizer = λ f x. FinalizerShaped f;
+  statements = λ is xs. ItemsShaped is;
+}
+
+item-shaped : (term : Context → Term) → ((c : Context) → IsShaped (term c)) → ItemShaped (item term)
+item-shaped term h = record { functions_only = λ c. tt; functions_shaped = λ c. tt; term_shaped = h }
+
+pub keeps-shaped : Keeps well_shaped
+keeps-shaped = record {
+  of_this = λ node c. (record { reduced = omega arith; kept = omega arith; others = tt }, tt, tt);
+  of_name = λ node n c. (record { reduced = omega arith; kept = omega arith; others = tt }, tt, tt);
+  of_number = λ node v c. tt;
+  of_string = λ node us c. (record { reduced = omega arith; kept = omega arith; others = tt }, tt, tt);
+  of_boolean = λ node b c. tt;
+  of_null = λ node c. tt;
+  of_array = λ node es xs h c. (record { reduced = omega arith; kept = omega arith; others = tt }, plains-shaped es c h, tt);
+  of_object = λ node ps xs h c. object-shaped ps c h;
+  of_function = λ node n ps body xs h c. function-shaped node n ps body c h;
+  of_arrow = λ node ps e x h c. arrow-shaped node c.name (parameter_names ps) (returned_body e) c (returned-shaped e h);
+  of_arrow_block = λ node ps body xs h c. arrow-shaped node c.name (parameter_names ps) body c h;
+  of_parenthesized = λ node e x h. h;
+  of_member = λ node e n x h c. (record { reduced = omega arith; kept = omega arith; others = tt }, (h (unnamed c), tt), tt);
+  of_index = λ node e k x y h i c. (record { reduced = omega arith; kept = omega arith; others = tt }, (h (unnamed c), (i (unnamed c), tt)), tt);
+  of_call = λ node parentheses f es x xs h i c. call-shaped _ _ _ _ (h (unnamed c)) (plains-shaped es c i);
+  of_postfix = λ node o e x h c. updated-shaped o false _ (h (unnamed c));
+  of_prefix = λ node o e x h c. updated-shaped o true _ (h (unnamed c));
+  of_unary = λ node o e x h c. unary-shaped o _ (h (unnamed c));
+  of_binary = λ node o l r x y h i c. binary-shaped o _ _ (h (unnamed c)) (i (unnamed c));
+  of_conditional = λ node t a b x y z h i j c. (record { reduced = omega arith; kept = omega arith; others = tt }, (h (unnamed c), tt), (i (unnamed c), (j (unnamed c), tt)));
+  of_assign = λ node o t e x y h i c. assignment-shaped _ _ _ (h (unnamed c)) (i (unnamed c));
+  of_comma = λ node es xs h c. comma-shaped _ (plains-shaped es c h);
+  of_no_expressions = tt;
+  of_an_expression = λ e es x xs h i. (h, i);
+  of_omitted = tt;
+  of_present = λ e x h. h;
+  of_word_key = λ us. tt;
+  of_string_key = λ us. tt;
+  of_number_key = λ v. tt;
+  of_computed_key = λ e x h. h;
+  of_shorthand = λ n. (tt, λ c. (record { reduced = omega arith; kept = omega arith; others = tt }, tt, tt));
+  of_value = λ k e x y h i. (h, i);
+  of_method = λ node k ps body x xs h i. (h, i);
+  of_no_properties = tt;
+  of_a_property = λ m ms x xs h i. (h, i);
+  of_declarator = λ n e x h. h;
+  of_no_declarators = tt;
+  of_a_declarator = λ d ds x xs h i. (h, i);
+  of_block = λ b xs h. item-shaped (block_term b) (λ c. block-shaped b c h);
+  of_lexical = λ node constant ds xs h. lexical-shaped node constant ds h;
+  of_empty = item-shaped (λ c. done values.Undefined) (λ c. tt);
+  of_expression = λ node e x h. entered-shaped node (plain e) (λ c. h (unnamed c));
+  of_if_then = λ node e s x y h i. if_then-shaped node e s h i;
+  of_if_else = λ node e s t x y z h i j. if-shaped node e s t h i j;
+  of_do_while = λ node s e x y h i. do_while-shaped node s e h i;
+  of_while = λ node e s x y h i. while-shaped node e s h i;
+  of_for = λ node i t u s x y z w a b d h. for-shaped node i t u s a b d h;
+  of_for_lexical = λ node constant ds t u s x y z w h a b i. for_lexical-shaped node constant ds t u s h a b i;
+  of_for_of = λ node constant n e s x y h i. for_of-shaped node constant n e s h i;
+  of_continue = λ node. entered-shaped node (λ c. leaf continue_) (λ c. (record { reduced = omega arith; kept = omega arith; others = tt }, tt, tt));
+  of_break = λ node. entered-shaped node (λ c. leaf break_) (λ c. (record { reduced = omega arith; kept = omega arith; others = tt }, tt, tt));
+  of_return = λ node e x h. return-shaped node e h;
+  of_throw = λ node e x h. entered-shaped node (λ c. part (throw_ node) (one (plain e c)) end) (λ c. (record { reduced = omega arith; kept = omega arith; others = tt }, (h (unnamed c), tt), tt));
+  of_try = λ node b h f xs y z i j k. try-shaped node b h f i j k;
+  of_debugger = λ node. item-shaped (λ c. part (enter_debugger node) end (one nothing)) (λ c. (record { reduced = omega arith; kept = omega arith; others = tt }, tt, (tt, tt)));
+  of_declared_function = λ node n ps body xs h. function_item-shaped node n ps body h;
+  of_no_catch = tt;
+  of_catch = λ n b xs h. h;
+  of_no_finally = tt;
+  of_finally = λ b xs h. h;
+  of_no_statements = record { functions_only = λ c. tt; functions_shaped = λ c. tt; terms_shaped = λ c. tt };
+  of_a_statement = λ i is x xs h k. and-shaped i is h k;
+}

@@ -6,9 +6,11 @@ use Rattle.js_operators.specs.declared.operator.UpdateOperator.{UpdateOperator}
 use Rattle.js_operators.specs.declared.operator.BinaryOperator.{BinaryOperator}
 use Rattle.js_operators.specs.declared.operator.BinaryOperator.TheVariants as binaries
 use Rattle.js_heap.specs.declared.value.Value.TheVariants as values
-use Rattle.js_semantics.specs.Terms.{Mark, to_name, first, doing, read, return_, function, choose, loop, Term, done, standing, part, Terms, end, more, one, joined}
+use Rattle.js_semantics.specs.Terms.{Mark, to_name, first, doing, read, return_, function, choose, loop, Term, done, standing, part, Terms, end, more, one, joined, enter_debugger, break_, continue_, throw_}
 use Rattle.js_semantics.specs.Waiting.{all_ready, Waits, AllWait, PartsWait, RestWaits}
-use Rattle.js_semantics.specs.Makers.{Context, Made, Item, Items, entered, lexical_item, if_item, while_item, do_while_item, for_item, for_lexical_item, for_of_item, return_item, try_item, function_item, unnamed, naming, within, plain, plains, assigned_to, compounded, updated, deleted, type_of, assignment, unary_term, binary_term, comma_term, call_term, form_of, body_terms, function_term, returned_body, PropertyKey, fixed_key, computed_key, PropertyMade, value_property, method_property, Parts, property_parts, properties_parts, object_term, and_items, block_term, DeclaratorMade, initializer_terms, declarators_terms, optional_term, optional_terms, for_parts, CatchMade, caught, finally_term, script_term}
+use Rattle.js_semantics.specs.Makers.{Context, Made, Item, Items, entered, lexical_item, if_item, while_item, do_while_item, for_item, for_lexical_item, for_of_item, return_item, try_item, function_item, unnamed, naming, within, plain, plains, assigned_to, compounded, updated, deleted, type_of, assignment, unary_term, binary_term, comma_term, call_term, form_of, body_terms, function_term, returned_body, PropertyKey, fixed_key, computed_key, PropertyMade, value_property, method_property, Parts, property_parts, properties_parts, object_term, and_items, block_term, DeclaratorMade, initializer_terms, declarators_terms, optional_term, optional_terms, for_parts, CatchMade, caught, finally_term, script_term, leaf, nothing, item}
+use Rattle.js_semantics.specs.Clean.{parameter_names}
+use Rattle.js_semantics.proofs.SourceFolds.{Relations, Keeps}
 
 -- ---- what is made waits
 
@@ -21,7 +23,7 @@ Tights ts = AllWait all_ready ts
 abbrev Loose : Term → Type 0
 Loose t = PartsWait all_ready t
 
-pub made-loosened : (t : Term) → Waits all_ready t → PartsWait all_ready t
+made-loosened : (t : Term) → Waits all_ready t → PartsWait all_ready t
 made-loosened (done v) h = tt
 made-loosened (standing v place) h = tt
 made-loosened (part f now later) h = (h.1, h.2)
@@ -41,7 +43,7 @@ abbrev pub AllMadeWait : List Made → Type 0
 AllMadeWait [] = Unit {0}
 AllMadeWait (e ∷ es) = MadeWaits e × AllMadeWait es
 
-pub plains-waits : (es : List Made) (c : Context) → AllMadeWait es → AllWait all_ready (plains es c)
+plains-waits : (es : List Made) (c : Context) → AllMadeWait es → AllWait all_ready (plains es c)
 plains-waits [] c h = tt
 plains-waits (e ∷ es) c h = (h.0 (unnamed c), plains-waits es c h.1)
 
@@ -63,11 +65,11 @@ compounded-waits o (standing v place) e h k = h
 compounded-waits o (part (read r) now later) e h k = (λ q. refl, h.1, (k, tt))
 compounded-waits o (part f now later) e h k = h
 
-pub assignment-waits : (o : Option BinaryOperator) (t e : Term) → Waits all_ready t → Waits all_ready e → Waits all_ready (assignment o t e)
+assignment-waits : (o : Option BinaryOperator) (t e : Term) → Waits all_ready t → Waits all_ready e → Waits all_ready (assignment o t e)
 assignment-waits None t e h k = assigned-waits t e h k
 assignment-waits (Some o) t e h k = compounded-waits o t e h k
 
-pub updated-waits : (o : UpdateOperator) (b : Bool) (t : Term) → Waits all_ready t → Waits all_ready (updated o b t)
+updated-waits : (o : UpdateOperator) (b : Bool) (t : Term) → Waits all_ready t → Waits all_ready (updated o b t)
 updated-waits o b (done v) h = h
 updated-waits o b (standing v place) h = h
 updated-waits o b (part (read r) now later) h = (λ q. refl, h.1, tt)
@@ -85,7 +87,7 @@ type-waits (standing v place) h = (λ q. refl, (h, tt), tt)
 type-waits (part (read (to_name n)) now later) h = (λ q. refl, tt, tt)
 type-waits (part f now later) h = (λ q. refl, (h, tt), tt)
 
-pub unary-waits : (o : UnaryOperator) (t : Term) → Waits all_ready t → Waits all_ready (unary_term o t)
+unary-waits : (o : UnaryOperator) (t : Term) → Waits all_ready t → Waits all_ready (unary_term o t)
 unary-waits unaries.Typeof t h = type-waits t h
 unary-waits unaries.Delete t h = deleted-waits t h
 unary-waits unaries.Void t h = (λ q. refl, (h, tt), tt)
@@ -94,16 +96,16 @@ unary-waits unaries.Minus t h = (λ q. refl, (h, tt), tt)
 unary-waits unaries.BitwiseNot t h = (λ q. refl, (h, tt), tt)
 unary-waits unaries.LogicalNot t h = (λ q. refl, (h, tt), tt)
 
-pub binary-waits : (o : BinaryOperator) (l r : Term) → Waits all_ready l → Waits all_ready r → Waits all_ready (binary_term o l r)
+binary-waits : (o : BinaryOperator) (l r : Term) → Waits all_ready l → Waits all_ready r → Waits all_ready (binary_term o l r)
 binary-waits binaries.LogicalAnd l r h k = (λ q. refl, (h, tt), (k, tt))
 binary-waits binaries.LogicalOr l r h k = (λ q. refl, (h, tt), (k, tt))
 binary-waits o l r h k = (λ q. refl, (h, (k, tt)), tt)
 
-pub comma-waits : (ts : Terms) → AllWait all_ready ts → Waits all_ready (comma_term ts)
+comma-waits : (ts : Terms) → AllWait all_ready ts → Waits all_ready (comma_term ts)
 comma-waits end h = tt
 comma-waits (more t ts) h = (λ q. refl, (h.0, tt), h.1)
 
-pub call-waits : (m : Mark) (node : ℕ) (t : Term) (args : Terms) → Waits all_ready t → AllWait all_ready args → Waits all_ready (call_term m node t args)
+call-waits : (m : Mark) (node : ℕ) (t : Term) (args : Terms) → Waits all_ready t → AllWait all_ready args → Waits all_ready (call_term m node t args)
 call-waits m node (done v) args h k = (λ q. refl, (tt, (h, k)), tt)
 call-waits m node (standing v place) args h k = (λ q. refl, (tt, (h, k)), tt)
 call-waits m node (part (read r) now later) args h k = (λ q. refl, h.1, k)
@@ -114,25 +116,25 @@ call-waits m node (part f now later) args h k = (λ q. refl, (tt, (h, k)), tt)
 body-waits : (b : Items) (c : Context) → ItemsWait b → RestWaits all_ready (body_terms b c)
 body-waits b c h = ((h.terms_wait (within 0 c), tt), h.functions_wait (within 0 c))
 
-pub function-waits : (node : ℕ) (n : Option (List ℕ)) (ps : List (List ℕ)) (b : Items) (c : Context) → ItemsWait b → Waits all_ready (function_term node n ps b c)
+function-waits : (node : ℕ) (n : Option (List ℕ)) (ps : List (List ℕ)) (b : Items) (c : Context) → ItemsWait b → Waits all_ready (function_term node n ps b c)
 function-waits node (Some n) ps b c h = (λ q. refl, tt, body-waits b c h)
 function-waits node None ps b c h = (λ q. refl, tt, body-waits b c h)
 
-pub returned-waits : (e : Made) → MadeWaits e → ItemsWait (returned_body e)
+returned-waits : (e : Made) → MadeWaits e → ItemsWait (returned_body e)
 returned-waits e h = record { functions_wait = λ c. tt; terms_wait = λ c. ((λ q. refl, tt, (((h (within e.node c), tt), tt), tt)), tt) }
 
-pub arrow-waits : (node : ℕ) (n : List ℕ) (ps : List (List ℕ)) (b : Items) (c : Context) → ItemsWait b → Waits all_ready (part (function (form_of node c.source n ps b.names true false)) end (body_terms b c))
+arrow-waits : (node : ℕ) (n : List ℕ) (ps : List (List ℕ)) (b : Items) (c : Context) → ItemsWait b → Waits all_ready (part (function (form_of node c.source n ps b.names true false)) end (body_terms b c))
 arrow-waits node n ps b c h = (λ q. refl, tt, body-waits b c h)
 
 -- ---- statements
 
-pub and-waits : (i : Item) (is : Items) → ItemWaits i → ItemsWait is → ItemsWait (and_items i is)
+and-waits : (i : Item) (is : Items) → ItemWaits i → ItemsWait is → ItemsWait (and_items i is)
 and-waits i is h k = record {
   functions_wait = λ c. joined-tight (i.functions c) (is.functions c) (h.functions_wait c) (k.functions_wait c);
   terms_wait = λ c. (h.term_waits c, k.terms_wait c);
 }
 
-pub block-waits : (b : Items) (c : Context) → ItemsWait b → Waits all_ready (block_term b c)
+block-waits : (b : Items) (c : Context) → ItemsWait b → Waits all_ready (block_term b c)
 block-waits b c h = (λ q. refl, tt, ((h.terms_wait c, tt), h.functions_wait c))
 
 pub script-waits : (number : ℕ) (b : Items) → ItemsWait b → Waits all_ready (script_term number b)
@@ -157,7 +159,7 @@ declarators-wait : (ds : List DeclaratorMade) (c : Context) → DeclaratorsWait 
 declarators-wait [] c h = tt
 declarators-wait (d ∷ ds) c h = ((λ q. refl, initializer-waits d.name d.initializer c h.0, tt), declarators-wait ds c h.1)
 
-pub lexical-waits : (node : ℕ) (constant : Bool) (ds : List DeclaratorMade) → DeclaratorsWait ds → ItemWaits (lexical_item node constant ds)
+lexical-waits : (node : ℕ) (constant : Bool) (ds : List DeclaratorMade) → DeclaratorsWait ds → ItemWaits (lexical_item node constant ds)
 lexical-waits node constant ds h = record { functions_wait = λ c. tt; term_waits = λ c. (λ q. refl, tt, ((declarators-wait ds (within node c) h, tt), tt)) }
 
 optional_terms-wait : (e : Option Made) (c : Context) → OptionalWaits e → Tights (optional_terms e c)
@@ -171,28 +173,28 @@ optional-waits (Some e) c t h k = h (unnamed c)
 parts-wait : (t u : Option Made) (s : Item) (c : Context) → OptionalWaits t → OptionalWaits u → ItemWaits s → Tights (for_parts t u s c)
 parts-wait t u s c h k i = (optional-waits t c (done (values.Bool true)) h tt, (optional-waits u c (done values.Undefined) k tt, (i.term_waits c, tt)))
 
-pub if-waits : (node : ℕ) (e : Made) (s t : Item) → MadeWaits e → ItemWaits s → ItemWaits t → ItemWaits (if_item node e s (Some t))
+if-waits : (node : ℕ) (e : Made) (s t : Item) → MadeWaits e → ItemWaits s → ItemWaits t → ItemWaits (if_item node e s (Some t))
 if-waits node e s t h k i = entered-waits node (λ c. part choose (one (plain e c)) (more (s.term c) (one (t.term c)))) (λ c. ((h (unnamed c), tt), (k.term_waits c, (i.term_waits c, tt))))
 
-pub if_then-waits : (node : ℕ) (e : Made) (s : Item) → MadeWaits e → ItemWaits s → ItemWaits (if_item node e s None)
+if_then-waits : (node : ℕ) (e : Made) (s : Item) → MadeWaits e → ItemWaits s → ItemWaits (if_item node e s None)
 if_then-waits node e s h k = entered-waits node (λ c. part choose (one (plain e c)) (more (s.term c) (one (done values.Undefined)))) (λ c. ((h (unnamed c), tt), (k.term_waits c, (tt, tt))))
 
-pub while-waits : (node : ℕ) (e : Made) (s : Item) → MadeWaits e → ItemWaits s → ItemWaits (while_item node e s)
+while-waits : (node : ℕ) (e : Made) (s : Item) → MadeWaits e → ItemWaits s → ItemWaits (while_item node e s)
 while-waits node e s h k = entered-waits node (λ c. part (loop first None) end (more (plain e c) (more (done values.Undefined) (one (s.term c))))) (λ c. (tt, (h (unnamed c), (tt, (k.term_waits c, tt)))))
 
-pub do_while-waits : (node : ℕ) (s : Item) (e : Made) → ItemWaits s → MadeWaits e → ItemWaits (do_while_item node s e)
+do_while-waits : (node : ℕ) (s : Item) (e : Made) → ItemWaits s → MadeWaits e → ItemWaits (do_while_item node s e)
 do_while-waits node s e k h = entered-waits node (λ c. part (loop doing None) end (more (plain e c) (more (done values.Undefined) (one (s.term c))))) (λ c. (tt, (h (unnamed c), (tt, (k.term_waits c, tt)))))
 
-pub for-waits : (node : ℕ) (i t u : Option Made) (s : Item) → OptionalWaits i → OptionalWaits t → OptionalWaits u → ItemWaits s → ItemWaits (for_item node i t u s)
+for-waits : (node : ℕ) (i t u : Option Made) (s : Item) → OptionalWaits i → OptionalWaits t → OptionalWaits u → ItemWaits s → ItemWaits (for_item node i t u s)
 for-waits node i t u s a b d k = entered-waits node (λ c. part (loop first None) (optional_terms i c) (for_parts t u s c)) (λ c. (optional_terms-wait i c a, parts-wait t u s c b d k))
 
-pub for_lexical-waits : (node : ℕ) (constant : Bool) (ds : List DeclaratorMade) (t u : Option Made) (s : Item) → DeclaratorsWait ds → OptionalWaits t → OptionalWaits u → ItemWaits s → ItemWaits (for_lexical_item node constant ds t u s)
+for_lexical-waits : (node : ℕ) (constant : Bool) (ds : List DeclaratorMade) (t u : Option Made) (s : Item) → DeclaratorsWait ds → OptionalWaits t → OptionalWaits u → ItemWaits s → ItemWaits (for_lexical_item node constant ds t u s)
 for_lexical-waits node constant ds t u s h a b k = record { functions_wait = λ c. tt; term_waits = λ c. (λ q. refl, tt, ((declarators-wait ds (within node c) h, tt), parts-wait t u s (within node c) a b k)) }
 
-pub for_of-waits : (node : ℕ) (constant : Bool) (n : List ℕ) (e : Made) (s : Item) → MadeWaits e → ItemWaits s → ItemWaits (for_of_item node constant n e s)
+for_of-waits : (node : ℕ) (constant : Bool) (n : List ℕ) (e : Made) (s : Item) → MadeWaits e → ItemWaits s → ItemWaits (for_of_item node constant n e s)
 for_of-waits node constant n e s h k = record { functions_wait = λ c. tt; term_waits = λ c. (λ q. refl, tt, (h (unnamed (within node c)), (k.term_waits (within node c), tt))) }
 
-pub return-waits : (node : ℕ) (e : Option Made) → OptionalWaits e → ItemWaits (return_item node e)
+return-waits : (node : ℕ) (e : Option Made) → OptionalWaits e → ItemWaits (return_item node e)
 return-waits node e h = entered-waits node (λ c. part return_ (optional_terms e c) end) (λ c. (optional_terms-wait e c h, tt))
 
 abbrev pub HandlerWaits : Option CatchMade → Type 0
@@ -212,10 +214,10 @@ finally-waits : (f : Option Items) (t : Term) (c : Context) → FinalizerWaits f
 finally-waits None t c k i = made-loosened t i
 finally-waits (Some f) t c k i = ((i, tt), (block-waits f c k, tt))
 
-pub try-waits : (node : ℕ) (b : Items) (h : Option CatchMade) (f : Option Items) → ItemsWait b → HandlerWaits h → FinalizerWaits f → ItemWaits (try_item node b h f)
+try-waits : (node : ℕ) (b : Items) (h : Option CatchMade) (f : Option Items) → ItemsWait b → HandlerWaits h → FinalizerWaits f → ItemWaits (try_item node b h f)
 try-waits node b h f i j k = entered-waits node (λ c. finally_term f (caught h (block_term b c) c) c) (λ c. finally-waits f (caught h (block_term b c) c) c k (caught-waits h b c j i))
 
-pub function_item-waits : (node : ℕ) (n : List ℕ) (ps : List (List ℕ)) (b : Items) → ItemsWait b → ItemWaits (function_item node n ps b)
+function_item-waits : (node : ℕ) (n : List ℕ) (ps : List (List ℕ)) (b : Items) → ItemsWait b → ItemWaits (function_item node n ps b)
 function_item-waits node n ps b h = record { functions_wait = λ c. ((λ q. refl, tt, body-waits b c h), tt); term_waits = λ c. tt }
 
 -- ---- object literals
@@ -245,5 +247,92 @@ properties-wait : (ms : List PropertyMade) (c : Context) → PropertiesWait ms �
 properties-wait [] c h = (tt, tt)
 properties-wait (m ∷ ms) c h = property-waits m c (properties_parts ms c) h.0 (properties-wait ms c h.1)
 
-pub object-waits : (ms : List PropertyMade) (c : Context) → PropertiesWait ms → Waits all_ready (object_term ms (properties_parts ms c))
+object-waits : (ms : List PropertyMade) (c : Context) → PropertiesWait ms → Waits all_ready (object_term ms (properties_parts ms c))
 object-waits ms c h = let q = properties-wait ms c h in (λ e. refl, q.0, q.1)
+
+-- ---- trees
+
+abbrev pub waiting : Relations
+waiting = record {
+  expression = λ e x. MadeWaits e;
+  expressions = λ es xs. AllMadeWait es;
+  optional = λ e x. OptionalWaits e;
+  key = λ k x. KeyWaits k;
+  property = λ m x. PropertyWaits m;
+  properties = λ ms xs. PropertiesWait ms;
+  declarator = λ d x. OptionalWaits d.initializer;
+  declarators = λ ds xs. DeclaratorsWait ds;
+  statement = λ i x. ItemWaits i;
+  handler = λ h x. HandlerWaits h;
+  finalizer = λ f x. FinalizerWaits f;
+  statements = λ is xs. ItemsWait is;
+}
+
+item-waits : (term : Context → Term) → ((c : Context) → Tight (term c)) → ItemWaits (item term)
+item-waits term h = record { functions_wait = λ c. tt; term_waits = h }
+
+pub keeps-waits : Keeps waiting
+keeps-waits = record {
+  of_this = λ node c. (λ q. refl, tt, tt);
+  of_name = λ node n c. (λ q. refl, tt, tt);
+  of_number = λ node v c. tt;
+  of_string = λ node us c. (λ q. refl, tt, tt);
+  of_boolean = λ node b c. tt;
+  of_null = λ node c. tt;
+  of_array = λ node es xs h c. (λ q. refl, plains-waits es c h, tt);
+  of_object = λ node ps xs h c. object-waits ps c h;
+  of_function = λ node n ps body xs h c. function-waits node n ps body c h;
+  of_arrow = λ node ps e x h c. arrow-waits node c.name (parameter_names ps) (returned_body e) c (returned-waits e h);
+  of_arrow_block = λ node ps body xs h c. arrow-waits node c.name (parameter_names ps) body c h;
+  of_parenthesized = λ node e x h. h;
+  of_member = λ node e n x h c. (λ q. refl, (h (unnamed c), tt), tt);
+  of_index = λ node e k x y h i c. (λ q. refl, (h (unnamed c), (i (unnamed c), tt)), tt);
+  of_call = λ node parentheses f es x xs h i c. call-waits _ _ _ _ (h (unnamed c)) (plains-waits es c i);
+  of_postfix = λ node o e x h c. updated-waits o false _ (h (unnamed c));
+  of_prefix = λ node o e x h c. updated-waits o true _ (h (unnamed c));
+  of_unary = λ node o e x h c. unary-waits o _ (h (unnamed c));
+  of_binary = λ node o l r x y h i c. binary-waits o _ _ (h (unnamed c)) (i (unnamed c));
+  of_conditional = λ node t a b x y z h i j c. (λ q. refl, (h (unnamed c), tt), (i (unnamed c), (j (unnamed c), tt)));
+  of_assign = λ node o t e x y h i c. assignment-waits _ _ _ (h (unnamed c)) (i (unnamed c));
+  of_comma = λ node es xs h c. comma-waits _ (plains-waits es c h);
+  of_no_expressions = tt;
+  of_an_expression = λ e es x xs h i. (h, i);
+  of_omitted = tt;
+  of_present = λ e x h. h;
+  of_word_key = λ us. tt;
+  of_string_key = λ us. tt;
+  of_number_key = λ v. tt;
+  of_computed_key = λ e x h. h;
+  of_shorthand = λ n. (tt, λ c. (λ q. refl, tt, tt));
+  of_value = λ k e x y h i. (h, i);
+  of_method = λ node k ps body x xs h i. (h, i);
+  of_no_properties = tt;
+  of_a_property = λ m ms x xs h i. (h, i);
+  of_declarator = λ n e x h. h;
+  of_no_declarators = tt;
+  of_a_declarator = λ d ds x xs h i. (h, i);
+  of_block = λ b xs h. item-waits (block_term b) (λ c. block-waits b c h);
+  of_lexical = λ node constant ds xs h. lexical-waits node constant ds h;
+  of_empty = item-waits (λ c. done values.Undefined) (λ c. tt);
+  of_expression = λ node e x h. entered-waits node (plain e) (λ c. made-loosened _ (h (unnamed c)));
+  of_if_then = λ node e s x y h i. if_then-waits node e s h i;
+  of_if_else = λ node e s t x y z h i j. if-waits node e s t h i j;
+  of_do_while = λ node s e x y h i. do_while-waits node s e h i;
+  of_while = λ node e s x y h i. while-waits node e s h i;
+  of_for = λ node i t u s x y z w a b d h. for-waits node i t u s a b d h;
+  of_for_lexical = λ node constant ds t u s x y z w h a b i. for_lexical-waits node constant ds t u s h a b i;
+  of_for_of = λ node constant n e s x y h i. for_of-waits node constant n e s h i;
+  of_continue = λ node. entered-waits node (λ c. leaf continue_) (λ c. (tt, tt));
+  of_break = λ node. entered-waits node (λ c. leaf break_) (λ c. (tt, tt));
+  of_return = λ node e x h. return-waits node e h;
+  of_throw = λ node e x h. entered-waits node (λ c. part (throw_ node) (one (plain e c)) end) (λ c. ((h (unnamed c), tt), tt));
+  of_try = λ node b h f xs y z i j k. try-waits node b h f i j k;
+  of_debugger = λ node. item-waits (λ c. part (enter_debugger node) end (one nothing)) (λ c. (λ q. refl, tt, (tt, tt)));
+  of_declared_function = λ node n ps body xs h. function_item-waits node n ps body h;
+  of_no_catch = tt;
+  of_catch = λ n b xs h. h;
+  of_no_finally = tt;
+  of_finally = λ b xs h. h;
+  of_no_statements = record { functions_wait = λ c. tt; terms_wait = λ c. tt };
+  of_a_statement = λ i is x xs h k. and-waits i is h k;
+}

@@ -1,4 +1,4 @@
-use Rattle.js_compile.proofs.PlaceableSources.{trees-plain}
+use Rattle.js_compile.proofs.PlainLaws.{trees-plain}
 use Rattle.js_compile.proofs.laws.scripts_of_sources_have_code.Goals as goal
 
 pub returns : goal.returns

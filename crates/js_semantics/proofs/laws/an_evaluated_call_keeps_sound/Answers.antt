@@ -1,7 +1,7 @@
 use Rattle.js_semantics.specs.Sources.{expression_source}
 use Rattle.js_semantics.proofs.EvaluationSound.{evaluate_call-sound}
-use Rattle.js_semantics.proofs.SourceLemmas.{expression-made}
+use Rattle.js_semantics.proofs.SourceLemmas.{expression-untouched}
 use Rattle.js_semantics.proofs.laws.an_evaluated_call_keeps_sound.Goals as goal
 
 pub returns : goal.returns
-returns c = λ p w x f receiver args h a. evaluate_call-sound p w x f.source (expression_source f.tree) receiver args (expression-made f.tree).0 h a
+returns c = λ p w x f receiver args h a. evaluate_call-sound p w x f.source (expression_source f.tree) receiver args (expression-untouched f.tree) h a
