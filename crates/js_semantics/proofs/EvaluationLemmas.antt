@@ -21,7 +21,7 @@ use Rattle.js_semantics.specs.State.{State}
 use Rattle.js_semantics.specs.Functions.{Program, FunctionCode, same_source, function_in, function_at}
 use Rattle.js_semantics.specs.Makers.{Made}
 use Rattle.js_semantics.specs.Run.{ended, threw, by_effect, by_full, Run, running, over, run_of, state_of, steps_in, literals}
-use Rattle.js_semantics.specs.Evaluation.{ScratchSpace, copied_world, after_try, keep_source, make_literals, Json, json_null, json_bool, json_number, json_string, json_array, json_object, Jsons, no_jsons, a_json, Members, no_members, a_member, object_value, make_json, make_jsons, make_members, Argument, given, made_of, make_argument, make_arguments, budget, Answer, answer_of, evaluation_state, answered, next_kept, kept_term, kept_tree, with_source, prepared, evaluated, evaluate, call_term, with_arguments, evaluate_call}
+use Rattle.js_semantics.specs.Evaluation.{ScratchSpace, copied_world, after_try, keep_source, make_literals, place_literals, Json, json_null, json_bool, json_number, json_string, json_array, json_object, Jsons, no_jsons, a_json, Members, no_members, a_member, object_value, make_json, make_jsons, make_members, Argument, given, made_of, make_argument, make_arguments, budget, Answer, answer_of, evaluation_state, answered, next_kept, kept_term, kept_tree, with_source, prepared, evaluated, evaluate, call_term, with_arguments, evaluate_call}
 use Rattle.js_semantics.specs.Laws.{Follows, Undisturbed, AnswerKeeps}
 use Rattle.js_semantics.proofs.FollowLemmas.{steps-follows, run_of-state}
 
@@ -64,6 +64,14 @@ literals-keep : (w : World) (ts : List (List ℕ)) → AfterFine (make_literals 
 literals-keep w [] = keeps-same w
 literals-keep w (us ∷ ts) = then_keeps w (make_cell w (cells.Text us)) (λ a v. make_literals v ts) (making-keeps w (cells.Text us)) (λ a v. literals-keep v ts)
 
+second_keeps : {A B : Type 0} (w : World) (t : Tried A) (u : Tried B) → AfterFine u (λ b v. Keeps w v) → AfterFine (after_try t (λ a v. u)) (λ b v. Keeps w v)
+second_keeps w (fine a v) u h = h
+second_keeps w effect u h = tt
+second_keeps w (full what) u h = tt
+
+placed-keep : (w : World) (ts us : List (List ℕ)) → AfterFine (place_literals w ts us) (λ u v. Keeps w v)
+placed-keep w ts us = second_keeps w _ (make_literals w us) (literals-keep w us)
+
 object-keeps : (w : World) (c : Cell) → AfterFine (object_value (make_cell w c)) (λ x v. Keeps w v)
 object-keeps w c = then_keeps w (make_cell w c) (λ a v. fine (values.Object a) v) (making-keeps w c) (λ a v. keeps-same v)
 
@@ -97,11 +105,11 @@ arguments-keep w (a ∷ rest) =
     then_keeps w (make_argument w a) (λ x v. after_try (make_arguments v rest) (λ xs u. fine (x ∷ xs) u)) (argument-keeps w a)
     (λ x v. then_keeps v (make_arguments v rest) (λ xs u. fine (x ∷ xs) u) (arguments-keep v rest) (λ xs u. keeps-same u))
 
-prepared-keeps : (w : World) (x : ScratchSpace) (source : List ℕ) (e : Made) → AfterFine (prepared w x source e) (λ u v. Keeps (copied_world w x) v)
-prepared-keeps w x source e =
+prepared-keeps : (w : World) (x : ScratchSpace) (source : List ℕ) (order : List (List ℕ)) (e : Made) → AfterFine (prepared w x source order e) (λ u v. Keeps (copied_world w x) v)
+prepared-keeps w x source order e =
     let c : World = copied_world w x in
-    then_keeps c (keep_source c source) (λ at v. after_try (make_literals v (literals (kept_term at e))) (λ u z. fine (kept_tree at e) z)) (keep-keeps c source)
-    (λ at v. then_keeps v (make_literals v (literals (kept_term at e))) (λ u z. fine (kept_tree at e) z) (literals-keep v (literals (kept_term at e))) (λ u z. keeps-same z))
+    then_keeps c (keep_source c source) (λ at v. after_try (place_literals v order (literals (kept_term at e))) (λ u z. fine (kept_tree at e) z)) (keep-keeps c source)
+    (λ at v. then_keeps v (place_literals v order (literals (kept_term at e))) (λ u z. fine (kept_tree at e) z) (placed-keep v order (literals (kept_term at e))) (λ u z. keeps-same z))
 
 -- ---- the steps
 
@@ -126,16 +134,16 @@ answered-keeps w x (fine u v) k h rest = rest v u h
 answered-keeps w x effect k h rest = tt
 answered-keeps w x (full what) k h rest = tt
 
-pub evaluate-keeps : (p : Program) (w : World) (x : ScratchSpace) (scope : Addr) (receiver : Value) (source : List ℕ) (e : Made) → AnswerKeeps w x (evaluate p w x scope receiver source e)
-evaluate-keeps p w x scope receiver source e =
-    answered-keeps w x (prepared w x source e) (evaluated (with_source p x e) scope receiver) (prepared-keeps w x source e)
+pub evaluate-keeps : (p : Program) (w : World) (x : ScratchSpace) (scope : Addr) (receiver : Value) (source : List ℕ) (order : List (List ℕ)) (e : Made) → AnswerKeeps w x (evaluate p w x scope receiver source order e)
+evaluate-keeps p w x scope receiver source order e =
+    answered-keeps w x (prepared w x source order e) (evaluated (with_source p x e) scope receiver) (prepared-keeps w x source order e)
     (λ v u k. evaluated-keeps (with_source p x e) scope receiver w x v u k)
 
-pub call-keeps : (p : Program) (w : World) (x : ScratchSpace) (source : List ℕ) (callee : Made) (receiver : Value) (given_args : List Argument) → AnswerKeeps w x (evaluate_call p w x source callee receiver given_args)
-call-keeps p w x source callee receiver given_args =
+pub call-keeps : (p : Program) (w : World) (x : ScratchSpace) (source : List ℕ) (order : List (List ℕ)) (callee : Made) (receiver : Value) (given_args : List Argument) → AnswerKeeps w x (evaluate_call p w x source order callee receiver given_args)
+call-keeps p w x source order callee receiver given_args =
     let c : World = copied_world w x in
-    answered-keeps w x (with_arguments receiver given_args (prepared w x source callee)) (evaluated (with_source p x callee) script_scope values.Undefined)
-    (then_keeps c (prepared w x source callee) (λ f v. after_try (make_arguments v given_args) (λ vs u. fine (call_term receiver f vs) u)) (prepared-keeps w x source callee)
+    answered-keeps w x (with_arguments receiver given_args (prepared w x source order callee)) (evaluated (with_source p x callee) script_scope values.Undefined)
+    (then_keeps c (prepared w x source order callee) (λ f v. after_try (make_arguments v given_args) (λ vs u. fine (call_term receiver f vs) u)) (prepared-keeps w x source order callee)
     (λ f v. then_keeps v (make_arguments v given_args) (λ vs u. fine (call_term receiver f vs) u) (arguments-keep v given_args) (λ vs u. keeps-same u)))
     (λ v u k. evaluated-keeps (with_source p x callee) script_scope values.Undefined w x v u k)
 

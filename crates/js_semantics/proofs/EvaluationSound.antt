@@ -24,7 +24,7 @@ use Rattle.js_semantics.specs.Functions.{Program}
 use Rattle.js_semantics.specs.Makers.{Context, Made}
 use Rattle.js_semantics.specs.Untouched.{IsUntouched}
 use Rattle.js_semantics.specs.Run.{ended, threw, by_effect, by_full, Run, running, over, run_of, steps_in, literals}
-use Rattle.js_semantics.specs.Evaluation.{ScratchSpace, copied_world, after_try, keep_source, make_literals, Json, json_null, json_bool, json_number, json_string, json_array, json_object, Jsons, no_jsons, a_json, Members, no_members, a_member, object_value, make_json, make_jsons, make_members, Argument, given, made_of, make_argument, make_arguments, budget, Answer, answer_of, evaluation_state, answered, next_kept, kept_term, kept_tree, with_source, prepared, evaluated, evaluate, call_term, with_arguments, evaluate_call}
+use Rattle.js_semantics.specs.Evaluation.{ScratchSpace, copied_world, after_try, keep_source, make_literals, place_literals, Json, json_null, json_bool, json_number, json_string, json_array, json_object, Jsons, no_jsons, a_json, Members, no_members, a_member, object_value, make_json, make_jsons, make_members, Argument, given, made_of, make_argument, make_arguments, budget, Answer, answer_of, evaluation_state, answered, next_kept, kept_term, kept_tree, with_source, prepared, evaluated, evaluate, call_term, with_arguments, evaluate_call}
 use Rattle.js_semantics.specs.Sound.{SoundTerm, Later, SoundRun, SoundArguments, IsReady, SoundAnswer}
 use Rattle.js_semantics.proofs.FollowLemmas.{run_of-state}
 use Rattle.js_semantics.proofs.SoundTerms.{later-same, later-trans, sound-term, sound-program, sound-built_ins, dones-sound}
@@ -129,27 +129,34 @@ source-good k w us s e =
 abbrev IsTree : ScratchSpace → Made → World → Term → Type 0
 IsTree x e z t = SoundTerm z t × SoundTerm z (kept_tree (next_kept x) e)
 
+-- refused as the first call is, else the second one's answer in the same world
+second-good : {A B : Type 0} (w : World) (t : Tried A) (u : Tried B) (P : World → B → Type 0) → Good w u P → Good w (after_try t (λ a v. u)) P
+second-good w (fine a v) u P h = h
+second-good w effect u P h = tt
+second-good w (full what) u P h = tt
+
 -- what is made holds no address, wherever it stands
 abbrev pub MadeUntouched : Made → Type 0
 MadeUntouched e = (c : Context) → IsUntouched (e.term c)
 
-placed-good : (k : ℕ) (x : ScratchSpace) (e : Made) (v : World) → MadeUntouched e → IsSound v → v.start ≡ Some k → length v.scratch ≡ suc (length x.cells) → Good v (after_try (make_literals v (literals (kept_term (next_kept x) e))) (λ u z. fine (kept_tree (next_kept x) e) z)) (IsTree x e)
-placed-good k x e v f s q n =
+placed-good : (k : ℕ) (x : ScratchSpace) (order : List (List ℕ)) (e : Made) (v : World) → MadeUntouched e → IsSound v → v.start ≡ Some k → length v.scratch ≡ suc (length x.cells) → Good v (after_try (place_literals v order (literals (kept_term (next_kept x) e))) (λ u z. fine (kept_tree (next_kept x) e) z)) (IsTree x e)
+placed-good k x order e v f s q n =
     let t : Term = kept_term (next_kept x) e in
-    then-good v (make_literals v (literals t)) (λ u z. fine (kept_tree (next_kept x) e) z) (λ z u. AreTexts z (λ i. Scratch i) (length v.scratch) (length v.scratch + length (literals t))) (IsTree x e)
-    (literals-good k v (literals t) s q)
+    let P : World → Unit {0} → Type 0 = λ z u. AreTexts z (λ i. Scratch i) (length v.scratch) (length v.scratch + length (literals t)) in
+    then-good v (place_literals v order (literals t)) (λ u z. fine (kept_tree (next_kept x) e) z) P (IsTree x e)
+    (second-good v _ (make_literals v (literals t)) P (literals-good k v (literals t) s q))
     (λ u z t_sound l h.
     let tree : SoundTerm z (kept_tree (next_kept x) e) = placed-sound z (λ i. Scratch i) (length x.cells + 1) t (f _) (λ i low high. h i (omega (arith, n, low)) (omega (arith, n, high))) in
     (t_sound, later-same z, (tree, tree)))
 
-prepared-good : (w : World) (x : ScratchSpace) (source : List ℕ) (e : Made) → MadeUntouched e → IsSound (copied_world w x) → Good (copied_world w x) (prepared w x source e) (IsTree x e)
-prepared-good w x source e f s =
+prepared-good : (w : World) (x : ScratchSpace) (source : List ℕ) (order : List (List ℕ)) (e : Made) → MadeUntouched e → IsSound (copied_world w x) → Good (copied_world w x) (prepared w x source order e) (IsTree x e)
+prepared-good w x source order e f s =
     let c : World = copied_world w x in
-    let k : Addr → World → Tried Term = λ at v. after_try (make_literals v (literals (kept_term at e))) (λ u z. fine (kept_tree at e) z) in
+    let k : Addr → World → Tried Term = λ at v. after_try (place_literals v order (literals (kept_term at e))) (λ u z. fine (kept_tree at e) z) in
     then-good c (keep_source c source) k (λ v a. StandsBehind c v a) (IsTree x e) (source-good (length x.cells) c source s refl)
     (λ at v t l b.
     let P : Addr → Type 0 = λ a. Good v (k a v) (IsTree x e) in
-    subst P (sym b.address) (placed-good (length x.cells) x e v f t b.same_start b.longer))
+    subst P (sym b.address) (placed-good (length x.cells) x order e v f t b.same_start b.longer))
 
 -- ---- arguments
 
@@ -235,17 +242,17 @@ ready-later p w v scope receiver x e h s l tree = record {
   receiver_lives = sound-value w v l receiver h.receiver_lives;
 }
 
-pub evaluate-sound : (p : Program) (w : World) (x : ScratchSpace) (scope : Addr) (receiver : Value) (source : List ℕ) (e : Made) → MadeUntouched e → IsReady p (copied_world w x) scope receiver → SoundAnswer (with_source p x e) (evaluate p w x scope receiver source e)
-evaluate-sound p w x scope receiver source e f h =
+pub evaluate-sound : (p : Program) (w : World) (x : ScratchSpace) (scope : Addr) (receiver : Value) (source : List ℕ) (order : List (List ℕ)) (e : Made) → MadeUntouched e → IsReady p (copied_world w x) scope receiver → SoundAnswer (with_source p x e) (evaluate p w x scope receiver source order e)
+evaluate-sound p w x scope receiver source order e f h =
     let c : World = copied_world w x in
     let q : Program = with_source p x e in
-    answered-sound c q (prepared w x source e) (evaluated q scope receiver) (IsTree x e) (prepared-good w x source e f h.world)
+    answered-sound c q (prepared w x source order e) (evaluated q scope receiver) (IsTree x e) (prepared-good w x source order e f h.world)
     (λ v u s l k. evaluated-sound q scope receiver v u (ready-later p c v scope receiver x e h s l k.1) k.0)
 
-called-good : (w : World) (x : ScratchSpace) (source : List ℕ) (e : Made) (receiver : Value) (args : List Argument) → MadeUntouched e → IsSound (copied_world w x) → SoundValue (copied_world w x) receiver → SoundArguments (copied_world w x) args → Good (copied_world w x) (with_arguments receiver args (prepared w x source e)) (IsTree x e)
-called-good w x source e receiver args f s h a =
+called-good : (w : World) (x : ScratchSpace) (source : List ℕ) (order : List (List ℕ)) (e : Made) (receiver : Value) (args : List Argument) → MadeUntouched e → IsSound (copied_world w x) → SoundValue (copied_world w x) receiver → SoundArguments (copied_world w x) args → Good (copied_world w x) (with_arguments receiver args (prepared w x source order e)) (IsTree x e)
+called-good w x source order e receiver args f s h a =
     let c : World = copied_world w x in
-    then-good c (prepared w x source e) (λ g v. after_try (make_arguments v args) (λ vs u. fine (call_term receiver g vs) u)) (IsTree x e) (IsTree x e) (prepared-good w x source e f s)
+    then-good c (prepared w x source order e) (λ g v. after_try (make_arguments v args) (λ vs u. fine (call_term receiver g vs) u)) (IsTree x e) (IsTree x e) (prepared-good w x source order e f s)
     (λ g v t l k. then-good v (make_arguments v args) (λ vs u. fine (call_term receiver g vs) u) (λ u vs. SoundValues u vs) (IsTree x e) (arguments-good v args t (sound_arguments c v l args a))
     (λ vs u r m q. (
       r,
@@ -256,10 +263,10 @@ called-good w x source e receiver args f s h a =
       ),
     )))
 
-pub evaluate_call-sound : (p : Program) (w : World) (x : ScratchSpace) (source : List ℕ) (e : Made) (receiver : Value) (args : List Argument) → MadeUntouched e → IsReady p (copied_world w x) script_scope receiver → SoundArguments (copied_world w x) args → SoundAnswer (with_source p x e) (evaluate_call p w x source e receiver args)
-evaluate_call-sound p w x source e receiver args f h a =
+pub evaluate_call-sound : (p : Program) (w : World) (x : ScratchSpace) (source : List ℕ) (order : List (List ℕ)) (e : Made) (receiver : Value) (args : List Argument) → MadeUntouched e → IsReady p (copied_world w x) script_scope receiver → SoundArguments (copied_world w x) args → SoundAnswer (with_source p x e) (evaluate_call p w x source order e receiver args)
+evaluate_call-sound p w x source order e receiver args f h a =
     let c : World = copied_world w x in
     let q : Program = with_source p x e in
     let outside : IsReady p c script_scope values.Undefined = record { world = h.world; built_ins = h.built_ins; program = h.program; scope_lives = h.scope_lives; receiver_lives = tt } in
-    answered-sound c q (with_arguments receiver args (prepared w x source e)) (evaluated q script_scope values.Undefined) (IsTree x e) (called-good w x source e receiver args f h.world h.receiver_lives a)
+    answered-sound c q (with_arguments receiver args (prepared w x source order e)) (evaluated q script_scope values.Undefined) (IsTree x e) (called-good w x source order e receiver args f h.world h.receiver_lives a)
     (λ v u s l k. evaluated-sound q script_scope values.Undefined v u (ready-later p c v script_scope values.Undefined x e outside s l k.1) k.0)

@@ -19,6 +19,7 @@ use Rattle.js_heap.specs.Values.{shown}
 use Rattle.js_semantics.specs.State.{Frame, State}
 use Rattle.js_semantics.specs.Functions.{Program}
 use Rattle.js_semantics.specs.Clean.{expression_made, clean_script}
+use Rattle.js_semantics.specs.Literals.{expression_literals}
 use Rattle.js_semantics.specs.Run.{Run, running, over, plain, program_of, state_of}
 use Rattle.js_semantics.specs.Frames.{frames}
 use Rattle.js_semantics.specs.Evaluation.{ScratchSpace, given, made_of, json_string, Answer, a_result, a_throw, an_effect, is_full_of, spent, with_source, evaluate, evaluate_call}
@@ -42,7 +43,7 @@ abbrev space : Room → ScratchSpace
 space r = record { cells = []; room = r }
 
 abbrev evaluated_in : Room → Terms → State → Addr → Value → Expression → Shown
-evaluated_in r ts s scope receiver e = shown_answer (evaluate (program_of ts) s.world (space r) scope receiver (codes "source") (expression_made 1 e))
+evaluated_in r ts s scope receiver e = shown_answer (evaluate (program_of ts) s.world (space r) scope receiver (codes "source") (expression_literals e) (expression_made 1 e))
 
 -- an expression in the script scope, behind so many steps of a script
 abbrev at_top : ℕ → Terms → Expression → Shown
@@ -189,21 +190,41 @@ calls_the_program = refl
 
 -- function(k) { return this[k]; } called with an object's own property and a JSON argument
 abbrev called : Terms → State → Expression → Shown
-called ts s f = shown_answer (evaluate_call (program_of ts) s.world (space scratch_room) (codes "source") (expression_made 1 f) (values.Object (Base 4)) (made_of (json_string (codes "log")) ∷ []))
+called ts s f = shown_answer (evaluate_call (program_of ts) s.world (space scratch_room) (codes "source") (expression_literals f) (expression_made 1 f) (values.Object (Base 4)) (made_of (json_string (codes "log")) ∷ []))
 
 calls_with_this : called counting (state_of (plain 6 counting [])) (t.parenthesized (t.function None ((codes "k") ∷ []) (t.a_statement (t.return (t.present (t.index t.this (t.name (codes "k"))))) t.no_statements))) ≡ a_value_shown (codes "function log")
 unfolding digits
 calls_with_this = refl
 
+-- ---- the count that is named, where a scratch has room for one more cell and two more units
+
+abbrev with_one_cell : Expression → Shown
+with_one_cell e = with_room (record { cells = 1; units = 8 }) 6 counting e
+
+-- (function () { do 'long'; while ('b'); }): 'long' comes first, though the term keeps the test before the body
+body_before_test : with_one_cell (t.parenthesized (t.function None [] (t.a_statement (t.do_while (t.expression (t.string (codes "long"))) (t.string (codes "b"))) t.no_statements))) ≡ full_answer counted.Units
+unfolding digits
+body_before_test = refl
+
+-- (function () { function f() { return 'b'; } return 'long'; }): 'b' comes first, though the term keeps the function behind
+declared_before_statements : with_one_cell (t.parenthesized (t.function None [] (t.a_statement (t.declared_function (codes "f") [] (t.a_statement (t.return (t.present (t.string (codes "b")))) t.no_statements)) (t.a_statement (t.return (t.present (t.string (codes "long")))) t.no_statements)))) ≡ full_answer counted.Cells
+unfolding digits
+declared_before_statements = refl
+
+-- ({ [1]() { return 'long'; }, x: 'b' }): 'long' comes first, though the term keeps x before the method
+method_before_members : with_one_cell (t.parenthesized (t.object (t.a_property (t.method (t.computed_key (t.number 1)) [] (t.a_statement (t.return (t.present (t.string (codes "long")))) t.no_statements)) (t.a_property (t.value (t.word_key (codes "x")) (t.string (codes "b"))) t.no_properties)))) ≡ full_answer counted.Units
+unfolding digits
+method_before_members = refl
+
 -- ---- one evaluation after another
 
 -- a second evaluation, whose function is called with the value of the first
 abbrev called_with : Program → ScratchSpace → Expression → Expression → Answer → Shown
-called_with p x e g (a_result v w) = shown_answer (evaluate_call (with_source p x (expression_made 1 e)) w (record { cells = w.scratch; room = w.room }) (codes "second") (expression_made 1 g) values.Undefined (given v ∷ []))
+called_with p x e g (a_result v w) = shown_answer (evaluate_call (with_source p x (expression_made 1 e)) w (record { cells = w.scratch; room = w.room }) (codes "second") (expression_literals g) (expression_made 1 g) values.Undefined (given v ∷ []))
 called_with p x e g a = shown_answer a
 
 abbrev one_after_another : Terms → State → Expression → Expression → Shown
-one_after_another ts s e g = called_with (program_of ts) (space scratch_room) e g (evaluate (program_of ts) s.world (space scratch_room) script_scope values.Undefined (codes "source") (expression_made 1 e))
+one_after_another ts s e g = called_with (program_of ts) (space scratch_room) e g (evaluate (program_of ts) s.world (space scratch_room) script_scope values.Undefined (codes "source") (expression_literals e) (expression_made 1 e))
 
 -- () => 'made before', then function(f) { return f() + '!'; } called with it
 calls_a_function_of_an_earlier_one : one_after_another counting (state_of (plain 6 counting [])) (t.arrow (t.name_list []) (t.string (codes "made before"))) (t.parenthesized (t.function None ((codes "f") ∷ []) (t.a_statement (t.return (t.present (t.binary binaries.Add (t.call (t.name (codes "f")) t.no_expressions) (t.string (codes "!"))))) t.no_statements))) ≡ a_value_shown (codes "made before!")

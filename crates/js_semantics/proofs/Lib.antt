@@ -27,3 +27,5 @@ pub mod DepthLaws
 pub mod EvaluationSound
 pub mod WaitLemmas
 pub mod WaitMakers
+pub mod LiteralMakers
+pub mod LiteralLaws

@@ -19,6 +19,7 @@ use Rattle.js_semantics.specs.State.{State}
 use Rattle.js_semantics.specs.Functions.{Program}
 use Rattle.js_semantics.specs.Makers.{Made}
 use Rattle.js_semantics.specs.Sources.{expression_source}
+use Rattle.js_semantics.specs.Literals.{source_literals}
 use Rattle.js_semantics.specs.Run.{ended, threw, by_effect, by_full, Run, running, over, run_of, steps_in, literals, with_literals}
 
 -- ---- the world of an evaluation
@@ -41,6 +42,12 @@ keep_source w units =
 abbrev pub make_literals : World → List (List ℕ) → Tried (Unit {0})
 make_literals w [] = fine tt w
 make_literals w (us ∷ rest) = after_try (make_cell w (cells.Text us)) (λ a v. make_literals v rest)
+
+-- The cells of a source's string literals are made in the order of the source, so a full scratch names the count that would
+-- pass its limit first in that order. The cells stand in the order in which the source's term keeps them: the literals are
+-- the same, so that is fine wherever the former is.
+abbrev pub place_literals : World → List (List ℕ) → List (List ℕ) → Tried (Unit {0})
+place_literals w of_source of_term = after_try (make_literals w of_source) (λ u v. make_literals w of_term)
 
 -- ---- arguments of a call
 
@@ -149,17 +156,18 @@ kept_tree at e = literals_placed at (kept_term at e)
 abbrev pub with_source : Program → ScratchSpace → Made → Program
 with_source p x e = record { source = kept_source (next_kept x); tree = kept_tree (next_kept x) e } ∷ p
 
-abbrev pub prepared : World → ScratchSpace → List ℕ → Made → Tried Term
-prepared w x source e =
-    after_try (keep_source (copied_world w x) source) (λ at v. after_try (make_literals v (literals (kept_term at e))) (λ u z. fine (kept_tree at e) z))
+-- a source with its string literals in its own order, and what is made of its tree
+abbrev pub prepared : World → ScratchSpace → List ℕ → List (List ℕ) → Made → Tried Term
+prepared w x source order e =
+    after_try (keep_source (copied_world w x) source) (λ at v. after_try (place_literals v order (literals (kept_term at e))) (λ u z. fine (kept_tree at e) z))
 
 abbrev pub evaluated : Program → Addr → Value → World → Term → Answer
 evaluated p scope receiver w t = answer_of (steps_in budget p scope (run_of t (evaluation_state w receiver)))
 
 -- Evaluates a source's expression in a scope with a `this`. The program has the scripts and the sources kept before; this
 -- one is added, so that functions which it makes can be called.
-abbrev pub evaluate : Program → World → ScratchSpace → Addr → Value → List ℕ → Made → Answer
-evaluate p w x scope receiver source e = answered (prepared w x source e) (evaluated (with_source p x e) scope receiver)
+abbrev pub evaluate : Program → World → ScratchSpace → Addr → Value → List ℕ → List (List ℕ) → Made → Answer
+evaluate p w x scope receiver source order e = answered (prepared w x source order e) (evaluated (with_source p x e) scope receiver)
 
 -- a call in the script scope; its callee is the function expression or arrow, still to be made
 abbrev pub call_term : Value → Term → List Value → Term
@@ -169,14 +177,14 @@ abbrev pub with_arguments : Value → List Argument → Tried Term → Tried Ter
 with_arguments receiver args t = after_try t (λ callee w. after_try (make_arguments w args) (λ vs v. fine (call_term receiver callee vs) v))
 
 -- calls a source's function with a `this` and arguments
-abbrev pub evaluate_call : Program → World → ScratchSpace → List ℕ → Made → Value → List Argument → Answer
-evaluate_call p w x source callee receiver args =
-    answered (with_arguments receiver args (prepared w x source callee)) (evaluated (with_source p x callee) script_scope values.Undefined)
+abbrev pub evaluate_call : Program → World → ScratchSpace → List ℕ → List (List ℕ) → Made → Value → List Argument → Answer
+evaluate_call p w x source order callee receiver args =
+    answered (with_arguments receiver args (prepared w x source order callee)) (evaluated (with_source p x callee) script_scope values.Undefined)
 
 -- ---- the same of the parser's trees
 
 abbrev pub evaluate_expression : Program → World → ScratchSpace → Addr → Value → Expression → Answer
-evaluate_expression p w x scope receiver e = evaluate p w x scope receiver e.source (expression_source e.tree)
+evaluate_expression p w x scope receiver e = evaluate p w x scope receiver e.source (source_literals e.tree) (expression_source e.tree)
 
 abbrev pub evaluate_function : Program → World → ScratchSpace → FunctionCode → Value → List Argument → Answer
-evaluate_function p w x f receiver args = evaluate_call p w x f.source (expression_source f.tree) receiver args
+evaluate_function p w x f receiver args = evaluate_call p w x f.source (source_literals f.tree) (expression_source f.tree) receiver args

@@ -1,6 +1,6 @@
 -- What every step keeps.
 use Rattle.std.specs.Prelude.{◌≡◌, ℕ, List, ◌++◌, length, take}
-use Rattle.js_heap.specs.World.{World}
+use Rattle.js_heap.specs.World.{World, Tried, fine, effect, full}
 use Rattle.js_heap.specs.Worlds.{Keeps}
 use Rattle.js_semantics.specs.State.{State, Move, goes, travels, has_effect, is_full}
 use Rattle.js_semantics.specs.Run.{Run, state_of}
@@ -36,3 +36,10 @@ AnswerKeeps w x (a_throw value v) = Undisturbed w x v
 AnswerKeeps w x an_effect = Unit {0}
 AnswerKeeps w x (is_full_of what) = Unit {0}
 AnswerKeeps w x spent = Unit {0}
+
+-- both are fine, and leave the same room, or both are refused in the same way, though perhaps by different counts
+abbrev pub SameOutcome : {A : Type 0} → Tried A → Tried A → Type 0
+SameOutcome (fine a v) (fine b u) = v.room ≡ u.room
+SameOutcome effect effect = Unit {0}
+SameOutcome (full what) (full other) = Unit {0}
+SameOutcome _ _ = ⊥

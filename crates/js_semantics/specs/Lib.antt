@@ -8,6 +8,7 @@ pub mod Next
 pub mod Run
 pub mod Makers
 pub mod Clean
+pub mod Literals
 pub mod Frames
 pub mod Laws
 pub mod Evaluation

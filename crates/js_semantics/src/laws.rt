@@ -1,17 +1,20 @@
 //! The laws of steps and runs. Each function does nothing: its contract is the law, for every configuration.
 
-ghost use Rattle.std.specs.Prelude.{◌≡◌, ℕ, suc, ◌+◌, ◌≤◌, true, List, Some};
+ghost use Rattle.std.specs.Prelude.{◌≡◌, ℕ, suc, ◌+◌, ◌≤◌, true, List, Some, sum_by};
 ghost use Rattle.js_tree.specs.declared.script.Script.{Script};
+ghost use Rattle.js_tree.specs.declared.tree.Expr.{Expr};
 ghost use Rattle.js_semantics.specs.Sources.{expression_source, terms_of_scripts};
+ghost use Rattle.js_semantics.specs.Literals.{source_literals};
 ghost use Rattle.js_heap.specs.declared.value.Addr.{Addr};
 ghost use Rattle.js_semantics.specs.Terms.{Mark, Term, Terms, script_source, kept_source, all_done};
 ghost use Rattle.js_semantics.specs.State.{State};
 ghost use Rattle.js_semantics.specs.Functions.{Program, function_in, function_at};
 ghost use Rattle.js_semantics.specs.Makers.{Made};
 ghost use Rattle.js_semantics.specs.Next.{next};
-ghost use Rattle.js_semantics.specs.Run.{Run, Finish, over, program_of, state_of, steps_in, plain, out};
+ghost use Rattle.js_semantics.specs.Run.{literals, Run, Finish, over, program_of, state_of, steps_in, plain, out};
 ghost use Rattle.js_heap.specs.declared.value.Value.{Value};
-ghost use Rattle.js_heap.specs.World.{World};
+ghost use Rattle.js_heap.specs.declared.change.Counted.{Counted};
+ghost use Rattle.js_heap.specs.World.{World, full};
 ghost use Rattle.js_heap.specs.Operators.{binary_result, unary_result, update_result};
 ghost use Rattle.js_operators.specs.declared.operator.BinaryOperator.{BinaryOperator};
 ghost use Rattle.js_operators.specs.declared.operator.UnaryOperator.{UnaryOperator};
@@ -26,10 +29,10 @@ ghost use Rattle.js_semantics.specs.Untouched.{AreUntouched};
 ghost use Rattle.js_tree.specs.declared.script.Expression.{Expression};
 ghost use Rattle.js_tree.specs.declared.script.FunctionCode.{FunctionCode};
 ghost use Rattle.js_heap.specs.BuiltIns.{script_scope};
-ghost use Rattle.js_semantics.specs.Evaluation.{ScratchSpace, Argument, copied_world, next_kept, kept_tree, with_source, evaluate, evaluate_call, evaluate_expression, evaluate_function};
+ghost use Rattle.js_semantics.specs.Evaluation.{ScratchSpace, Argument, copied_world, make_literals, place_literals, next_kept, kept_term, kept_tree, with_source, evaluate, evaluate_call, evaluate_expression, evaluate_function};
 ghost use Rattle.js_heap.specs.Worlds.{SoundScope};
 ghost use Rattle.js_semantics.specs.Sound.{SoundState, SoundTerm, SoundMove, SoundRun, SoundArguments, IsReady, SoundAnswer};
-ghost use Rattle.js_semantics.specs.Laws.{IsPrefix, MoveFollows, RunFollows, AnswerKeeps};
+ghost use Rattle.js_semantics.specs.Laws.{IsPrefix, MoveFollows, RunFollows, AnswerKeeps, SameOutcome};
 
 /// A step leaves what was printed, and each cell with its kind; in an evaluation it leaves all cells that aren't its own.
 pub fn a_step_keeps()
@@ -68,12 +71,12 @@ pub fn steps_keep_sound()
 
 /// An evaluation leaves the program's cells as they are, and those that its session made before.
 pub fn an_evaluation_disturbs_nothing()
-    ensures { (p : Program) (w : World) (x : ScratchSpace) (scope : Addr) (receiver : Value) (source : List ℕ) (e : Made) → AnswerKeeps w x (evaluate p w x scope receiver source e) }
+    ensures { (p : Program) (w : World) (x : ScratchSpace) (scope : Addr) (receiver : Value) (source : List ℕ) (order : List (List ℕ)) (e : Made) → AnswerKeeps w x (evaluate p w x scope receiver source order e) }
 {}
 
 /// So does a call of a function.
 pub fn an_evaluated_call_disturbs_nothing()
-    ensures { (p : Program) (w : World) (x : ScratchSpace) (source : List ℕ) (callee : Made) (receiver : Value) (arguments : List Argument) → AnswerKeeps w x (evaluate_call p w x source callee receiver arguments) }
+    ensures { (p : Program) (w : World) (x : ScratchSpace) (source : List ℕ) (order : List (List ℕ)) (callee : Made) (receiver : Value) (arguments : List Argument) → AnswerKeeps w x (evaluate_call p w x source order callee receiver arguments) }
 {}
 
 /// An evaluation that begins in a sound world, in a live scope and with a live `this`, answers a live value in a sound
@@ -91,6 +94,15 @@ pub fn an_evaluated_call_keeps_sound()
 pub fn an_evaluation_finds_its_functions()
     ensures own { (p : Program) (x : ScratchSpace) (e : Made) (node : ℕ) → function_at (with_source p x e) (kept_source (next_kept x)) node ≡ function_in node (kept_tree (next_kept x) e) }
     ensures others { (p : Program) (x : ScratchSpace) (e : Made) (number node : ℕ) → function_at (with_source p x e) (script_source number) node ≡ function_at p (script_source number) node }
+{}
+
+/// The term of an evaluation's tree has the string literals of its source, though in an order of its own: each measure of
+/// literals has the same sum over both. So where the cells of the one order can be made, so can those of the other, and
+/// leave the same room; and where the cells can't be placed, the count that is named is that of the order of the source.
+pub fn a_term_has_the_literals_of_its_source()
+    ensures same { (measure : List ℕ → ℕ) (at : Addr) (e : Expr) → sum_by measure (literals (kept_term at (expression_source e))) ≡ sum_by measure (source_literals e) }
+    ensures outcome { (w : World) (at : Addr) (e : Expr) → SameOutcome (make_literals w (literals (kept_term at (expression_source e)))) (make_literals w (source_literals e)) }
+    ensures named { (w : World) (at : Addr) (e : Expr) (what : Counted) → place_literals w (source_literals e) (literals (kept_term at (expression_source e))) ≡ full what → make_literals w (source_literals e) ≡ full what }
 {}
 
 /// Each configuration of a plain run is sound: its scripts hold no address before the first step.
