@@ -1,13 +1,7 @@
 -- Places of an index.
-use Rattle.std.proofs.Common.{◌≡◌, ℕ, zero, suc, Bool, true, false, ◌<◌, List, [], ◌∷◌, ◌++◌, length, if◌then◌else◌, refl, ap, ◌∙◌, arith}
+use Rattle.std.proofs.Common.{◌≡◌, ℕ, zero, suc, Bool, true, false, ◌<◌, List, [], ◌∷◌, length, if◌then◌else◌, refl, ap, ◌∙◌, arith}
 use Rattle.std.specs.Prelude.{slice_set, nat_eq}
 use Rattle.js_compile.specs.Index.{number_at}
-
-pub number_push : (xs : List ℕ) (x : ℕ) → number_at (xs ++ 0 ∷ []) x ≡ number_at xs x
-number_push [] zero = refl
-number_push [] (suc x) = refl
-number_push (y ∷ xs) zero = refl
-number_push (y ∷ xs) (suc x) = number_push xs x
 
 number_if : (b c : Bool) (n m : ℕ) → b ≡ c → (if b then n else m) ≡ (if c then n else m)
 number_if b c n m e = ap (λ x. if x then n else m) e

@@ -42,11 +42,6 @@ unfolding count
 program_push n m semantics.end x e = let k : n ≡ m = omega arith in ap (λ j. let s : SourceTree = record { source = script_source j; tree = x } in s ∷ []) k
 program_push n m (semantics.more y xs) x e = let k : m ≡ n + 1 + count xs = omega arith in ap (λ ps. let s : SourceTree = record { source = script_source n; tree = y } in s ∷ ps) (program_push (n + 1) m xs x k)
 
-count_joined : (xs : semantics.Terms) (x : semantics.Term) → count (semantics.joined xs (semantics.one x)) ≡ count xs + 1
-unfolding count
-count_joined semantics.end x = refl
-count_joined (semantics.more y xs) x = omega (arith, count_joined xs x)
-
 count_listed : (xs : List Term) → count (listed_view xs) ≡ length xs
 unfolding count
 count_listed [] = refl
