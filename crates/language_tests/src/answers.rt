@@ -35,6 +35,10 @@ pub(crate) enum Question {
     RunWithInput,
     /// The same of two scripts.
     RunInOrder,
+    /// What a script does again and again, and how often it can where few cells are left.
+    FilledCells,
+    /// The same where few units are left.
+    FilledUnits,
 }
 
 /// What a source is answered.
@@ -61,6 +65,8 @@ fn answer(alloc: Global, question: Question, text: &str) -> Result<String, Fail>
         Question::RunWithin => runs::run_within(alloc, text),
         Question::RunWithInput => runs::run_with_input(alloc, text),
         Question::RunInOrder => runs::run_in_order(alloc, text),
+        Question::FilledCells => runs::run_with_few_cells(alloc, text),
+        Question::FilledUnits => runs::run_with_few_units(alloc, text),
         _ => Ok(of_source(alloc, question, text)?),
     }
 }

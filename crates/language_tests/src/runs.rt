@@ -6,6 +6,7 @@ mod bounds;
 mod built_ins;
 mod errors;
 mod finally;
+mod full_heaps;
 mod functions;
 mod input;
 mod limits;
@@ -49,11 +50,17 @@ pub(crate) fn lines_of(alloc: Global, texts: &[Units]) -> Result<String, AllocEr
     Ok(lines)
 }
 
-/// How many steps a run took and how it ended, and in further lines what it printed.
-fn told(alloc: Global, outcome: &Outcome) -> Result<String, AllocError> {
+/// How a run ended, and in further lines what it printed.
+fn told_of_end(alloc: Global, outcome: &Outcome) -> Result<String, AllocError> {
     let end = end_of(alloc, outcome)?;
     let printed = lines_of(alloc, outcome.machine.printed())?;
-    format!(in alloc; "{} {end}\n{printed}", outcome.steps)
+    format!(in alloc; "{end}\n{printed}")
+}
+
+/// The same behind how many steps it took.
+fn told(alloc: Global, outcome: &Outcome) -> Result<String, AllocError> {
+    let end = told_of_end(alloc, outcome)?;
+    format!(in alloc; "{} {end}", outcome.steps)
 }
 
 // ---- runs
@@ -125,4 +132,27 @@ pub(crate) fn run_in_order(alloc: Global, text: &str) -> Result<String, Fail> {
     let first = parsed(alloc, first, 1, &[])?;
     let second = parsed(alloc, second, 2, declared.as_slice())?;
     run_all(alloc, &[first, second], Vec::new(alloc), MOST)
+}
+
+/// More steps than a script takes that fills the heap.
+const MOST_OF_FULL: u64 = 200_000;
+
+/// A run of a script that fills the heap so far and then does something again and again until it fails; behind what the
+/// script declares.
+fn run_full(alloc: Global, filling: &str, text: &str) -> Result<String, Fail> {
+    let (declared, done) = text.split_once('#').unwrap_or(("", text));
+    let source = format!(in alloc;
+        "{declared} {filling} let n = 0; try {{ while (true) {{ {done} n++; }} }} catch {{ }} console.log(n);"
+    )?;
+    let script = parsed(alloc, &source, 1, &[])?;
+    let outcome = run_scripts(alloc, &[script], VecDeque::new(alloc), MOST_OF_FULL)?;
+    Ok(told_of_end(alloc, &outcome)?)
+}
+
+pub(crate) fn run_with_few_cells(alloc: Global, text: &str) -> Result<String, Fail> {
+    run_full(alloc, full_heaps::CELLS, text)
+}
+
+pub(crate) fn run_with_few_units(alloc: Global, text: &str) -> Result<String, Fail> {
+    run_full(alloc, full_heaps::UNITS, text)
 }
