@@ -85,6 +85,7 @@ fn frequent<W: World>(
 }
 
 /// Expressions: operators, literals and functions.
+#[inline(never)]
 fn expression<W: World>(
     alloc: Global,
     table: &NodeTable,
@@ -112,7 +113,7 @@ fn expression<W: World>(
 }
 
 /// Assignments, updates and deletions.
-#[inline(always)]
+#[inline(never)]
 fn writing<W: World>(
     alloc: Global,
     table: &NodeTable,
@@ -391,6 +392,7 @@ fn behind_method<W: World>(
 }
 
 /// What owns something apart from its values.
+#[inline(never)]
 fn owning<W: World>(
     alloc: Global,
     table: &NodeTable,
@@ -413,6 +415,7 @@ fn owning<W: World>(
 }
 
 impl Rows for Table {
+    #[inline(always)]
     fn reduce<W: World>(
         alloc: Global,
         table: &NodeTable,

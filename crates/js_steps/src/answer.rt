@@ -31,7 +31,7 @@ pub enum Answer {
 }
 
 /// What a row's answer asks for.
-#[inline]
+#[inline(always)]
 pub fn answer_of(reduced: Reduced) -> Answer
     ensures { result ≡ answer_of reduced }
 {
@@ -62,7 +62,7 @@ pub fn finished_by(completion: Completion) -> Finish
 }
 
 /// What a step tells that goes on if there is memory.
-#[inline]
+#[inline(always)]
 pub fn went_of(outcome: Result<(), AllocError>) -> Stepped
     ensures { result ≡ went_of outcome }
 {

@@ -51,7 +51,7 @@ pub enum Next {
 }
 
 /// What a task does when all its parts have their values.
-#[inline]
+#[inline(always)]
 pub fn closing_of(op: Op) -> Closing
     ensures { result ≡ closing_of op }
 {

@@ -79,6 +79,7 @@ fn print_row(alloc: Global, table: &NodeTable, stack: &mut Stack, point: &mut Po
 
 /// What a step comes to whose row gave this answer for the innermost task; around all tasks is the scope `root`. Of an answer
 /// that travels it is no call.
+#[inline(always)]
 pub fn conclude(
     alloc: Global,
     table: &NodeTable,

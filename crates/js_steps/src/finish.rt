@@ -21,6 +21,7 @@ use js_heap::value::Value;
 use std::alloc::AllocError;
 
 /// The last of some values; undefined where there is none.
+#[inline(always)]
 fn last_value(values: &[Value]) -> Value
     ensures { result ≡ last_of_terms undefined (dones values.now) }
 {
@@ -41,6 +42,7 @@ fn keeps(extra: Option<Extra>) -> bool
 }
 
 /// The innermost task is taken away, and has this value.
+#[inline(always)]
 fn leave(stack: &mut Stack, value: Value) -> Next
     ensures outer { stack.new ≡ outer_of stack.old }
     ensures value { result ≡ Next.Value value }
@@ -87,6 +89,7 @@ fn finish_try(table: &NodeTable, stack: &mut Stack, task: Task) -> Result<Next, 
 }
 
 /// What becomes of the innermost task, whose parts all have their values.
+#[inline(always)]
 pub fn finish(table: &NodeTable, stack: &mut Stack) -> Result<Next, AllocError>
     requires { IsAtRow stack.old }
     ensures { IfOk result (Comes table.now stack.old stack.new (λ ts. settled_row ts table.now stack.old)) }

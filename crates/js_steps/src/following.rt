@@ -61,6 +61,7 @@ fn follow_seldom(
 /// # Errors
 ///
 /// There is no memory for it.
+#[inline(always)]
 pub fn follow(
     table: &NodeTable,
     root: Addr,

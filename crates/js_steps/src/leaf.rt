@@ -26,6 +26,7 @@ use std::alloc::AllocError;
 ///
 /// There is no memory for it.
 #[tactic(auto, unfolding(crate::specs::Answers::reduced_term))]
+#[inline(always)]
 pub fn follow_leaf(
     table: &NodeTable,
     root: Addr,

@@ -12,7 +12,7 @@ use js_heap::value::Value;
 use std::alloc::AllocError;
 
 /// The value of a node that is one; of a number without a node undefined.
-#[inline]
+#[inline(always)]
 pub fn value_at(table: &NodeTable, n: u32) -> Option<Value>
     ensures value { IfSome result (λ v. (ts : List (List ℕ)) → tree ts table.now n ≡ done v) }
     ensures form { IfNone result (IsOpen (slice_get table.now.nodes.items n)) }
@@ -30,7 +30,7 @@ pub fn value_at(table: &NodeTable, n: u32) -> Option<Value>
 }
 
 /// The part at a place of the list of parts, if there is one.
-#[inline]
+#[inline(always)]
 fn part_at(table: &NodeTable, at: u32) -> Option<u32>
     ensures { result ≡ slice_get table.now.kids.items at }
 {
@@ -43,6 +43,7 @@ fn part_at(table: &NodeTable, at: u32) -> Option<u32>
 /// # Errors
 ///
 /// There is no memory for the values.
+#[inline(always)]
 pub fn next_part(table: &NodeTable, stack: &mut Stack) -> Result<Option<u32>, AllocError>
     ensures { IfOk result (λ n. IsNextPart table.now stack.old stack.new n) }
 {

@@ -31,6 +31,7 @@ pub enum Entered {
 }
 
 /// A node that is no value becomes the innermost task, unless it has no parts to reduce.
+#[inline(always)]
 fn enter(table: &NodeTable, stack: &mut Stack, inner: Addr, n: u32) -> Result<Entered, AllocError>
     requires table { IsTable table.now }
     requires form { IsOpen (slice_get table.now.nodes.items n) }
@@ -84,6 +85,7 @@ pub fn descend(
 }
 
 /// A value comes into the innermost gap: what comes next.
+#[inline(always)]
 fn take(table: &NodeTable, stack: &mut Stack, value: Value) -> Result<Next, AllocError>
     requires { IsTask stack.old }
     ensures { IfOk result (Comes table.now stack.old stack.new (λ ts. resettled (gaps_of ts table.now stack.old) (done value))) }
@@ -133,6 +135,7 @@ pub fn give(
 /// # Errors
 ///
 /// There is no memory for it.
+#[inline(always)]
 pub fn take_up(
     table: &NodeTable,
     stack: &mut Stack,
@@ -161,6 +164,7 @@ pub fn take_up(
 /// # Errors
 ///
 /// There is no memory for it.
+#[inline(always)]
 pub fn proceed(table: &NodeTable, stack: &mut Stack, point: &mut Point) -> Result<(), AllocError>
     requires { IsTable table.now }
     ensures term { OnOk result ((ts : List (List ℕ)) → proceeding ts table.now stack.old ≡ term_at ts table.now stack.new point.new) }
@@ -181,6 +185,7 @@ pub fn proceed(table: &NodeTable, stack: &mut Stack, point: &mut Point) -> Resul
 }
 
 /// The innermost task has values for all its parts: from there to what is reduced next.
+#[inline(always)]
 pub fn settle_row(table: &NodeTable, stack: &mut Stack, point: &mut Point) -> Result<(), AllocError>
     requires table { IsTable table.now }
     requires row { IsAtRow stack.old }
@@ -200,6 +205,7 @@ pub fn settle_row(table: &NodeTable, stack: &mut Stack, point: &mut Point) -> Re
 /// # Errors
 ///
 /// There is no memory for it.
+#[inline(always)]
 pub fn go(
     table: &NodeTable,
     root: Addr,
@@ -222,6 +228,7 @@ pub fn go(
 }
 
 /// Whether a task waits for its row when all its parts have their values.
+#[inline(always)]
 fn is_waiting(op: Op) -> bool
     ensures { result ≡ is_waiting (closing_of op) }
 {
@@ -232,6 +239,7 @@ fn is_waiting(op: Op) -> bool
 }
 
 /// A node that is no value comes uncovered into the innermost gap, in which the scope is `inner`.
+#[inline(always)]
 fn uncover_form(
     table: &NodeTable,
     stack: &mut Stack,

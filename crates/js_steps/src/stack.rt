@@ -34,6 +34,7 @@ impl Model for Stack {
 }
 
 /// Whether a task owns what a `finally` keeps, or a list with its index.
+#[inline(always)]
 pub fn has_extra(op: Op, info: u32) -> bool
     ensures { result ≡ has_extra op info }
 {
@@ -47,6 +48,7 @@ pub fn has_extra(op: Op, info: u32) -> bool
 }
 
 /// What the innermost task owns is taken away, where it owns something.
+#[inline(always)]
 fn drop_extra(extras: &mut Vec<Extra>, owns: bool)
     ensures { reverse extras.new.items ≡ other_extras owns (reverse extras.old.items) }
 {
@@ -120,7 +122,7 @@ impl Stack {
     }
 
     /// The innermost task, if there is one.
-    #[inline]
+    #[inline(always)]
     pub fn last(&self) -> Option<Task>
         ensures some { IfSome result (λ t. self.now ≡ wide t (values_of self.now) (extra_of self.now) ∷ outer_of self.now) }
         ensures none { IfNone result (self.now ≡ []) }
@@ -149,6 +151,7 @@ impl Stack {
     }
 
     /// The values of the innermost task.
+    #[inline(always)]
     pub fn values(&self) -> &[Value]
         ensures { result.now ≡ values_of self.now }
     {
@@ -160,6 +163,7 @@ impl Stack {
     }
 
     /// What the innermost task owns.
+    #[inline(always)]
     pub fn extra(&self) -> Option<Extra>
         ensures { result ≡ extra_of self.now }
     {
@@ -176,7 +180,7 @@ impl Stack {
     }
 
     /// The scope in which the parts of the innermost task are; around all tasks is `root`.
-    #[inline]
+    #[inline(always)]
     pub fn scope(&self, root: Addr) -> Addr
         ensures { result ≡ scope_of root self.now }
     {
@@ -191,6 +195,7 @@ impl Stack {
     /// # Errors
     ///
     /// There is no memory for it.
+    #[inline(always)]
     pub fn push(
         &mut self,
         op: Op,
@@ -257,7 +262,7 @@ impl Stack {
     /// # Errors
     ///
     /// There is no memory for it.
-    #[inline]
+    #[inline(always)]
     pub fn push_value(&mut self, value: Value) -> Result<(), AllocError>
         ensures { OnOk result (self.new ≡ with_value value self.old) }
     {
@@ -266,6 +271,7 @@ impl Stack {
     }
 
     /// The innermost task has no values.
+    #[inline(always)]
     pub fn clear_values(&mut self)
         ensures { self.new ≡ without_values self.old }
     {
@@ -275,7 +281,7 @@ impl Stack {
     }
 
     /// The next part of the innermost task stands at this place.
-    #[inline]
+    #[inline(always)]
     pub fn set_at(&mut self, at: u32)
         ensures { self.new ≡ at_part at self.old }
     {
@@ -286,6 +292,7 @@ impl Stack {
     }
 
     /// The innermost task does something else, with other parts.
+    #[inline(always)]
     pub fn change(&mut self, op: Op, info: u32, at: u32, mid: u32)
         requires { OwnsAs op info self.old }
         ensures { self.new ≡ changed op info at mid self.old }
@@ -345,6 +352,7 @@ impl Stack {
     }
 
     /// The innermost task is taken away, with its values and what it owns.
+    #[inline(always)]
     pub fn pop(&mut self) -> Option<Task>
         ensures outer { self.new ≡ outer_of self.old }
         ensures some { IfSome result (λ t. self.old ≡ wide t (values_of self.old) (extra_of self.old) ∷ self.new) }

@@ -69,6 +69,7 @@ fn resume<T: Rows, W: World>(
 }
 
 /// The step of the innermost task, whose parts have their values.
+#[inline(always)]
 fn step_row<T: Rows, W: World>(
     alloc: Global,
     table: &NodeTable,
@@ -122,6 +123,7 @@ fn step_row<T: Rows, W: World>(
 }
 
 /// The step of a node without parts.
+#[inline(always)]
 fn step_leaf<T: Rows, W: World>(
     alloc: Global,
     table: &NodeTable,
@@ -169,6 +171,7 @@ fn step_leaf<T: Rows, W: World>(
 
 /// One step of the residual term that the tasks and the point are, in a world and a context; around all tasks is the scope
 /// `root`. The table has the term's nodes, and `T` the rows of its forms.
+#[inline(always)]
 pub fn step<T: Rows, W: World>(
     alloc: Global,
     table: &NodeTable,

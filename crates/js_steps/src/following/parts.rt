@@ -35,6 +35,7 @@ pub fn kept_part(table: &NodeTable, at: u32, end: u32) -> Result<u32, AllocError
 
 /// A value stands in place of the innermost task.
 #[tactic(auto, unfolding(crate::specs::Answers::reduced_term), using(crate::proofs::FollowLemmas::follow_rules))]
+#[inline(always)]
 pub fn follow_value(
     table: &NodeTable,
     root: Addr,
@@ -53,6 +54,7 @@ pub fn follow_value(
 
 /// A kept part stands in its place, as that stands in the table.
 #[tactic(auto, unfolding(crate::specs::Answers::reduced_term), using(crate::proofs::FollowLemmas::follow_rules))]
+#[inline(always)]
 pub fn follow_part(
     table: &NodeTable,
     root: Addr,
@@ -71,6 +73,7 @@ pub fn follow_part(
 
 /// A kept part that is uncovered stands in its place.
 #[tactic(auto, unfolding(crate::specs::Answers::reduced_term), using(crate::proofs::FollowLemmas::follow_rules))]
+#[inline(always)]
 pub fn follow_uncovered(
     table: &NodeTable,
     root: Addr,
