@@ -9,10 +9,11 @@ use Rattle.js_heap.specs.declared.value.Value.{Value}
 use Rattle.js_heap.specs.declared.value.Value.TheVariants as values
 use Rattle.js_heap.specs.declared.change.Counted.{Counted}
 use Rattle.js_heap.specs.World.{World}
-use Rattle.js_semantics.specs.Terms.{Term, done, standing}
+use Rattle.js_semantics.specs.Terms.{Term, done, standing, settle}
 use Rattle.js_semantics.specs.State.{State, Move, goes, has_effect, is_full, Told, went, raised, printed_values, spot_of, top_spot}
 use Rattle.js_operations.specs.Contexts.{Context, state_of}
 use Rattle.js_code.specs.declared.table.NodeTable.{NodeTable}
+use Rattle.js_code.specs.Trees.{tree}
 use Rattle.js_steps.specs.declared.answer.Answer.{Answer}
 use Rattle.js_steps.specs.declared.reduced.Reduced.{Reduced}
 use Rattle.js_steps.specs.declared.reduced.Reduced.TheVariants as reduced
@@ -23,7 +24,7 @@ use Rattle.js_steps.specs.declared.task.Point.TheVariants as points
 use Rattle.js_steps.specs.Gaps.{resettled, all_risen}
 use Rattle.js_steps.specs.Tasks.{Wide, gaps_of, InScopes}
 use Rattle.js_steps.specs.Points.{term_at, IsAt}
-use Rattle.js_steps.specs.Answers.{reduced_move, Reduces}
+use Rattle.js_steps.specs.Answers.{reduced_move, reduced_term, Reduces}
 use Rattle.js_steps.specs.Stacks.{outer_of, values_of}
 use Rattle.js_steps.specs.Following.{innermost}
 use Rattle.js_steps.specs.Stepping.{IfGoesOn, StandsIn, answer_of, Says, Raises, went_of, TellsWithin}
@@ -65,6 +66,22 @@ went-told (Err x) stepped ts t root old new p m u s w e h =
 -- the same of what a call says for all names
 pub went-follows : (r : Result (Unit {0}) AllocError) (stepped : Stepped) (ts : List (List ℕ)) (t : NodeTable) (root : Addr) (old new : List Wide) (p : Point) (m : Move Term) (u : List (List ℕ) → Term) (s : State) → stepped ≡ went_of r → m ≡ goes (u ts) s went → OnOk r ((names : List (List ℕ)) → resettled (gaps_of names t old) (u names) ≡ term_at names t new p) → TellsWithin ts t root old m stepped new p s
 went-follows r stepped ts t root old new p m u s w e h = went-told r stepped ts t root old new p m (u ts) s w e (on_ok_weaker r (λ f. f ts) h)
+
+-- what it says of an answer that is this one
+pub says-of : (ts : List (List ℕ)) (t : NodeTable) (w : Wide) (m : Move Term) (r x : Reduced) (s : State) → r ≡ x → Says ts t w m r (answer_of r) s → Says ts t w m x (answer_of x) s
+says-of ts t w m r x s e h =
+    let P : Reduced → Type 0 = λ x. Says ts t w m x (answer_of x) s in
+    subst P e h
+
+-- a value came
+pub gives-told : (o : Result (Unit {0}) AllocError) (stepped : Stepped) (ts : List (List ℕ)) (t : NodeTable) (root : Addr) (old new : List Wide) (p : Point) (m : Move Term) (w : Wide) (r : Reduced) (v : Value) (s : State) → stepped ≡ went_of o → r ≡ reduced.Gives v → Says ts t w m r (answer_of r) s → OnOk o ((names : List (List ℕ)) → resettled (gaps_of names t old) (done v) ≡ term_at names t new p) → TellsWithin ts t root old m stepped new p s
+unfolding reduced_term
+gives-told o stepped ts t root old new p m w r v s y e says h = went-follows o stepped ts t root old new p m (λ names. done v) s y (says-of ts t w m r (reduced.Gives v) s e says) h
+
+-- a part came uncovered
+pub uncovers-told : (o : Result (Unit {0}) AllocError) (stepped : Stepped) (ts : List (List ℕ)) (t : NodeTable) (root : Addr) (old new : List Wide) (p : Point) (m : Move Term) (w : Wide) (r : Reduced) (n : ℕ) (s : State) → stepped ≡ went_of o → r ≡ reduced.Uncovers n → Says ts t w m r (answer_of r) s → OnOk o ((names : List (List ℕ)) → resettled (gaps_of names t old) (settle (tree names t n)) ≡ term_at names t new p) → TellsWithin ts t root old m stepped new p s
+unfolding reduced_term
+uncovers-told o stepped ts t root old new p m w r n s y e says h = went-follows o stepped ts t root old new p m (λ names. settle (tree names t n)) s y (says-of ts t w m r (reduced.Uncovers n) s e says) h
 
 pub went-stands : (r : Result (Unit {0}) AllocError) (stepped : Stepped) (t : NodeTable) (root : Addr) (old new : List Wide) (p : Point) → stepped ≡ went_of r → OnOk r (IsAt t new p) → OnOk r (InScopes t root old → InScopes t root new) → IfGoesOn stepped (InScopes t root old → StandsIn t root new p)
 went-stands (Ok x) stepped t root old new p w a h =

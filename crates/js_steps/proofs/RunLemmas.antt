@@ -1,5 +1,6 @@
 -- Steps one after another.
-use Rattle.std.proofs.Common.{◌≡◌, ℕ, zero, suc, ◌+◌, ◌-◌, ◌<◌, ◌≤◌, Bool, false, List, [], ◌∷◌, Option, None, Some, slice_get, refl, sym, ap, subst, ◌∙◌, add-one, arith, below_more}
+use Rattle.std.proofs.Common.{◌≡◌, ℕ, zero, suc, ◌+◌, ◌-◌, ◌<◌, Bool, false, List, [], ◌∷◌, Option, None, Some, slice_get, refl, sym, ap, subst, ◌∙◌, add-one, arith, below_more}
+use Rattle.std.specs.Prelude.{is_some}
 use Rattle.js_heap.specs.declared.value.Addr.{Addr}
 use Rattle.js_heap.specs.declared.value.Value.{Value}
 use Rattle.js_heap.specs.World.{World}
@@ -7,13 +8,12 @@ use Rattle.js_semantics.specs.Terms.{Term, done, standing, part, is_done}
 use Rattle.js_semantics.specs.State.{Frame, State, Move, goes, travels, has_effect, is_full}
 use Rattle.js_semantics.specs.Functions.{Program}
 use Rattle.js_semantics.specs.Next.{next}
-use Rattle.js_semantics.specs.Run.{Run, running, over, run_of, run_after, step_in, steps_in}
+use Rattle.js_semantics.specs.Run.{Run, over, run_of, run_after, step_in, steps_in}
 use Rattle.js_operations.specs.Contexts.{Context, state_of}
 use Rattle.js_code.specs.declared.node.Node.{Node}
 use Rattle.js_code.specs.declared.table.NodeTable.{NodeTable}
 use Rattle.js_code.specs.Trees.{tree, program_of}
 use Rattle.js_steps.specs.declared.run.Why.{Why}
-use Rattle.js_steps.specs.declared.run.Why.TheVariants as whys
 use Rattle.js_steps.specs.declared.stepped.Finish.{Finish}
 use Rattle.js_steps.specs.declared.stepped.Finish.TheVariants as finishes
 use Rattle.js_steps.specs.declared.stepped.Stepped.{Stepped}
@@ -121,6 +121,13 @@ more-left ts t root ws p w c k vs q v d h g taken =
 -- a step after which it stops
 pub stop-runs : (ts : List (List ℕ)) (t : NodeTable) (root : Addr) (ws : List Wide) (p : Point) (w : World) (c : Context) (k : ℕ) (vs us : List Wide) (q o : Point) (v x : World) (d e : Context) (stepped : Stepped) (why : Why) → HasRun ts t root ws p w c k vs q v d → IsGoing q → why_of stepped ≡ Some why → (taken : List (List ℕ)) → Tells (next (program_of ts t) root (term_at ts t vs q) (state_of v d taken)) stepped (term_at ts t us o) (state_of x e taken) → RunsTo (steps_in (k + 1) (program_of ts t) root (run_of (term_at ts t ws p) (state_of w c taken))) why (term_at ts t us o) (state_of x e taken)
 stop-runs ts t root ws p w c k vs us q o v x d e stepped why h g y taken told = runs_by ts t root ws p w c k vs us q o v x d e stepped (Some why) h g y taken told
+
+none_at : (o : Option Why) → is_some o ≡ false → o ≡ None
+none_at None e = refl
+none_at (Some why) e = cc
+
+pub goes-none : (stepped : Stepped) → is_some (why_of stepped) ≡ false → why_of stepped ≡ None
+goes-none stepped e = none_at (why_of stepped) e
 
 went_stands : (stepped : Stepped) (P : Type 0) → why_of stepped ≡ None → IfGoesOn stepped P → P
 went_stands steppeds.Went P e h = h

@@ -1,6 +1,6 @@
 //! Steps one after another.
 
-ghost use Rattle.std.specs.Prelude.{◌≡◌, ◌≤◌, ℕ, List};
+ghost use Rattle.std.specs.Prelude.{◌≡◌, ◌≤◌, ℕ, List, true, Some, is_some};
 ghost use Rattle.js_semantics.specs.Run.{steps_in, run_of};
 ghost use Rattle.js_operations.specs.Contexts.{state_of};
 ghost use Rattle.js_code.specs.Codes.{HasFunctions};
@@ -70,19 +70,30 @@ pub struct Ran {
     pub why: Why,
 }
 
-/// Why a run stops behind a step; None where it goes on.
-#[inline]
-fn why_of(stepped: Stepped) -> Option<Why>
-    ensures { result ≡ why_of stepped }
+/// Whether a run stops behind a step.
+#[inline(always)]
+fn is_stop(stepped: &Stepped) -> bool
+    ensures { result ≡ is_some (why_of stepped.now) }
 {
     match stepped {
-        Stepped::Went => None,
-        Stepped::Raised => Some(Why::Raised),
-        Stepped::Printed(values) => Some(Why::Printed(values)),
-        Stepped::Over(finish) => Some(Why::Over(finish)),
-        Stepped::Effect => Some(Why::Effect),
-        Stepped::Full(what) => Some(Why::Full(what)),
-        Stepped::Memory => Some(Why::Memory),
+        Stepped::Went => false,
+        _ => true,
+    }
+}
+
+/// Why a run stops behind a step.
+fn why_of(stepped: Stepped) -> Why
+    requires { is_some (why_of stepped) ≡ true }
+    ensures { why_of stepped ≡ Some result }
+{
+    match stepped {
+        Stepped::Went => Why::Spent,
+        Stepped::Raised => Why::Raised,
+        Stepped::Printed(values) => Why::Printed(values),
+        Stepped::Over(finish) => Why::Over(finish),
+        Stepped::Effect => Why::Effect,
+        Stepped::Full(what) => Why::Full(what),
+        Stepped::Memory => Why::Memory,
     }
 }
 
@@ -139,10 +150,10 @@ pub fn run<T: Rows, W: World, H: Asks>(
             };
         }
         let stepped = step::<T, W>(alloc, table, names, root, context, world, stack, point);
-        if let Some(why) = why_of(stepped) {
+        if is_stop(&stepped) {
             return Ran {
                 steps: steps + 1,
-                why,
+                why: why_of(stepped),
             };
         }
         if stops_at(host, table, context, stack, *point) {

@@ -1,23 +1,28 @@
 //! One step.
 
-ghost use Rattle.std.specs.Prelude.{◌≡◌, ℕ, List, slice_get};
-ghost use Rattle.js_semantics.specs.Next.{next};
+ghost use Rattle.std.specs.Prelude.{◌≡◌, ℕ, List, [], None, false, slice_get};
+ghost use Rattle.js_semantics.specs.Next.{next, scope_in};
+ghost use Rattle.js_semantics.specs.State.{Move};
+ghost use Rattle.js_semantics.specs.Terms.{Term};
 ghost use Rattle.js_operations.specs.Contexts.{state_of};
 ghost use Rattle.js_code.specs.Codes.{HasFunctions};
 ghost use Rattle.js_code.specs.Trees.{program_of, IsTable};
-ghost use Rattle.js_steps.specs.Tasks.{kept_of, InScopes};
+ghost use Rattle.js_steps.specs.Tasks.{kept_of, task_form, scope_of, InScopes};
 ghost use Rattle.js_steps.specs.Points.{term_at, IsAtRow, IsLeafAt};
 ghost use Rattle.js_steps.specs.Answers.{resumed};
-ghost use Rattle.js_steps.specs.Stacks.{outer_of};
+ghost use Rattle.js_steps.specs.Rows.{redex};
+ghost use Rattle.js_steps.specs.Stacks.{outer_of, has_extra};
 ghost use Rattle.js_steps.specs.Following.{innermost};
-ghost use Rattle.js_steps.specs.Stepping.{Tells, TellsWithin, Steps, IfGoesOn, StandsIn, IsGoing};
+ghost use Rattle.js_steps.specs.Stepping.{answer_of, Says, Tells, TellsWithin, Steps, IfGoesOn, StandsIn, IsGoing};
 ghost use Rattle.js_steps.specs.declared.task.Point.TheVariants as points;
 
 use crate::answer::{Answer, answer_of, went_of};
 use crate::concluding::{conclude, print, raise};
+use crate::following::parts::follow_value;
 use crate::leaf::follow_leaf;
+use crate::reduced::Reduced;
 use crate::rows::Rows;
-use crate::settling::give;
+use crate::settling::{give, uncover};
 use crate::stack::Stack;
 use crate::stepped::Stepped;
 use crate::task::{Extra, Point, Redex};
@@ -68,6 +73,37 @@ fn resume<T: Rows, W: World>(
     }
 }
 
+/// What a step comes to whose row gave this answer for the innermost task.
+fn leave_row<T: Rows, W: World>(
+    alloc: Global,
+    table: &NodeTable,
+    names: &Names,
+    root: Addr,
+    context: &mut Context,
+    world: &mut W,
+    stack: &mut Stack,
+    point: &mut Point,
+    reduced: Reduced,
+) -> Stepped
+    requires table { IsTable table.now }
+    requires scoped { InScopes table.now root stack.old }
+    ensures told { (taken : List (List ℕ)) (m : Move Term) → Says names.now table.now (innermost stack.old) m reduced (answer_of reduced) (state_of (W.world names.now world.old) context.old taken) → TellsWithin names.now table.now root (outer_of stack.old) m result stack.new point.new (state_of (W.world names.now world.new) context.new taken) }
+    ensures stands { IfGoesOn result (StandsIn table.now root stack.new point.new) }
+{
+    match answer_of(reduced) {
+        Answer::Travels(completion) => {
+            stack.pop();
+            travel::<T, W>(
+                alloc, table, names, root, context, world, stack, point, completion,
+            )
+        }
+        Answer::Resumes => {
+            resume::<T, W>(alloc, table, names, root, context, world, stack, point)
+        }
+        answer => conclude(alloc, table, root, context, stack, point, reduced, answer),
+    }
+}
+
 /// The step of the innermost task, whose parts have their values.
 #[inline(always)]
 fn step_row<T: Rows, W: World>(
@@ -108,17 +144,47 @@ fn step_row<T: Rows, W: World>(
         stack.values(),
         extra,
     );
+    match reduced {
+        Reduced::Gives(value) => went_of(follow_value(table, root, stack, point, value)),
+        _ => leave_row::<T, W>(
+            alloc, table, names, root, context, world, stack, point, reduced,
+        ),
+    }
+}
+
+/// What a step comes to whose row gave this answer for a node without parts.
+fn leave_leaf<T: Rows, W: World>(
+    alloc: Global,
+    table: &NodeTable,
+    names: &Names,
+    root: Addr,
+    context: &mut Context,
+    world: &mut W,
+    stack: &mut Stack,
+    point: &mut Point,
+    form: Redex,
+    reduced: Reduced,
+) -> Stepped
+    requires table { IsTable table.now }
+    requires scoped { InScopes table.now root stack.old }
+    requires owns { has_extra form.op form.info ≡ false }
+    requires inner { (ts : List (List ℕ)) → scope_in (task_form ts table.now (redex form [] None)) (scope_of root stack.old) ≡ form.inner }
+    ensures told { (taken : List (List ℕ)) (m : Move Term) → Says names.now table.now (redex form [] None) m reduced (answer_of reduced) (state_of (W.world names.now world.old) context.old taken) → TellsWithin names.now table.now root stack.old m result stack.new point.new (state_of (W.world names.now world.new) context.new taken) }
+    ensures stands { IfGoesOn result (StandsIn table.now root stack.new point.new) }
+{
     match answer_of(reduced) {
+        Answer::Follows => went_of(follow_leaf(table, root, stack, point, form, reduced)),
+        Answer::Raises(value) => raise(context, point, value),
         Answer::Travels(completion) => {
-            stack.pop();
             travel::<T, W>(
                 alloc, table, names, root, context, world, stack, point, completion,
             )
         }
-        Answer::Resumes => {
-            resume::<T, W>(alloc, table, names, root, context, world, stack, point)
-        }
-        answer => conclude(alloc, table, root, context, stack, point, reduced, answer),
+        Answer::Resumes => went_of(give(table, stack, point, Value::Undefined)),
+        Answer::Prints => print(table, stack, point, Vec::new(alloc)),
+        Answer::Effect => Stepped::Effect,
+        Answer::Full(what) => Stepped::Full(what),
+        Answer::Memory => Stepped::Memory,
     }
 }
 
@@ -153,19 +219,12 @@ fn step_leaf<T: Rows, W: World>(
         inner: stack.scope(root),
     };
     let reduced = T::reduce(alloc, table, names, context, world, form, &[], None);
-    match answer_of(reduced) {
-        Answer::Follows => went_of(follow_leaf(table, root, stack, point, form, reduced)),
-        Answer::Raises(value) => raise(context, point, value),
-        Answer::Travels(completion) => {
-            travel::<T, W>(
-                alloc, table, names, root, context, world, stack, point, completion,
-            )
-        }
-        Answer::Resumes => went_of(give(table, stack, point, Value::Undefined)),
-        Answer::Prints => print(table, stack, point, Vec::new(alloc)),
-        Answer::Effect => Stepped::Effect,
-        Answer::Full(what) => Stepped::Full(what),
-        Answer::Memory => Stepped::Memory,
+    match reduced {
+        Reduced::Gives(value) => went_of(give(table, stack, point, value)),
+        Reduced::Uncovers(node) => went_of(uncover(table, root, stack, point, node)),
+        _ => leave_leaf::<T, W>(
+            alloc, table, names, root, context, world, stack, point, form, reduced,
+        ),
     }
 }
 

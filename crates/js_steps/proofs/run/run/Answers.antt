@@ -1,5 +1,5 @@
 use Rattle.std.proofs.Common.{sym, ◌∙◌, arith}
-use Rattle.js_steps.proofs.RunLemmas.{going, runs-init, none-passed, done-runs, stop-runs, stop-stands, stop-counted, stop-asked, stop-passed, next-runs, more-left, more-passed, asked-so, passed-but-last, first-passed}
+use Rattle.js_steps.proofs.RunLemmas.{going, goes-none, runs-init, none-passed, done-runs, stop-runs, stop-stands, stop-counted, stop-asked, stop-passed, next-runs, more-left, more-passed, asked-so, passed-but-last, first-passed}
 use Rattle.js_steps.proofs.run.run.Goals as goal
 
 pub loop-steps-init : goal.loop-steps-init
@@ -21,8 +21,8 @@ returns-in-Done g c =
       passed = λ taken. first-passed _ _ _ _ _ (i.passed taken);
     }
 
-pub returns-in-Some : goal.returns-in-Some
-returns-in-Some g c =
+pub returns-then-is_stop : goal.returns-then-is_stop
+returns-then-is_stop g c =
     let ts = c.args.names.now in
     let t = c.args.table.now in
     let w = g.W.World.world ts c.args.world.now in
@@ -30,15 +30,15 @@ returns-in-Some g c =
     let x = g.W.World.world ts c.step-stepped.new.world in
     let i = c.loop-steps.invariant in
     let going_on = going c.loop-steps.point c.in_default.not-Done in
-    let y = sym c.why_of.ensures ∙ c.in-Some.is in
+    let y = c.why_of.ensures in
     record {
-      told = λ taken. stop-runs ts t c.args.root c.args.stack.now c.args.point.now w c.args.context.now c.loop-steps.steps c.loop-steps.stack c.step-stepped.new.stack c.loop-steps.point c.step-stepped.new.point v x c.loop-steps.context c.step-stepped.new.context c.step-stepped.result c.in-Some.why i.run going_on y taken (c.step-stepped.ensures.told taken);
+      told = λ taken. stop-runs ts t c.args.root c.args.stack.now c.args.point.now w c.args.context.now c.loop-steps.steps c.loop-steps.stack c.step-stepped.new.stack c.loop-steps.point c.step-stepped.new.point v x c.loop-steps.context c.step-stepped.new.context c.step-stepped.result c.why_of.result i.run going_on y taken (c.step-stepped.ensures.told taken);
       left = more-left ts t c.args.root c.args.stack.now c.args.point.now w c.args.context.now c.loop-steps.steps c.loop-steps.stack c.loop-steps.point v c.loop-steps.context i.run going_on;
-      stands = stop-stands t c.args.root c.step-stepped.new.stack c.step-stepped.new.point c.step-stepped.result c.in-Some.why y c.step-stepped.ensures.stands;
+      stands = stop-stands t c.args.root c.step-stepped.new.stack c.step-stepped.new.point c.step-stepped.result c.why_of.result y c.step-stepped.ensures.stands;
       within = omega (arith, c.loop-steps-test.true);
-      counted = stop-counted c.step-stepped.result c.in-Some.why c.loop-steps.steps c.args.most y;
-      asked = λ taken. stop-asked (g.H.Asks.stops c.args.host.now) c.step-stepped.result c.in-Some.why _ y;
-      passed = λ taken. stop-passed (g.H.Asks.stops c.args.host.now) c.step-stepped.result c.in-Some.why c.loop-steps.steps _ _ _ y (i.passed taken);
+      counted = stop-counted c.step-stepped.result c.why_of.result c.loop-steps.steps c.args.most y;
+      asked = λ taken. stop-asked (g.H.Asks.stops c.args.host.now) c.step-stepped.result c.why_of.result _ y;
+      passed = λ taken. stop-passed (g.H.Asks.stops c.args.host.now) c.step-stepped.result c.why_of.result c.loop-steps.steps _ _ _ y (i.passed taken);
     }
 
 pub returns-then-stops_at : goal.returns-then-stops_at
@@ -50,7 +50,7 @@ returns-then-stops_at g c =
     let x = g.W.World.world ts c.step-stepped.new.world in
     let i = c.loop-steps.invariant in
     let going_on = going c.loop-steps.point c.in_default.not-Done in
-    let n = next-runs ts t c.args.root c.args.stack.now c.args.point.now w c.args.context.now c.loop-steps.steps c.loop-steps.stack c.step-stepped.new.stack c.loop-steps.point c.step-stepped.new.point v x c.loop-steps.context c.step-stepped.new.context c.step-stepped.result i.run going_on (sym c.why_of.ensures ∙ c.in_default-why_of.is) c.step-stepped.ensures.told c.step-stepped.ensures.stands in
+    let n = next-runs ts t c.args.root c.args.stack.now c.args.point.now w c.args.context.now c.loop-steps.steps c.loop-steps.stack c.step-stepped.new.stack c.loop-steps.point c.step-stepped.new.point v x c.loop-steps.context c.step-stepped.new.context c.step-stepped.result i.run going_on (goes-none c.step-stepped.result (sym c.is_stop.ensures ∙ c.if-is_stop.false)) c.step-stepped.ensures.told c.step-stepped.ensures.stands in
     record {
       told = n.runs;
       left = n.left;
@@ -70,7 +70,7 @@ loop-steps-preserved g c =
     let x = g.W.World.world ts c.step-stepped.new.world in
     let i = c.loop-steps.invariant in
     let going_on = going c.loop-steps.point c.in_default.not-Done in
-    let n = next-runs ts t c.args.root c.args.stack.now c.args.point.now w c.args.context.now c.loop-steps.steps c.loop-steps.stack c.step-stepped.new.stack c.loop-steps.point c.step-stepped.new.point v x c.loop-steps.context c.step-stepped.new.context c.step-stepped.result i.run going_on (sym c.why_of.ensures ∙ c.in_default-why_of.is) c.step-stepped.ensures.told c.step-stepped.ensures.stands in
+    let n = next-runs ts t c.args.root c.args.stack.now c.args.point.now w c.args.context.now c.loop-steps.steps c.loop-steps.stack c.step-stepped.new.stack c.loop-steps.point c.step-stepped.new.point v x c.loop-steps.context c.step-stepped.new.context c.step-stepped.result i.run going_on (goes-none c.step-stepped.result (sym c.is_stop.ensures ∙ c.if-is_stop.false)) c.step-stepped.ensures.told c.step-stepped.ensures.stands in
     record {
       run = n;
       passed = λ taken. more-passed (g.H.Asks.stops c.args.host.now) c.loop-steps.steps _ _ _ (i.passed taken) (asked-so (g.H.Asks.stops c.args.host.now) _ _ _ (n.runs taken) (c.stops_at.ensures ts x taken) c.if-stops_at.false);

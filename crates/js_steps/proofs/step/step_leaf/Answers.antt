@@ -1,130 +1,60 @@
-use Rattle.std.proofs.Common.{◌∙◌, sym, ap, [], None}
-use Rattle.std.proofs.lemmas.Result.{on_ok_weaker}
-use Rattle.js_heap.specs.declared.value.Value.TheVariants as values
-use Rattle.js_semantics.specs.Terms.{done}
-use Rattle.js_semantics.specs.State.{travels, goes, printed_values}
+use Rattle.std.proofs.Common.{sym, refl, [], None}
 use Rattle.js_operations.specs.Contexts.{state_of}
-use Rattle.js_steps.specs.declared.answer.Answer.TheVariants as kinds
-use Rattle.js_steps.specs.declared.stepped.Stepped.TheVariants as steppeds
-use Rattle.js_steps.specs.Answers.{reduced_term}
 use Rattle.js_steps.specs.Rows.{redex}
-use Rattle.js_steps.proofs.ConcludeLemmas.{says-as, went-follows, went-stands, raise-told, effect-told, full-told, goes-on-weaker}
+use Rattle.js_steps.specs.Stepping.{answer_of}
+use Rattle.js_steps.proofs.ConcludeLemmas.{gives-told, uncovers-told, went-stands, goes-on-weaker}
 use Rattle.js_steps.proofs.TravelLemmas.{went-stood}
-use Rattle.js_steps.proofs.StepLemmas.{node_redex, leaf-told, leaf-scope, told-same, nothing-told}
+use Rattle.js_steps.proofs.StepLemmas.{node_redex, leaf-told, leaf-scope}
 use Rattle.js_steps.proofs.step.step_leaf.Goals as goal
 
-pub returns-in-Follows-clause-told : goal.returns-in-Follows-clause-told
-returns-in-Follows-clause-told g c = λ taken.
+pub returns-in-Gives-clause-told : goal.returns-in-Gives-clause-told
+returns-in-Gives-clause-told g c = λ taken.
     let ts = c.args.names.now in
     let t = c.args.table.now in
     let root = c.args.root in
     let old = c.args.stack.now in
     let r = c.reduce-reduced.result in
-    let a = c.answer_of.result in
     let w = redex (node_redex c.in-Some.node c.scope.result) [] None in
     let s = state_of (g.W.World.world ts c.args.world.now) c.args.context.now taken in
     let u = state_of (g.W.World.world ts c.reduce-reduced.new.world) c.reduce-reduced.new.context taken in
-    leaf-told ts t root old c.follow_leaf.new.stack c.follow_leaf.new.point c.args.n c.in-Some.node c.scope.result r a c.went_of.result s u u c.requires.table (sym c.in-Some.ensures) c.requires.leaf c.scope.ensures c.requires.scoped c.answer_of.ensures
+    leaf-told ts t root old c.give.new.stack c.give.new.point c.args.n c.in-Some.node c.scope.result r (answer_of r) c.went_of.result s u u c.requires.table (sym c.in-Some.ensures) c.requires.leaf c.scope.ensures c.requires.scoped refl
     (λ outer. c.reduce-reduced.ensures outer taken)
-    (λ m h. went-follows c.follow_leaf.result c.went_of.result ts t root old c.follow_leaf.new.stack c.follow_leaf.new.point m (λ names. reduced_term names t w r) u c.went_of.ensures (says-as ts t w m r a kinds.Follows u c.in-Follows.is h) c.follow_leaf.ensures.term)
+    (λ m h. gives-told c.give.result c.went_of.result ts t root old c.give.new.stack c.give.new.point m w r c.in-Gives.value u c.went_of.ensures c.in-Gives.is h c.give.ensures.term)
 
-pub returns-in-Follows-clause-stands : goal.returns-in-Follows-clause-stands
-returns-in-Follows-clause-stands g c = goes-on-weaker c.went_of.result (λ k. k c.requires.scoped) (went-stands c.follow_leaf.result c.went_of.result c.args.table.now c.args.root c.args.stack.now c.follow_leaf.new.stack c.follow_leaf.new.point c.went_of.ensures c.follow_leaf.ensures.at
-    (on_ok_weaker c.follow_leaf.result (λ k. k (leaf-scope c.args.table.now c.args.n c.in-Some.node c.scope.result c.args.root c.args.stack.now c.requires.table (sym c.in-Some.ensures) c.scope.ensures)) c.follow_leaf.ensures.scoped))
+pub returns-in-Gives-clause-stands : goal.returns-in-Gives-clause-stands
+returns-in-Gives-clause-stands g c = went-stood c.give.result c.went_of.result c.args.table.now c.args.root c.args.stack.now c.give.new.stack c.give.new.point c.went_of.ensures c.give.ensures.at c.give.ensures.scoped c.requires.scoped
 
-pub returns-in-Raises-clause-told : goal.returns-in-Raises-clause-told
-returns-in-Raises-clause-told g c = λ taken.
+pub returns-in-Uncovers-clause-told : goal.returns-in-Uncovers-clause-told
+returns-in-Uncovers-clause-told g c = λ taken.
     let ts = c.args.names.now in
     let t = c.args.table.now in
     let root = c.args.root in
     let old = c.args.stack.now in
     let r = c.reduce-reduced.result in
-    let a = c.answer_of.result in
     let w = redex (node_redex c.in-Some.node c.scope.result) [] None in
     let s = state_of (g.W.World.world ts c.args.world.now) c.args.context.now taken in
     let u = state_of (g.W.World.world ts c.reduce-reduced.new.world) c.reduce-reduced.new.context taken in
-    leaf-told ts t root old old c.raise.new.point c.args.n c.in-Some.node c.scope.result r a c.raise.result s u u c.requires.table (sym c.in-Some.ensures) c.requires.leaf c.scope.ensures c.requires.scoped c.answer_of.ensures
+    leaf-told ts t root old c.uncover.new.stack c.uncover.new.point c.args.n c.in-Some.node c.scope.result r (answer_of r) c.went_of-in-Uncovers.result s u u c.requires.table (sym c.in-Some.ensures) c.requires.leaf c.scope.ensures c.requires.scoped refl
     (λ outer. c.reduce-reduced.ensures outer taken)
-    (λ m h. raise-told ts t root old c.in-Raises.value c.reduce-reduced.new.context (g.W.World.world ts c.reduce-reduced.new.world) taken c.raise.result c.raise.new.point m c.raise.ensures (says-as ts t w m r a (kinds.Raises c.in-Raises.value) u c.in-Raises.is h))
+    (λ m h. uncovers-told c.uncover.result c.went_of-in-Uncovers.result ts t root old c.uncover.new.stack c.uncover.new.point m w r c.in-Uncovers.node u c.went_of-in-Uncovers.ensures c.in-Uncovers.is h c.uncover.ensures.term)
 
-pub returns-in-Travels-clause-told : goal.returns-in-Travels-clause-told
-returns-in-Travels-clause-told g c = λ taken.
-    let ts = c.args.names.now in
-    let t = c.args.table.now in
-    let root = c.args.root in
-    let old = c.args.stack.now in
-    let r = c.reduce-reduced.result in
-    let a = c.answer_of.result in
-    let w = redex (node_redex c.in-Some.node c.scope.result) [] None in
-    let s = state_of (g.W.World.world ts c.args.world.now) c.args.context.now taken in
-    let u = state_of (g.W.World.world ts c.reduce-reduced.new.world) c.reduce-reduced.new.context taken in
-    let v = state_of (g.W.World.world ts c.travel.new.world) c.travel.new.context taken in
-    leaf-told ts t root old c.travel.new.stack c.travel.new.point c.args.n c.in-Some.node c.scope.result r a c.travel.result s u v c.requires.table (sym c.in-Some.ensures) c.requires.leaf c.scope.ensures c.requires.scoped c.answer_of.ensures
-    (λ outer. c.reduce-reduced.ensures outer taken)
-    (λ m h. told-same ts t root old c.travel.new.stack c.travel.new.point m (travels c.in-Travels.completion u) c.travel.result v (says-as ts t w m r a (kinds.Travels c.in-Travels.completion) u c.in-Travels.is h) (c.travel.ensures.told taken))
+pub returns-in-Uncovers-clause-stands : goal.returns-in-Uncovers-clause-stands
+returns-in-Uncovers-clause-stands g c = goes-on-weaker c.went_of-in-Uncovers.result (λ k. k c.requires.scoped) (went-stands c.uncover.result c.went_of-in-Uncovers.result c.args.table.now c.args.root c.args.stack.now c.uncover.new.stack c.uncover.new.point c.went_of-in-Uncovers.ensures c.uncover.ensures.at c.uncover.ensures.scoped)
 
-pub returns-in-Resumes-clause-told : goal.returns-in-Resumes-clause-told
-returns-in-Resumes-clause-told g c = λ taken.
-    let ts = c.args.names.now in
-    let t = c.args.table.now in
-    let root = c.args.root in
-    let old = c.args.stack.now in
-    let r = c.reduce-reduced.result in
-    let a = c.answer_of.result in
-    let w = redex (node_redex c.in-Some.node c.scope.result) [] None in
-    let s = state_of (g.W.World.world ts c.args.world.now) c.args.context.now taken in
-    let u = state_of (g.W.World.world ts c.reduce-reduced.new.world) c.reduce-reduced.new.context taken in
-    leaf-told ts t root old c.give.new.stack c.give.new.point c.args.n c.in-Some.node c.scope.result r a c.went_of-in-Resumes.result s u u c.requires.table (sym c.in-Some.ensures) c.requires.leaf c.scope.ensures c.requires.scoped c.answer_of.ensures
-    (λ outer. c.reduce-reduced.ensures outer taken)
-    (λ m h. nothing-told ts t root old c.give.new.stack c.give.new.point m c.went_of-in-Resumes.result c.give.result u c.went_of-in-Resumes.ensures (says-as ts t w m r a kinds.Resumes u c.in-Resumes.is h) c.give.ensures.term)
+pub leave_leaf-requires-clause-inner : goal.leave_leaf-requires-clause-inner
+leave_leaf-requires-clause-inner g c = leaf-scope c.args.table.now c.args.n c.in-Some.node c.scope.result c.args.root c.args.stack.now c.requires.table (sym c.in-Some.ensures) c.scope.ensures
 
-pub returns-in-Resumes-clause-stands : goal.returns-in-Resumes-clause-stands
-returns-in-Resumes-clause-stands g c = went-stood c.give.result c.went_of-in-Resumes.result c.args.table.now c.args.root c.args.stack.now c.give.new.stack c.give.new.point c.went_of-in-Resumes.ensures c.give.ensures.at c.give.ensures.scoped c.requires.scoped
-
-pub returns-in-Prints-clause-told : goal.returns-in-Prints-clause-told
-returns-in-Prints-clause-told g c = λ taken.
-    let ts = c.args.names.now in
-    let t = c.args.table.now in
-    let root = c.args.root in
-    let old = c.args.stack.now in
-    let r = c.reduce-reduced.result in
-    let a = c.answer_of.result in
-    let w = redex (node_redex c.in-Some.node c.scope.result) [] None in
-    let s = state_of (g.W.World.world ts c.args.world.now) c.args.context.now taken in
-    let u = state_of (g.W.World.world ts c.reduce-reduced.new.world) c.reduce-reduced.new.context taken in
-    leaf-told ts t root old c.print.new.stack c.print.new.point c.args.n c.in-Some.node c.scope.result r a c.print.result s u u c.requires.table (sym c.in-Some.ensures) c.requires.leaf c.scope.ensures c.requires.scoped c.answer_of.ensures
-    (λ outer. c.reduce-reduced.ensures outer taken)
-    (λ m h. told-same ts t root old c.print.new.stack c.print.new.point m (goes (done values.Undefined) u (printed_values c.new.result.items)) c.print.result u (says-as ts t w m r a kinds.Prints u c.in-Prints.is h ∙ ap (λ vs. goes (done values.Undefined) u (printed_values vs)) (sym c.new.ensures.items)) (c.print.ensures.told ts root u))
-
-pub returns-in-Prints-clause-stands : goal.returns-in-Prints-clause-stands
-returns-in-Prints-clause-stands g c = goes-on-weaker c.print.result (λ k. k c.args.root c.requires.scoped) c.print.ensures.stands
-
-pub returns-in-Effect-clause-told : goal.returns-in-Effect-clause-told
-returns-in-Effect-clause-told g c = λ taken.
-    let ts = c.args.names.now in
-    let t = c.args.table.now in
-    let root = c.args.root in
-    let old = c.args.stack.now in
-    let r = c.reduce-reduced.result in
-    let a = c.answer_of.result in
-    let w = redex (node_redex c.in-Some.node c.scope.result) [] None in
-    let s = state_of (g.W.World.world ts c.args.world.now) c.args.context.now taken in
-    let u = state_of (g.W.World.world ts c.reduce-reduced.new.world) c.reduce-reduced.new.context taken in
-    leaf-told ts t root old old c.args.point.now c.args.n c.in-Some.node c.scope.result r a steppeds.Effect s u u c.requires.table (sym c.in-Some.ensures) c.requires.leaf c.scope.ensures c.requires.scoped c.answer_of.ensures
-    (λ outer. c.reduce-reduced.ensures outer taken)
-    (λ m h. effect-told ts t root old old c.args.point.now m u (says-as ts t w m r a kinds.Effect u c.in-Effect.is h))
-
-pub returns-in-Full-clause-told : goal.returns-in-Full-clause-told
-returns-in-Full-clause-told g c = λ taken.
-    let ts = c.args.names.now in
-    let t = c.args.table.now in
-    let root = c.args.root in
-    let old = c.args.stack.now in
-    let r = c.reduce-reduced.result in
-    let a = c.answer_of.result in
-    let w = redex (node_redex c.in-Some.node c.scope.result) [] None in
-    let s = state_of (g.W.World.world ts c.args.world.now) c.args.context.now taken in
-    let u = state_of (g.W.World.world ts c.reduce-reduced.new.world) c.reduce-reduced.new.context taken in
-    leaf-told ts t root old old c.args.point.now c.args.n c.in-Some.node c.scope.result r a (steppeds.Full c.in-Full.what) s u u c.requires.table (sym c.in-Some.ensures) c.requires.leaf c.scope.ensures c.requires.scoped c.answer_of.ensures
-    (λ outer. c.reduce-reduced.ensures outer taken)
-    (λ m h. full-told ts t root old old c.args.point.now c.in-Full.what m u (says-as ts t w m r a (kinds.Full c.in-Full.what) u c.in-Full.is h))
+pub returns-in_default-reduced : goal.returns-in_default-reduced
+returns-in_default-reduced g c = record {
+  told = λ taken.
+      let ts = c.args.names.now in
+      let t = c.args.table.now in
+      let r = c.reduce-reduced.result in
+      let s = state_of (g.W.World.world ts c.args.world.now) c.args.context.now taken in
+      let u = state_of (g.W.World.world ts c.reduce-reduced.new.world) c.reduce-reduced.new.context taken in
+      let v = state_of (g.W.World.world ts c.leave_leaf.new.world) c.leave_leaf.new.context taken in
+      leaf-told ts t c.args.root c.args.stack.now c.leave_leaf.new.stack c.leave_leaf.new.point c.args.n c.in-Some.node c.scope.result r (answer_of r) c.leave_leaf.result s u v c.requires.table (sym c.in-Some.ensures) c.requires.leaf c.scope.ensures c.requires.scoped refl
+      (λ outer. c.reduce-reduced.ensures outer taken)
+      (λ m h. c.leave_leaf.ensures.told taken m h);
+  stands = c.leave_leaf.ensures.stands;
+}

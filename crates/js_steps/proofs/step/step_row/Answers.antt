@@ -1,54 +1,41 @@
+use Rattle.std.proofs.Common.{refl}
 use Rattle.js_operations.specs.Contexts.{state_of}
-use Rattle.js_semantics.specs.State.{travels}
-use Rattle.js_steps.specs.declared.answer.Answer.TheVariants as kinds
-use Rattle.js_steps.specs.Answers.{resumed}
-use Rattle.js_steps.specs.Tasks.{kept_of}
+use Rattle.js_steps.specs.declared.reduced.Reduced.TheVariants as reduced
+use Rattle.js_steps.specs.Answers.{reduced_term}
 use Rattle.js_steps.specs.Stacks.{outer_of}
 use Rattle.js_steps.specs.Following.{innermost}
-use Rattle.js_steps.proofs.ConcludeLemmas.{says-as, goes-on-weaker}
-use Rattle.js_steps.proofs.StepLemmas.{row-told, told-same, told-behind}
+use Rattle.js_steps.specs.Stepping.{answer_of}
+use Rattle.js_steps.proofs.ConcludeLemmas.{says-of, went-follows, went-stands, goes-on-weaker}
+use Rattle.js_steps.proofs.StepLemmas.{row-told}
 use Rattle.js_steps.proofs.step.step_row.Goals as goal
 
-pub returns-in-Travels-clause-told : goal.returns-in-Travels-clause-told
-returns-in-Travels-clause-told g c = λ taken.
+pub returns-in-Gives-clause-told : goal.returns-in-Gives-clause-told
+returns-in-Gives-clause-told g c = λ taken.
     let ts = c.args.names.now in
     let t = c.args.table.now in
     let root = c.args.root in
     let old = c.args.stack.now in
     let r = c.reduce-reduced.result in
-    let a = c.answer_of.result in
+    let v = reduced.Gives c.in-Gives.value in
     let s = state_of (g.W.World.world ts c.args.world.now) c.args.context.now taken in
     let u = state_of (g.W.World.world ts c.reduce-reduced.new.world) c.reduce-reduced.new.context taken in
-    let v = state_of (g.W.World.world ts c.travel.new.world) c.travel.new.context taken in
-    let x = c.in-Travels.completion in
-    row-told ts t root old c.travel.new.stack c.travel.new.point c.in-Some.task c.values.result.now c.extra-extra.result r a c.travel.result s u v c.in-Some.ensures.some c.requires.row c.requires.scoped c.values.ensures c.extra-extra.ensures c.answer_of.ensures
+    row-told ts t root old c.follow_value.new.stack c.follow_value.new.point c.in-Some.task c.values.result.now c.extra-extra.result r (answer_of r) c.went_of.result s u u c.in-Some.ensures.some c.requires.row c.requires.scoped c.values.ensures c.extra-extra.ensures refl
     (λ outer. c.reduce-reduced.ensures outer taken)
-    (λ m h. told-behind ts t root old c.pop.new.self c.travel.new.stack c.travel.new.point m (travels x u) c.travel.result v c.pop.ensures.outer (says-as ts t (innermost old) m r a (kinds.Travels x) u c.in-Travels.is h) (c.travel.ensures.told taken))
+    (λ m h. went-follows c.follow_value.result c.went_of.result ts t root (outer_of old) c.follow_value.new.stack c.follow_value.new.point m (λ names. reduced_term names t (innermost old) v) u c.went_of.ensures (says-of ts t (innermost old) m r v u c.in-Gives.is h) c.follow_value.ensures.term)
 
-pub returns-in-Resumes-clause-told : goal.returns-in-Resumes-clause-told
-returns-in-Resumes-clause-told g c = λ taken.
-    let ts = c.args.names.now in
-    let t = c.args.table.now in
-    let root = c.args.root in
-    let old = c.args.stack.now in
-    let r = c.reduce-reduced.result in
-    let a = c.answer_of.result in
-    let s = state_of (g.W.World.world ts c.args.world.now) c.args.context.now taken in
-    let u = state_of (g.W.World.world ts c.reduce-reduced.new.world) c.reduce-reduced.new.context taken in
-    let v = state_of (g.W.World.world ts c.resume.new.world) c.resume.new.context taken in
-    row-told ts t root old c.resume.new.stack c.resume.new.point c.in-Some.task c.values.result.now c.extra-extra.result r a c.resume.result s u v c.in-Some.ensures.some c.requires.row c.requires.scoped c.values.ensures c.extra-extra.ensures c.answer_of.ensures
-    (λ outer. c.reduce-reduced.ensures outer taken)
-    (λ m h. told-same ts t root (outer_of old) c.resume.new.stack c.resume.new.point m (resumed (kept_of (innermost old).extra) u) c.resume.result v (says-as ts t (innermost old) m r a kinds.Resumes u c.in-Resumes.is h) (c.resume.ensures.told taken))
+pub returns-in-Gives-clause-stands : goal.returns-in-Gives-clause-stands
+returns-in-Gives-clause-stands g c = goes-on-weaker c.went_of.result (λ k. k c.requires.scoped) (went-stands c.follow_value.result c.went_of.result c.args.table.now c.args.root c.args.stack.now c.follow_value.new.stack c.follow_value.new.point c.went_of.ensures c.follow_value.ensures.at c.follow_value.ensures.scoped)
 
-pub returns-in_default-answer_of : goal.returns-in_default-answer_of
-returns-in_default-answer_of g c = record {
+pub returns-in_default-reduced : goal.returns-in_default-reduced
+returns-in_default-reduced g c = record {
   told = λ taken.
       let ts = c.args.names.now in
-      let w = g.W.World.world ts c.reduce-reduced.new.world in
+      let r = c.reduce-reduced.result in
       let s = state_of (g.W.World.world ts c.args.world.now) c.args.context.now taken in
-      let u = state_of w c.reduce-reduced.new.context taken in
-      row-told ts c.args.table.now c.args.root c.args.stack.now c.conclude.new.stack c.conclude.new.point c.in-Some.task c.values.result.now c.extra-extra.result c.reduce-reduced.result c.answer_of.result c.conclude.result s u u c.in-Some.ensures.some c.requires.row c.requires.scoped c.values.ensures c.extra-extra.ensures c.answer_of.ensures
+      let u = state_of (g.W.World.world ts c.reduce-reduced.new.world) c.reduce-reduced.new.context taken in
+      let v = state_of (g.W.World.world ts c.leave_row.new.world) c.leave_row.new.context taken in
+      row-told ts c.args.table.now c.args.root c.args.stack.now c.leave_row.new.stack c.leave_row.new.point c.in-Some.task c.values.result.now c.extra-extra.result r (answer_of r) c.leave_row.result s u v c.in-Some.ensures.some c.requires.row c.requires.scoped c.values.ensures c.extra-extra.ensures refl
       (λ outer. c.reduce-reduced.ensures outer taken)
-      (λ m h. c.conclude.ensures.told ts m w taken h);
-  stands = goes-on-weaker c.conclude.result (λ k. k c.requires.scoped) c.conclude.ensures.stands;
+      (λ m h. c.leave_row.ensures.told taken m h);
+  stands = c.leave_row.ensures.stands;
 }
