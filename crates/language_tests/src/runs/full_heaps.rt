@@ -76,7 +76,7 @@ const UNITS_MADE: [(&str, &str); 24] = [
     // what is removed is given back
     (
         "let p = {};#p.ab = 1; delete p.ab; p[n] = 0;",
-        "ended\n99\n",
+        "ended\n100\n",
     ),
     (
         "let p = [1];#p.pop(); p.push(1); if (n === 2000) throw 1;",
