@@ -1,0 +1,9 @@
+pub mod PartLemmas
+pub mod ReturnLemmas
+pub mod StepLemmas
+pub mod MakerLemmas
+pub mod TreeLemmas
+pub mod RunLemmas
+pub mod ActiveLemmas
+pub mod StartLemmas
+pub mod StrengthLemmas

@@ -1,0 +1,144 @@
+-- Which source each part of a term belongs to: the places at which the run can arrive in a part are marks of its source.
+use Rattle.std.specs.Prelude.{◌≡◌, ◌⊎◌, ℕ, List, [], ◌∷◌}
+use Rattle.js_semantics.specs.declared.form.Source.{Source}
+use Rattle.js_semantics.specs.declared.form.Source.TheVariants.{Script as script_source}
+use Rattle.js_semantics.specs.declared.form.Mark.{Mark}
+use Rattle.js_semantics.specs.declared.form.Mark.TheVariants.{Start as start, BeforeEnd as before_end}
+use Rattle.js_semantics.specs.declared.form.Form.{Form}
+use Rattle.js_semantics.specs.declared.form.Form.TheVariants.{Scripts as scripts, Script as script, Sequence as sequence, Enter as enter, EnterDebugger as enter_debugger, EnterFor as enter_for, EnterForOf as enter_for_of, Frame as frame, Return as return_, Function as function, Method as method, Call as call, CallOf as call_of}
+use Rattle.js_semantics.specs.Terms.{Term, done, standing, part, Terms, end, more}
+use Rattle.js_semantics.specs.State.{Frame, Move, goes, travels, has_effect, is_full}
+use Rattle.js_semantics.specs.Functions.{Program}
+use Rattle.js_semantics.specs.Run.{Run, running, over}
+use Rattle.locations.specs.declared.spot.SpotKind.{SpotKind}
+use Rattle.locations.specs.declared.spot.SpotKind.TheVariants as kinds
+use Rattle.locations.specs.declared.marks.Marked.{Marked}
+
+-- ---- parts that wait
+
+-- a mark of some kind
+abbrev pub HasMark : (Marked → Type 0) → Mark → Type 0
+HasMark P m = (kind : SpotKind) × P (record { mark = m; kind = kind })
+
+-- an arrow's expression body, before it is entered and after: it ends by its `return`, and never comes to its end
+abbrev pub Returns : Term → Type 0
+Returns (part return_ now later) = Unit {0}
+Returns (part (enter node) now (more t ts)) = Returns t
+Returns (part sequence (more t ts) later) = Returns t
+Returns _ = ⊥
+
+abbrev pub FirstReturns : Terms → Type 0
+FirstReturns (more t ts) = Returns t
+FirstReturns end = ⊥
+
+-- a body that may come to its end does so at the closing brace of its function
+abbrev pub Closes : (Marked → Type 0) → ℕ → Terms → Type 0
+Closes P node body = FirstReturns body ⊎ P (record { mark = before_end node 1; kind = kinds.Return })
+
+abbrev pub FormBelongs : (Marked → Type 0) → Form → Terms → Type 0
+FormBelongs P (script number names) later = ⊥
+FormBelongs P (frame node a) later = ⊥
+FormBelongs P (enter node) later = HasMark P (start node)
+FormBelongs P (enter_debugger node) later = P (record { mark = start node; kind = kinds.Debugger })
+FormBelongs P (enter_for node constant names) later = HasMark P (start node)
+FormBelongs P (enter_for_of node b) later = HasMark P (start node)
+FormBelongs P (function f) later = Closes P f.node later
+FormBelongs P (method f) later = Closes P f.node later
+FormBelongs P (call place node) later = P (record { mark = place; kind = kinds.Call })
+FormBelongs P (call_of r place node) later = P (record { mark = place; kind = kinds.Call })
+FormBelongs P f later = Unit {0}
+
+-- a part of a source with these marks that has no `frame`
+abbrev mutual
+  pub Belongs : (Marked → Type 0) → Term → Type 0
+  Belongs P (done v) = Unit {0}
+  Belongs P (standing v place) = Unit {0}
+  Belongs P (part f now later) = FormBelongs P f later × AllBelong P now × AllBelong P later
+
+  pub AllBelong : (Marked → Type 0) → Terms → Type 0
+  AllBelong P end = Unit {0}
+  AllBelong P (more t ts) = Belongs P t × AllBelong P ts
+
+-- ---- the part about to be reduced, and what is around it
+
+-- the sources whose code runs, with their marks
+pub record Sources : Type 1 where
+  pub runs : Source → Type 0
+  pub marks : Source → Marked → Type 0
+
+-- the source of the top frame
+abbrev pub top : List Source → Source
+top [] = script_source 0
+top (source ∷ sources) = source
+
+abbrev pub top_marks : Sources → List Source → Marked → Type 0
+top_marks R sources = R.marks (top sources)
+
+abbrev pub sources_of : List Frame → List Source
+sources_of [] = []
+sources_of (f ∷ fs) = f.source ∷ sources_of fs
+
+-- A term within the frames of these sources, where all active frames are of those: each `frame` around the part about to
+-- be reduced is one frame more, and what is within it belongs to the source of that frame.
+abbrev mutual
+  pub Stands : Sources → List Source → Term → List Source → Type 0
+  Stands R around (done v) all = all ≡ around
+  Stands R around (standing v place) all = all ≡ around
+  Stands R around (part (frame node a) now later) all = (source : Source) × R.runs source × Closes (R.marks source) node now × AllStand R (source ∷ around) now all × AllBelong (top_marks R around) later
+  Stands R around (part f now later) all = FormBelongs (top_marks R around) f later × AllStand R around now all × AllBelong (top_marks R around) later
+
+  pub AllStand : Sources → List Source → Terms → List Source → Type 0
+  AllStand R around end all = all ≡ around
+  AllStand R around (more (done v) ts) all = AllStand R around ts all
+  AllStand R around (more (standing v place) ts) all = (all ≡ around) × AllBelong (top_marks R around) ts
+  AllStand R around (more (part f now later) ts) all = Stands R around (part f now later) all × AllBelong (top_marks R around) ts
+
+-- what a completion leaves behind has no frame any more
+abbrev pub MoveStands : Sources → List Source → Move Term → Type 0
+MoveStands R around (goes t s told) = Stands R around t (sources_of s.frames)
+MoveStands R around (travels c s) = sources_of s.frames ≡ around
+MoveStands R around (has_effect s) = Unit {0}
+MoveStands R around (is_full what s) = Unit {0}
+
+-- ---- programs
+
+-- a script's tree, by which the code of its functions is found
+abbrev pub TreeBelongs : Sources → Source → Term → Type 0
+TreeBelongs R source (part (script number names) now later) = R.runs source × AllBelong (R.marks source) now × AllBelong (R.marks source) later
+TreeBelongs R source _ = ⊥
+
+abbrev pub ProgramBelongs : Sources → Program → Type 0
+ProgramBelongs R [] = Unit {0}
+ProgramBelongs R (t ∷ ts) = TreeBelongs R t.source t.tree × ProgramBelongs R ts
+
+-- ---- scripts
+
+-- a script that hasn't begun
+abbrev pub Waits : Sources → Term → Type 0
+Waits R (part (script number names) end later) = R.runs (script_source number) × AllBelong (R.marks (script_source number)) later
+Waits R _ = ⊥
+
+abbrev pub AllWait : Sources → Terms → Type 0
+AllWait R end = Unit {0}
+AllWait R (more t ts) = Waits R t × AllWait R ts
+
+-- a script that hasn't begun, or the one in the bottom frame
+abbrev pub ScriptStands : Sources → Source → Term → List Source → Type 0
+ScriptStands R source (part (script number names) now later) all = (all ≡ source ∷ []) × Waits R (part (script number names) now later)
+ScriptStands R source t all = Stands R (source ∷ []) t all
+
+-- scripts one after another: some are over, one runs in a bottom frame of its source, and others wait
+abbrev pub ScriptsStand : Sources → Source → Terms → List Source → Type 0
+ScriptsStand R source end all = all ≡ source ∷ []
+ScriptsStand R source (more (done v) ts) all = ScriptsStand R source ts all
+ScriptsStand R source (more (standing v place) ts) all = (all ≡ source ∷ []) × AllWait R ts
+ScriptsStand R source (more (part f now later) ts) all = ScriptStands R source (part f now later) all × AllWait R ts
+
+-- the term of a run of scripts
+abbrev pub RunningStands : Sources → Term → List Source → Type 0
+RunningStands R (part scripts now later) all = (source : Source) × R.runs source × ScriptsStand R source now all
+RunningStands R _ all = ⊥
+
+abbrev pub RunStands : Sources → Run → Type 0
+RunStands R (running t s) = RunningStands R t (sources_of s.frames)
+RunStands R (over f s) = Unit {0}
