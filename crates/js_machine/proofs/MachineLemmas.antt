@@ -1,8 +1,8 @@
 -- What a step and a run make of a machine.
-use Rattle.std.proofs.Common.{◌≡◌, ℕ, List, [], Option, None, Some, refl, sym, ap, subst, ◌∙◌}
+use Rattle.std.proofs.Common.{◌≡◌, false, ℕ, List, [], Option, None, Some, refl, sym, ap, subst, ◌∙◌}
 use Rattle.js_heap.specs.declared.value.Addr.{Addr}
 use Rattle.js_heap.specs.declared.value.Value.{Value}
-use Rattle.js_semantics.specs.Terms.{Term, done}
+use Rattle.js_semantics.specs.Terms.{Term, done, standing, part, is_done}
 use Rattle.js_semantics.specs.State.{State, Move}
 use Rattle.js_semantics.specs.Functions.{Program}
 use Rattle.js_semantics.specs.Next.{next}
@@ -18,9 +18,9 @@ use Rattle.js_steps.specs.declared.task.Point.{Point}
 use Rattle.js_steps.specs.declared.task.Point.TheVariants as points
 use Rattle.js_steps.specs.Tasks.{Wide}
 use Rattle.js_steps.specs.Points.{term_at, IsAt}
-use Rattle.js_steps.specs.Running.{RunsTo, IfGoes}
+use Rattle.js_steps.specs.Running.{RunsTo, IfGoes, IsRunning}
 use Rattle.js_steps.specs.Stepping.{Tells, finish_of, IfGoesOn, StandsIn, IsGoing}
-use Rattle.js_steps.proofs.RunLemmas.{RunsBy, at-open, step-of, told-runs}
+use Rattle.js_steps.proofs.RunLemmas.{RunsBy, at-open, going, step-of, told-runs}
 use Rattle.js_machine.specs.declared.end.End.{End}
 use Rattle.js_machine.specs.declared.end.End.TheVariants as ends
 use Rattle.js_machine.specs.Machines.{run_by, IsLeft, IsKept, finish_at, end_of, end_of_run, StandsUntilEnd}
@@ -111,3 +111,14 @@ done-over ts table ws p v s e at =
     ap (λ x. run_of (term_at ts table ws x) s) e
     ∙ ap (λ x. run_of (term_at ts table x (points.Done v)) s) (subst P e at)
     ∙ ap (λ x. run_of x s) (done_at ts table v)
+
+-- ---- no end yet
+
+open_runs : (t : Term) (s : State) → is_done t ≡ false → IsRunning (run_of t s)
+open_runs (done v) s h = absurd cc
+open_runs (standing v place) s h = tt
+open_runs (part f now later) s h = tt
+
+-- something is left to reduce
+pub left-running : (ts : List (List ℕ)) (table : NodeTable) (ws : List Wide) (p : Point) (s : State) → IsAt table ws p → ((v : Value) → p ≡ points.Done v → ⊥) → IsRunning (run_of (term_at ts table ws p) s)
+left-running ts table ws p s at h = open_runs (term_at ts table ws p) s (at-open ts table ws p at (going p h))

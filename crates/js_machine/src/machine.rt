@@ -1,13 +1,13 @@
 //! The machine of a run.
 
-ghost use Rattle.std.specs.Prelude.{◌≡◌, ◌≤◌, ℕ, List, [], None, IfOk, IfSome};
+ghost use Rattle.std.specs.Prelude.{◌≡◌, ◌≤◌, ℕ, List, [], None, IfOk, IfSome, IfNone};
 ghost use Rattle.js_heap.specs.BuiltIns.{script_scope};
 ghost use Rattle.js_heap.specs.World.{World as AnyWorld};
 ghost use Rattle.js_semantics.specs.Next.{next};
 ghost use Rattle.js_semantics.specs.Run.{over, step_in, steps_in};
 ghost use Rattle.js_semantics.specs.Sources.{terms_of_scripts};
 ghost use Rattle.js_terms.specs.Views.{terms_view};
-ghost use Rattle.js_steps.specs.Running.{RunsFor, CountsAs, IsAsked, HasPassed, passed_steps};
+ghost use Rattle.js_steps.specs.Running.{IsRunning, RunsFor, CountsAs, IsAsked, HasPassed, passed_steps};
 ghost use Rattle.js_steps.specs.Stepping.{Tells, finish_of};
 ghost use Rattle.js_machine.specs.Machines.{program_of, term_of, state_of, run_at, IsGoing, IsKept, finish_at, end_of, end_of_run, HasSameCode};
 ghost use Rattle.js_machine.specs.Starts.{IsStarted};
@@ -208,6 +208,8 @@ impl Machine {
     pub fn finished(&self) -> Option<Finish>
         ensures finish { result ≡ finish_at self.now.ended self.now.point }
         ensures over { IfSome result (λ f. (w : AnyWorld) (taken : List (List ℕ)) → run_at self.now w taken ≡ over (finish_of f) (state_of self.now w taken)) }
+        // Where it hasn't, and nothing else ended it, something is left to reduce.
+        ensures left { IfNone result (self.now.ended ≡ None → (w : AnyWorld) (taken : List (List ℕ)) → IsRunning (run_at self.now w taken)) }
     {
         match self.end {
             Some(End::Finished(finish)) => Some(finish),
