@@ -1,0 +1,72 @@
+-- The breakpoints of a session.
+use Rattle.std.specs.Prelude.{◌≡◌, ℕ, Bool, true, false, not, List, [], ◌∷◌, ◌++◌, length, filter, nat_le, bytes_eq, if◌then◌else◌, Option, Some, None, Result, Ok, Err}
+use Rattle.std.specs.List.{list_any}
+use Rattle.cdp_text.specs.declared.position.Place.{Place}
+use Rattle.js_tree.specs.declared.script.Script.{Script}
+use Rattle.breakpoints.specs.declared.breakpoint.Breakpoint.{Breakpoint}
+use Rattle.breakpoints.specs.declared.fault.AddFault.{AddFault}
+use Rattle.breakpoints.specs.declared.fault.AddFault.TheVariants as faults
+use Rattle.breakpoints.specs.Ids.{place_id}
+use Rattle.breakpoints.specs.Resolving.{resolved_at}
+use Rattle.breakpoints.specs.Hits.{hits_in}
+
+-- the breakpoints in the order in which they were set, and whether they stop the program
+pub record State : Type 0 where
+  pub set : List Breakpoint
+  pub active : Bool
+
+-- as many as may be
+abbrev pub most : ℕ
+most = 1000
+
+abbrev pub none_set : State
+none_set = record { set = []; active = true }
+
+abbrev pub has_id : List ℕ → Breakpoint → Bool
+has_id id b = bytes_eq b.id id
+
+-- ---- setting
+
+-- why no breakpoint of this id is set, if none is
+abbrev pub fault_of : List ℕ → State → Option AddFault
+fault_of id s = if list_any (has_id id) s.set then Some (faults.Exists id) else if nat_le most (length s.set) then Some (faults.Full most) else None
+
+-- the same of one at a place
+abbrev pub fault_for : Option Place → Place → State → Option AddFault
+fault_for None place s = Some faults.Unresolved
+fault_for (Some resolved) place s = fault_of (place_id place) s
+
+abbrev pub fault_at : Place → List Script → State → Option AddFault
+fault_at place scripts s = fault_for (resolved_at place scripts) place s
+
+-- what is answered where this is the fault, or none is; want of memory says nothing
+abbrev pub Answers : {A : Type 0} → Option AddFault → Result A AddFault → Type 0
+Answers fault (Ok x) = fault ≡ None
+Answers fault (Err faults.Memory) = Unit {0}
+Answers fault (Err f) = fault ≡ Some f
+
+-- one breakpoint more
+abbrev pub with_breakpoint : Breakpoint → State → State
+with_breakpoint b s = record s { set = s.set ++ b ∷ [] }
+
+-- a state has one breakpoint more, of this id and condition, at these places
+pub record Adds (id : List ℕ) (condition : Option (List ℕ)) (places : List Place) (old new : State) : Type 0 where
+  pub breakpoint : Breakpoint
+  pub id_is : breakpoint.id ≡ id
+  pub condition_is : breakpoint.condition ≡ condition
+  pub places_are : breakpoint.places.items ≡ places
+  pub added : new ≡ with_breakpoint breakpoint old
+
+-- ---- removing
+
+abbrev pub has_another_id : List ℕ → Breakpoint → Bool
+has_another_id id b = not (has_id id b)
+
+abbrev pub without : List ℕ → State → State
+without id s = record s { set = filter (has_another_id id) s.set }
+
+-- ---- hits
+
+-- where breakpoints aren't active, none is hit
+abbrev pub hits_at : Place → State → List Breakpoint
+hits_at place s = if s.active then hits_in place s.set else []

@@ -1,0 +1,5 @@
+pub mod Ids
+pub mod Resolving
+pub mod Found
+pub mod Hits
+pub mod Breakpoints

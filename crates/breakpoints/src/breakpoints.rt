@@ -1,0 +1,175 @@
+//! The breakpoints of a session.
+
+ghost use Rattle.std.specs.Prelude.{◌≡◌, ◌∷◌, [], map, filter, OnErr, OnOk, IfOk, Some};
+ghost use Rattle.std.specs.List.{list_any};
+ghost use Rattle.locations.specs.Locations.{break_locations};
+ghost use Rattle.breakpoints.specs.Breakpoints.{Adds, Answers, fault_at, fault_of, has_another_id, has_id, hits_at, none_set, without};
+ghost use Rattle.breakpoints.specs.Hits.{hits_in};
+ghost use Rattle.breakpoints.specs.Ids.{place_id, url_id};
+ghost use Rattle.breakpoints.specs.Resolving.{resolved_at, resolved_by_url};
+
+use crate::breakpoint::Breakpoint;
+use crate::fault::AddFault;
+use crate::hits::Hits;
+use crate::ids::{place_id, url_id};
+use crate::resolving::{resolve_at, resolve_by_url};
+use crate::script_spots::ScriptSpots;
+use cdp_text::position::{Place, Pos};
+use cdp_text::units::Units;
+use js_tree::script::Script;
+use std::alloc::Global;
+use std::marker::Model;
+
+/// As many breakpoints as a session may have.
+const MOST: usize = 1000;
+
+/// The breakpoints that a session has set, and whether they stop the program.
+#[derive(Debug, Drop)]
+pub struct Breakpoints {
+    alloc: Global,
+    list: Vec<Breakpoint>,
+    active: bool,
+}
+
+impl Model for Breakpoints {
+    ghost use Rattle.breakpoints.specs.Breakpoints.{State};
+
+    ghost Value = { State };
+
+    ghost view = { λ b. record { set = b.list.items; active = b.active } };
+}
+
+/// The breakpoints of another id stay.
+fn retain_others(list: &mut Vec<Breakpoint>, id: &[u16])
+    ensures { list.new.items ≡ filter (has_another_id id.now) list.old.items }
+{
+    list.retain(|b| !b.has_id(id));
+}
+
+impl Breakpoints {
+    /// No breakpoints; those that are set will be active. It takes no memory.
+    pub fn new(alloc: Global) -> Breakpoints
+        ensures { result ≡ none_set }
+    {
+        Breakpoints {
+            alloc,
+            list: Vec::new(alloc),
+            active: true,
+        }
+    }
+
+    /// Whether a breakpoint has an id.
+    fn has(&self, id: &[u16]) -> bool
+        ensures { result ≡ list_any (has_id id.now) self.now.set }
+    {
+        self.list.iter().any(|b| b.has_id(id))
+    }
+
+    /// Sets a breakpoint at these places.
+    fn add(
+        &mut self,
+        id: Units,
+        condition: Option<Units>,
+        places: Vec<Place>,
+    ) -> Result<(), AddFault>
+        ensures answers { Answers (fault_of id self.old) result }
+        ensures added { OnOk result (Adds id condition places.items self.old self.new) }
+        ensures kept { OnErr result (self.new ≡ self.old) }
+    {
+        if self.has(id.as_slice()) {
+            return Err(AddFault::Exists { id });
+        }
+        if self.list.len() >= MOST {
+            return Err(AddFault::Full { count: 1000 });
+        }
+        self.list.push(Breakpoint {
+            id,
+            condition,
+            places,
+        })?;
+        Ok(())
+    }
+
+    /// Sets a breakpoint at a position of the scripts of a URL, and answers where it resolved: in each of them that has a
+    /// break location at the position or behind it, in the order of the scripts. The spots are those of the scripts.
+    ///
+    /// # Errors
+    ///
+    /// `Exists` where a breakpoint has its id, `Full` at 1,000 breakpoints, `Memory`; then nothing has changed.
+    pub fn add_by_url(
+        &mut self,
+        scripts: &[Script],
+        spots: &ScriptSpots,
+        url: &[u16],
+        pos: Pos,
+        condition: Option<Units>,
+    ) -> Result<Vec<Place>, AddFault>
+        requires { spots.now ≡ map break_locations scripts.now }
+        ensures places { IfOk result (λ places. places.items ≡ resolved_by_url url.now pos scripts.now) }
+        ensures answers { Answers (fault_of (url_id pos url.now) self.old) result }
+        ensures added { OnOk result (Adds (url_id pos url.now) condition (resolved_by_url url.now pos scripts.now) self.old self.new) }
+        ensures kept { OnErr result (self.new ≡ self.old) }
+    {
+        let places = resolve_by_url(self.alloc, scripts, spots, url, pos)?;
+        let answer = places.clone()?;
+        let id = url_id(self.alloc, pos, url)?;
+        self.add(id, condition, places)?;
+        Ok(answer)
+    }
+
+    /// Sets a breakpoint at a place of one script, and answers where it resolved: the first break location of the script
+    /// that isn't before it. The spots are those of the scripts.
+    ///
+    /// # Errors
+    ///
+    /// `Unresolved` where the script has no such location, or no script has the number; `Exists` where a breakpoint has its
+    /// id, `Full` at 1,000 breakpoints, `Memory`; then nothing has changed.
+    pub fn add_at(
+        &mut self,
+        scripts: &[Script],
+        spots: &ScriptSpots,
+        place: Place,
+        condition: Option<Units>,
+    ) -> Result<Place, AddFault>
+        requires { spots.now ≡ map break_locations scripts.now }
+        ensures place { IfOk result (λ p. resolved_at place scripts.now ≡ Some p) }
+        ensures answers { Answers (fault_at place scripts.now self.old) result }
+        ensures added { IfOk result (λ p. Adds (place_id place) condition (p ∷ []) self.old self.new) }
+        ensures kept { OnErr result (self.new ≡ self.old) }
+    {
+        let Some(resolved) = resolve_at(scripts, spots, place) else {
+            return Err(AddFault::Unresolved);
+        };
+        let places = vec![in self.alloc; resolved]?;
+        let id = place_id(self.alloc, place)?;
+        self.add(id, condition, places)?;
+        Ok(resolved)
+    }
+
+    /// Removes the breakpoint of an id, and answers whether there was one.
+    pub fn remove(&mut self, id: &[u16]) -> bool
+        ensures had { result ≡ list_any (has_id id.now) self.old.set }
+        ensures rest { self.new ≡ without id.now self.old }
+    {
+        let had = self.has(id);
+        retain_others(&mut self.list, id);
+        had
+    }
+
+    /// The breakpoints that resolved to a place, in the order in which they were set; none where they aren't active.
+    pub fn at(&self, place: Place) -> Hits<'_>
+        ensures { hits_in result.place result.left.now ≡ hits_at place self.now }
+    {
+        Hits {
+            left: if self.active { &self.list } else { &[] },
+            place,
+        }
+    }
+
+    /// Whether breakpoints stop the program from now on.
+    pub fn set_active(&mut self, on: bool)
+        ensures { self.new ≡ record self.old { active = on } }
+    {
+        self.active = on;
+    }
+}

@@ -1,0 +1,13 @@
+//! Breakpoints: where a session asks the program to stop (Chrome DevTools Protocol 1.3, domain Debugger).
+//!
+//! A breakpoint is set at a position, of the scripts of a URL or of one script, and resolves to the first break location
+//! that isn't before it.
+#![tactic(auto)]
+
+pub mod breakpoint;
+pub mod breakpoints;
+pub mod fault;
+pub mod hits;
+mod ids;
+mod resolving;
+pub mod script_spots;
