@@ -102,3 +102,6 @@ token_before source before t middle u left p = rise_on 0 (length source) (items_
 
 pub token_before_bad : (source : List ℕ) (before : List Token) (t : Token) (left : List Token) → tokens_of source ≡ before ++ t ∷ left → (at : ℕ) → bad_place source ≡ Some at → t.start < at
 token_before_bad source before t left p at q = bad_on 0 (length source) (items_of source) (rises source) before t left p at q
+
+pub bad_within : (source : List ℕ) (at : ℕ) → bad_place source ≡ Some at → at < length source
+bad_within source at p = (bad_between 0 (length source) (items_of source) (rises source) at p).below

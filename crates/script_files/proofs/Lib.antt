@@ -1,0 +1,3 @@
+pub mod TopNameLemmas
+pub mod InputLemmas
+pub mod ScriptLemmas

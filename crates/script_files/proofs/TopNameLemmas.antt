@@ -1,0 +1,75 @@
+-- The names that the lists of a tree declare.
+use Rattle.std.proofs.Common.{◌≡◌, ℕ, ◌+◌, ◌<◌, List, [], ◌∷◌, ◌++◌, Option, None, Some, map, length, drop, get_or, refl, sym, ap, ◌∙◌, append_assoc, append-nil}
+use Rattle.std.proofs.lemmas.List.{drop_more}
+use Rattle.std.specs.Global.{Box}
+use Rattle.js_tree.specs.declared.node.NodeId.{NodeId}
+use Rattle.js_tree.specs.declared.tree.Expr.{Expr}
+use Rattle.js_tree.specs.declared.tree.Stmt.{Stmt}
+use Rattle.js_tree.specs.declared.tree.Declarator.{Declarator}
+use Rattle.js_tree.specs.declared.tree.Declarators.{Declarators, out-Declarators}
+use Rattle.js_tree.specs.declared.tree.Stmts.{Stmts}
+use Rattle.js_tree.specs.declared.tree.Expr.TheFolds.{fold_out-Declarator, fold_out-Declarators, fold_out-Stmts}
+use Rattle.js_tree.specs.declared.tree.Expr.TheViews as views
+use Rattle.js_tree.specs.Trees as trees
+use Rattle.js_tree.specs.Trees.{Expression, Expressions, Property, Properties, Key, Statement, Statements, Handler}
+use Rattle.js_tree.specs.Views.{optional_view, statements, declarators, expression_view, property_view, key_view, statement_view, block_view, catch_view, declarator_view, declarators_view, expressions_view, properties_view, statements_view, expression_step, property_step, key_step, statement_step, block_step, catch_step, declarator_step, declarators_step, expressions_step, properties_step, statements_step}
+use Rattle.js_tree.proofs.Views.{view_if_then, view_if_else, view_lexical_declaration, view_function_declaration}
+use Rattle.js_language.specs.Well.{declared_by, declared_names, names_of_declarators}
+
+-- ---- lists as trees
+
+pub body_view : (ss : Stmts) → statements_view ss ≡ statements (map statement_view ss.items.items)
+unfolding expression_view property_view key_view statement_view block_view catch_view declarator_view declarators_view expressions_view properties_view statements_view
+body_view ss = fold_out-Stmts Expression Property Key Statement Statements Handler trees.Declarator trees.Declarators Expressions Properties Statements expression_step property_step key_step statement_step block_step catch_step declarator_step declarators_step expressions_step properties_step statements_step ss
+
+pub list_view : (ds : Declarators) → declarators_view ds ≡ declarators (map declarator_view (out-Declarators ds).items.items)
+unfolding expression_view property_view key_view statement_view block_view catch_view declarator_view declarators_view expressions_view properties_view statements_view
+list_view ds = fold_out-Declarators Expression Property Key Statement Statements Handler trees.Declarator trees.Declarators Expressions Properties Statements expression_step property_step key_step statement_step block_step catch_step declarator_step declarators_step expressions_step properties_step statements_step ds
+
+declarator_by : (n : List ℕ) (e : Option Expr) → declarator_view (record { name = n; initializer = e }) ≡ trees.declarator n (optional_view e)
+unfolding expression_view property_view key_view statement_view block_view catch_view declarator_view declarators_view expressions_view properties_view statements_view
+declarator_by n None = fold_out-Declarator Expression Property Key Statement Statements Handler trees.Declarator trees.Declarators Expressions Properties Statements expression_step property_step key_step statement_step block_step catch_step declarator_step declarators_step expressions_step properties_step statements_step (record { name = n; initializer = None })
+declarator_by n (Some e) = fold_out-Declarator Expression Property Key Statement Statements Handler trees.Declarator trees.Declarators Expressions Properties Statements expression_step property_step key_step statement_step block_step catch_step declarator_step declarators_step expressions_step properties_step statements_step (record { name = n; initializer = Some e })
+
+declarator_of : (d : Declarator) → declarator_view d ≡ trees.declarator d.name (optional_view d.initializer)
+declarator_of d = declarator_by d.name d.initializer
+
+pub ruleset bodies = (body_view)
+
+pub ruleset lists = (list_view)
+
+-- ---- one more
+
+pub statement_next : (items : List Stmt) (i : ℕ) (x : Stmt) → i < length items → x ≡ get_or items i x → (front now : List (List ℕ)) → now ≡ front ++ declared_by (statement_view x)
+    → now ++ declared_names (statements (map statement_view (drop (i + 1) items))) ≡ front ++ declared_names (statements (map statement_view (drop i items)))
+statement_next items i x h is front now e =
+    let D : List Stmt → List (List ℕ) = λ ss. declared_names (statements (map statement_view ss)) in
+    ap (λ ns. ns ++ D (drop (i + 1) items)) e
+    ∙ append_assoc front (declared_by (statement_view x)) (D (drop (i + 1) items))
+    ∙ ap (λ y. front ++ D (y ∷ drop (i + 1) items)) is
+    ∙ ap (λ ss. front ++ D ss) (sym (drop_more items i x h))
+
+first_name : (d : Declarator) (ds : trees.Declarators) → names_of_declarators (trees.a_declarator (declarator_view d) ds) ≡ d.name ∷ names_of_declarators ds
+first_name d ds = ap (λ t. names_of_declarators (trees.a_declarator t ds)) (declarator_of d)
+
+pub declarator_next : (items : List Declarator) (i : ℕ) (x : Declarator) → i < length items → x ≡ get_or items i x → (front now : List (List ℕ)) → now ≡ front ++ x.name ∷ []
+    → now ++ names_of_declarators (declarators (map declarator_view (drop (i + 1) items))) ≡ front ++ names_of_declarators (declarators (map declarator_view (drop i items)))
+declarator_next items i x h is front now e =
+    let D : List Declarator → List (List ℕ) = λ ds. names_of_declarators (declarators (map declarator_view ds)) in
+    ap (λ ns. ns ++ D (drop (i + 1) items)) e
+    ∙ append_assoc front (x.name ∷ []) (D (drop (i + 1) items))
+    ∙ ap (λ ns. front ++ ns) (sym (first_name x (declarators (map declarator_view (drop (i + 1) items)))))
+    ∙ ap (λ y. front ++ D (y ∷ drop (i + 1) items)) is
+    ∙ ap (λ ds. front ++ D ds) (sym (drop_more items i x h))
+
+-- ---- statements
+
+-- a statement that declares nothing
+pub no_names : (names : List (List ℕ)) (s : Stmt) (t : Statement) → statement_view s ≡ t → declared_by t ≡ [] → names ≡ names ++ declared_by (statement_view s)
+no_names names s t e none = sym (ap (λ u. names ++ declared_by u) e ∙ ap (λ ns. names ++ ns) none ∙ append-nil names)
+
+pub if_declares_none : (names : List (List ℕ)) (node : NodeId) (test : Expr) (consequent : Box Stmt) (alternate : Option (Box Stmt)) (s : Stmt) → s ≡ views.If node test consequent alternate → names ≡ names ++ declared_by (statement_view s)
+if_declares_none names node test consequent None s e = no_names names s _ (ap statement_view e ∙ view_if_then node test consequent) refl
+if_declares_none names node test consequent (Some alternate) s e = no_names names s _ (ap statement_view e ∙ view_if_else node test consequent alternate) refl
+
+pub ruleset statement_laws = (view_lexical_declaration, view_function_declaration)

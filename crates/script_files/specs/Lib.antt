@@ -1,0 +1,4 @@
+pub mod TopNames
+pub mod Refusals
+pub mod Scripts
+pub mod Input

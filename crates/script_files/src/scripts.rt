@@ -1,0 +1,115 @@
+//! The scripts that files hold.
+ghost use Rattle.std.specs.Prelude.{◌≡◌, ◌∷◌, ◌++◌, [], List, ℕ, IfOk, IfErr, OnOk, map, string_bytes};
+ghost use Rattle.cdp_edge.specs.Outside.{Named, Told};
+ghost use Rattle.js_tree.specs.declared.script.Script.{Script as AnyScript};
+ghost use Rattle.script_files.specs.TopNames.{declared_in};
+ghost use Rattle.script_files.specs.Scripts.{AreScripts, HoldsScript, IsOneMore, IsRefusedAt, Fails, FailsNext};
+ghost use Rattle.script_files.specs.declared.fault.Refusal.{Refusal as AnyRefusal};
+
+use crate::fault::FileFault;
+use crate::source::script_of;
+use crate::top_names::add_names;
+use cdp_edge::{Shelf, ShelfFault};
+use cdp_text::units::Units;
+use js_tree::script::Script;
+use std::alloc::{AllocError, Global};
+
+/// Why a file isn't taken as a script, with its name.
+#[derive(Clone, Copy, Debug, PartialEq, Eq)]
+pub struct ScriptFault<'n> {
+    pub name: &'n str,
+    pub fault: FileFault,
+}
+
+/// Reads the file of this name as the script behind these, which declare these names.
+fn read_script<F: Shelf>(
+    alloc: Global,
+    shelf: &mut F,
+    name: &str,
+    earlier: &[Script],
+    declared: &[Units],
+) -> Result<Script, FileFault>
+    requires { declared.now ≡ declared_in earlier.now }
+    ensures script { IfOk result (λ s. Told (F.files shelf.old) (λ files. HoldsScript files earlier.now name.now s)) }
+    ensures quiet { IfOk result (λ s. F.faults shelf.new ≡ F.faults shelf.old) }
+    ensures fault { IfErr result (λ fault. FailsNext fault (F.files shelf.old) earlier.now name.now (F.faults shelf.old) (F.faults shelf.new)) }
+    ensures files { F.files shelf.new ≡ F.files shelf.old }
+{
+    let bytes = match shelf.read(alloc, name) {
+        Ok(bytes) => bytes,
+        Err(ShelfFault::Memory) => return Err(FileFault::Memory),
+        Err(ShelfFault::NotThere | ShelfFault::Failed) => return Err(FileFault::CannotRead),
+    };
+    script_of(alloc, &bytes, name, earlier.len(), declared)
+}
+
+/// Adds a script, and the names that it declares.
+fn keep(
+    script: Script,
+    scripts: &mut Vec<Script>,
+    declared: &mut Vec<Units>,
+) -> Result<(), AllocError>
+    requires { declared.old.items ≡ declared_in scripts.old.items }
+    ensures scripts { OnOk result (scripts.new.items ≡ scripts.old.items ++ script ∷ []) }
+    ensures declared { OnOk result (declared.new.items ≡ declared_in scripts.new.items) }
+{
+    add_names(&script.body, declared)?;
+    scripts.push(script)?;
+    Ok(())
+}
+
+/// Reads the file of this name as the next script, and adds it, and the names that it declares.
+fn add_script<F: Shelf>(
+    alloc: Global,
+    shelf: &mut F,
+    name: &str,
+    scripts: &mut Vec<Script>,
+    declared: &mut Vec<Units>,
+) -> Result<(), FileFault>
+    requires { declared.old.items ≡ declared_in scripts.old.items }
+    ensures script { OnOk result (Told (F.files shelf.old) (λ files. IsOneMore files scripts.old.items scripts.new.items name.now)) }
+    ensures declared { OnOk result (declared.new.items ≡ declared_in scripts.new.items) }
+    ensures quiet { OnOk result (F.faults shelf.new ≡ F.faults shelf.old) }
+    ensures fault { IfErr result (λ fault. FailsNext fault (F.files shelf.old) scripts.old.items name.now (F.faults shelf.old) (F.faults shelf.new)) }
+    ensures files { F.files shelf.new ≡ F.files shelf.old }
+{
+    let script = match read_script(alloc, shelf, name, scripts, declared) {
+        Ok(script) => script,
+        Err(fault) => return Err(fault),
+    };
+    match keep(script, scripts, declared) {
+        Ok(()) => Ok(()),
+        Err(AllocError) => Err(FileFault::Memory),
+    }
+}
+
+/// Reads the scripts that the files of these names hold, in order, and parses them. The first fault decides, and
+/// nothing behind it is read.
+///
+/// # Errors
+///
+/// `CannotRead` where the shelf doesn't give a file, `Refused` where it isn't UTF-8 or where the parser refuses it, and
+/// `Memory`, also where there are more scripts than numbers for them.
+pub fn read_scripts<'n, F: Shelf>(
+    alloc: Global,
+    shelf: &mut F,
+    names: &'n [String],
+) -> Result<Vec<Script>, ScriptFault<'n>>
+    ensures scripts { IfOk result (λ ss. Told (F.files shelf.old) (λ files. AreScripts files (map string_bytes names.now) ss.items)) }
+    ensures quiet { IfOk result (λ ss. F.faults shelf.new ≡ F.faults shelf.old) }
+    ensures fault { IfErr result (λ e. Fails e.fault (F.files shelf.old) (map string_bytes names.now) e.name.now (F.faults shelf.old) (F.faults shelf.new)) }
+    ensures files { F.files shelf.new ≡ F.files shelf.old }
+    // Where all files hold scripts, none is refused.
+    ensures one { (files : List Named) (ss : List AnyScript) (name : List ℕ) (r : AnyRefusal) → AreScripts files (map string_bytes names.now) ss → IsRefusedAt files (map string_bytes names.now) name r → ⊥ }
+{
+    let mut scripts = Vec::new(alloc);
+    let mut declared = Vec::new(alloc);
+    for name in names {
+        let name = name.as_str();
+        match add_script(alloc, shelf, name, &mut scripts, &mut declared) {
+            Ok(()) => {}
+            Err(fault) => return Err(ScriptFault { name, fault }),
+        }
+    }
+    Ok(scripts)
+}
