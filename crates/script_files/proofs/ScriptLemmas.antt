@@ -249,7 +249,7 @@ told_at (Some files) names front name ss r s h n = record { reached = reached fi
 fails_here : (fault : FileFault) (told : Option (List Named)) (names front : List (List ℕ)) (name : List ℕ) (ss : List Script) (before after : Faults) → StandsBehind names front name → Told told (λ files. AreScripts files front ss)
     → FailsNext fault told ss name before after → Fails fault told names name before after
 fails_here (faults.Refused r) told names front name ss before after s h n = (n.0, told_at told names front name ss r s h n.1)
-fails_here faults.CannotRead told names front name ss before after s h n = (n, told_reached told names front name ss s h)
+fails_here faults.CannotRead told names front name ss before after s h n = (n, (front, s), told_reached told names front name ss s h)
 fails_here faults.Memory told names front name ss before after s h n = n
 
 -- the fault of the shelf as it is now is one of the shelf as it was, where nothing failed so far

@@ -59,6 +59,10 @@ pub record StandsBehind (names before : List (List ℕ)) (name : List ℕ) : Typ
   pub behind : List (List ℕ)
   pub parts : names ≡ before ++ name ∷ behind
 
+-- this one is among them
+abbrev pub IsAmong : List (List ℕ) → List ℕ → Type 0
+IsAmong names name = (before : List (List ℕ)) × StandsBehind names before name
+
 -- the files of the names before this one hold scripts
 pub record IsReachedAt (files : List Named) (names : List (List ℕ)) (name : List ℕ) : Type 0 where
   pub before : List (List ℕ)
@@ -88,7 +92,7 @@ FailsNext faults.Memory told earlier name before after = after ≡ before
 -- why the file of this name isn't taken as the next of these
 abbrev pub Fails : FileFault → Option (List Named) → List (List ℕ) → List ℕ → Faults → Faults → Type 0
 Fails (faults.Refused r) told names name before after = (after ≡ before) × Told told (λ files. IsRefusedAt files names name r)
-Fails faults.CannotRead told names name before after = Blames (Read name) before after × Told told (λ files. IsReachedAt files names name)
+Fails faults.CannotRead told names name before after = Blames (Read name) before after × IsAmong names name × Told told (λ files. IsReachedAt files names name)
 Fails faults.Memory told names name before after = after ≡ before
 
 -- one script more, which the file of this name holds
