@@ -16,7 +16,7 @@ use Rattle.command_line.specs.Headline.{script_in, texts_in, history_in}
 use Rattle.command_line.specs.Journal.{entry_at, entry_of, entries, refused}
 use Rattle.command_line.specs.Lines.{Line, Attach, Tell, Take, Run, line_of}
 use Rattle.command_line.specs.Status.{Given, end_for, end_over, verdict}
-use Rattle.command_line.specs.Words.{Request}
+use Rattle.command_line.specs.Words.{Command}
 use Rattle.command_line.proofs.LineLemmas.{choice-some, line-read, line-some}
 use Rattle.command_line.proofs.ProgramLemmas.{integers_of, given-all}
 
@@ -130,10 +130,10 @@ for-refused None script number is = cc
 for-refused (Some journal) None number is = cc
 for-refused (Some journal) (Some script) number is = early-refused journal (early_of script) number is
 
-pub given-applied : (o : Option Request) (told : Option (List Named)) → Given o told (λ request files. verdict request files ≡ Done
+pub given-applied : (o : Option Command) (told : Option (List Named)) → Given o told (λ request files. verdict request files ≡ Done
     → AreEntries (begin (script_in request files)) (texts_in request files) (history_in request files))
 given-applied o told = given-all o told _ (λ request files. for-applied (content_of request.journal files) (content_of request.script files))
 
-pub given-refused : (o : Option Request) (told : Option (List Named)) → Given o told (λ request files. (number : ℕ) → verdict request files ≡ LineRefused number
+pub given-refused : (o : Option Command) (told : Option (List Named)) → Given o told (λ request files. (number : ℕ) → verdict request files ≡ LineRefused number
     → RefusesAt 1 (begin (script_in request files)) (texts_in request files) (history_in request files) number)
 given-refused o told = given-all o told _ (λ request files. for-refused (content_of request.journal files) (content_of request.script files))

@@ -5,3 +5,5 @@ pub mod ShownLemmas
 pub mod HeadlineLemmas
 pub mod ProgramLemmas
 pub mod AppliedLemmas
+pub mod RunLemmas
+pub mod WordLemmas

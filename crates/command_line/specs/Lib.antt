@@ -8,3 +8,5 @@ pub mod Status
 pub mod RequestHeld
 pub mod Headline
 pub mod Applied
+pub mod RunCauses
+pub mod RunStatus

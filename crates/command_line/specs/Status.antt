@@ -7,7 +7,7 @@ use Rattle.early_machine.specs.Early.{early_of}
 use Rattle.cdp_host.specs.Meaning.{begin}
 use Rattle.command_line.specs.Ends.{end_of, journal_output}
 use Rattle.command_line.specs.Journal.{refused}
-use Rattle.command_line.specs.Words.{Request}
+use Rattle.command_line.specs.Words.{Request, Command, Run, Replay}
 use Rattle.command_line.specs.declared.outcome.File.{File}
 use Rattle.command_line.specs.declared.outcome.File.TheVariants.{Journal, Script}
 use Rattle.command_line.specs.declared.outcome.Outcome.{Outcome}
@@ -97,16 +97,17 @@ end_text (CannotRead file) request = codes "debug_host: cannot read " ++ name_of
 end_text CannotWrite request = codes "debug_host: cannot write" ++ 10 ∷ []
 end_text (LineRefused n) request = refused_text n
 
--- what holds of a request, where the words are of the form
-abbrev pub ForForm : Option Request → (Request → Type 0) → Type 0
+-- what holds of a replay, where the words ask for one
+abbrev pub ForForm : Option Command → (Request → Type 0) → Type 0
 ForForm None P = Unit {0}
-ForForm (Some request) P = P request
+ForForm (Some (Run request)) P = Unit {0}
+ForForm (Some (Replay request)) P = P request
 
--- what holds of a request and the files, where the words are of the form and the files are told
-abbrev pub Given : Option Request → Option (List Named) → (Request → List Named → Type 0) → Type 0
+-- what holds of a replay and the files, where the words ask for one and the files are told
+abbrev pub Given : Option Command → Option (List Named) → (Request → List Named → Type 0) → Type 0
 Given None files P = Unit {0}
-Given (Some request) None P = Unit {0}
-Given (Some request) (Some files) P = P request files
+Given (Some (Run request)) files P = Unit {0}
+Given (Some (Replay request)) files P = Told files (P request)
 
 -- neither a read nor a write failed, as the counts tell
 pub record Unfailed (before after : Faults) (writes_before writes_after : ℕ) : Type 0 where

@@ -9,6 +9,8 @@ mod play;
 mod program;
 mod replay;
 mod report;
+mod run;
+mod run_report;
 mod words;
 
 pub use program::debug_main;

@@ -54,7 +54,7 @@ pub(crate) fn report<E: Sink>(alloc: Global, outcome: Outcome, request: Request<
 }
 
 /// Offers a line; it takes no memory of its own.
-fn say<E: Sink>(err: &mut E, line: &str)
+pub(crate) fn say<E: Sink>(err: &mut E, line: &str)
     ensures { GainsPrefix (E.content err.old) (E.content err.new) line.now }
 {
     let _ = put(err, line.as_bytes());

@@ -17,7 +17,7 @@ fn main(rt: HostRuntime) -> ExitCode {
         return ExitCode::from(1);
     };
     let mut shelf = FileShelf::new(alloc, rt);
-    ExitCode::from(debug_main(alloc, &words, &mut shelf, &mut out, &mut err))
+    ExitCode::from(debug_main(&rt, alloc, &words, &mut shelf, &mut out, &mut err))
 }
 
 /// The words after the program's name. Where one isn't UTF-8 there are none, which is a faulty command line.

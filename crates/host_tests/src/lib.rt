@@ -8,4 +8,6 @@ mod commands;
 #[cfg(test)]
 mod edges;
 #[cfg(test)]
+mod runs;
+#[cfg(test)]
 mod texts;

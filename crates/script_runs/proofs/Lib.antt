@@ -1,0 +1,3 @@
+pub mod PrintingLemmas
+pub mod TurnLemmas
+pub mod EndLemmas

@@ -1,0 +1,14 @@
+//! How a run ended.
+
+/// How a run of scripts ended.
+#[derive(Debug, Drop)]
+pub enum RunEnd {
+    /// By its last script.
+    Ended,
+    /// By a throw that no `catch` took, of a value that is shown so.
+    Threw(String),
+    /// The sink took no more.
+    CannotWrite,
+    /// No memory was left.
+    Memory,
+}
