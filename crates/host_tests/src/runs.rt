@@ -160,7 +160,7 @@ const RUNS: [(&str, &str, &str, &str, u8, &str, &str); 77] = [
         "",
         3,
         "",
-        "debug_host: wide.js:0:6: unexpected token\n",
+        "debug_host: wide.js:0:5: unexpected token\n",
     ),
     (
         "run deeper.js",
