@@ -6,9 +6,9 @@ use Rattle.std.proofs.lemmas.Bool.{eqb-true, eqb-false}
 use Rattle.cdp_edge.specs.Outside.{Named, content_of}
 use Rattle.cdp_text.specs.Lines.{lines_of}
 use Rattle.early_machine.specs.Early.{early_of}
-use Rattle.cdp_host.specs.Meaning.{Meaning, begin, is_attached, longest}
-use Rattle.cdp_host.specs.Histories.{Entry, apply, Attach as Attached, Tell as Told, Take as Taken, Ran}
-use Rattle.cdp_host.proofs.RunLemmas.{longest-is}
+use Rattle.early_host.specs.Meaning.{Meaning, begin, is_attached, longest}
+use Rattle.early_host.specs.Histories.{Entry, apply, Attach as Attached, Tell as Told, Take as Taken, Ran}
+use Rattle.early_host.proofs.RunLemmas.{longest-is}
 use Rattle.command_line.specs.declared.outcome.Outcome.TheVariants.{Done, LineRefused}
 use Rattle.command_line.specs.Applied.{MayStand, IsEntry, AreEntries, RefusesAt}
 use Rattle.command_line.specs.Ends.{end_of}

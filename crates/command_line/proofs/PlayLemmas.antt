@@ -5,8 +5,8 @@ use Rattle.std.proofs.lemmas.List.{take_more, take-append-drop, map-append}
 use Rattle.std.specs.Option.{option_map_or}
 use Rattle.cdp_edge.specs.Outside.{gains, GainsPrefix, GainsLess}
 use Rattle.cdp_edge.proofs.Gains.{gains-append, gains-nil, GainsPrefix-behind, GainsLess-behind}
-use Rattle.cdp_host.specs.Meaning.{Meaning}
-use Rattle.cdp_host.specs.Histories.{Entry, HostState, apply}
+use Rattle.early_host.specs.Meaning.{Meaning}
+use Rattle.early_host.specs.Histories.{Entry, HostState, apply}
 use Rattle.command_line.specs.Ends.{Plays, line_output, journal_output}
 use Rattle.command_line.specs.Journal.{entry_of, refused}
 use Rattle.command_line.specs.Output.{joined, output_text, output_at, output_bytes}

@@ -5,7 +5,7 @@ use Rattle.cdp_edge.specs.Outside.{Named, content_of, Told, gains, GainsLess}
 use Rattle.cdp_edge.specs.Blame.{Faults}
 use Rattle.cdp_text.specs.Lines.{lines_of}
 use Rattle.early_machine.specs.Early.{early_of}
-use Rattle.cdp_host.specs.Meaning.{begin}
+use Rattle.early_host.specs.Meaning.{begin}
 use Rattle.command_line.specs.declared.outcome.Outcome.{Outcome}
 use Rattle.command_line.specs.declared.outcome.Outcome.TheVariants.{Done, OutOfMemory, Usage, FormNotBuilt, CannotRead, CannotWrite, LineRefused}
 use Rattle.command_line.specs.Headline.{Headline, script_in, history_in, lines_in}

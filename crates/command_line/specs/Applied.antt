@@ -1,7 +1,7 @@
 -- Which lines of a journal are applied, and which one is refused.
 use Rattle.std.specs.Prelude.{◌≡◌, ℕ, ◌+◌, List, [], ◌∷◌, ◌++◌, length, fold, true}
-use Rattle.cdp_host.specs.Meaning.{Meaning, is_attached, IsLongest}
-use Rattle.cdp_host.specs.Histories.{Entry, apply, Attach as Attached, Tell as Told, Take as Taken, Ran}
+use Rattle.early_host.specs.Meaning.{Meaning, is_attached, IsLongest}
+use Rattle.early_host.specs.Histories.{Entry, apply, Attach as Attached, Tell as Told, Take as Taken, Ran}
 use Rattle.command_line.specs.Lines.{Line, Attach, Tell, Take, Run, IsLine}
 
 -- a line may stand there, and this is its entry: one that attaches where no session was attached so far, one that tells or takes where its session is attached,

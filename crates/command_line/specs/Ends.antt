@@ -2,8 +2,8 @@
 use Rattle.std.specs.Prelude.{◌≡◌, ◌⊎◌, ℕ, List, [], Option, Some, None}
 use Rattle.std.specs.Option.{IsSomeAnd, option_map_or}
 use Rattle.cdp_edge.specs.Outside.{gains}
-use Rattle.cdp_host.specs.Histories.{Entry, HostState, after}
-use Rattle.cdp_host.specs.Meaning.{Meaning}
+use Rattle.early_host.specs.Histories.{Entry, HostState, after}
+use Rattle.early_host.specs.Meaning.{Meaning}
 use Rattle.cdp_edge.specs.declared.sink.SinkFault.{SinkFault}
 use Rattle.cdp_edge.specs.declared.sink.SinkFault.TheVariants.{Failed, Memory}
 use Rattle.command_line.specs.declared.play.LineFault.{LineFault}

@@ -6,10 +6,10 @@ use Rattle.cdp_text.specs.Lines.{lines_of}
 use Rattle.cdp_text.specs.Parts.{behind}
 use Rattle.early_machine.specs.Early.{early_of}
 use Rattle.early_machine.specs.Plain.{plain, is_finished}
-use Rattle.cdp_host.specs.Meaning.{Meaning, begin, is_attached, is_named}
-use Rattle.cdp_host.specs.Histories.{Entry, Attach, Tell, Take, Detach, Ran, apply, whole, steps_made}
-use Rattle.cdp_host.specs.Rules.{AllStopExactly, texts_at}
-use Rattle.cdp_host.specs.States.{outbox_of}
+use Rattle.early_host.specs.Meaning.{Meaning, begin, is_attached, is_named}
+use Rattle.early_host.specs.Histories.{Entry, Attach, Tell, Take, Detach, Ran, apply, whole, steps_made}
+use Rattle.early_host.specs.Rules.{AllStopExactly, texts_at}
+use Rattle.early_host.specs.States.{outbox_of}
 use Rattle.command_line.specs.Journal.{entries}
 use Rattle.command_line.specs.Output.{Output, output_of}
 use Rattle.command_line.specs.Words.{Request}

@@ -1,8 +1,8 @@
 -- What a journal does to a host.
 use Rattle.std.specs.Prelude.{ℕ, ◌+◌, ◌==◌, List, [], ◌∷◌, if◌then◌else◌, Option, Some, None}
 use Rattle.std.specs.Option.{option_and_then, option_map_or}
-use Rattle.cdp_host.specs.Meaning.{Meaning, is_attached, longest}
-use Rattle.cdp_host.specs.Histories.{Entry, apply, Attach as Attached, Tell as Told, Take as Taken, Ran}
+use Rattle.early_host.specs.Meaning.{Meaning, is_attached, longest}
+use Rattle.early_host.specs.Histories.{Entry, apply, Attach as Attached, Tell as Told, Take as Taken, Ran}
 use Rattle.command_line.specs.Lines.{Line, Attach, Tell, Take, Run, line_of}
 
 -- the entry of a line; None where it attaches a second session or names one that isn't attached

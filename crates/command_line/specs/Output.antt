@@ -1,11 +1,11 @@
 -- What is written of a journal's entries.
 use Rattle.std.specs.Prelude.{ℕ, List, [], ◌∷◌, ◌++◌, ◌+◌, map, drop, length, codes, decimal}
-use Rattle.cdp_host.specs.declared.state.State.{State}
-use Rattle.cdp_host.specs.declared.state.State.TheVariants.{Broken, Ended, Paused, Ready}
-use Rattle.cdp_host.specs.Meaning.{Meaning, after_steps}
-use Rattle.cdp_host.specs.Histories.{Entry, Attach, Tell, Take, Detach, Ran, apply}
-use Rattle.cdp_host.specs.States.{state_of}
-use Rattle.cdp_host.specs.Rules.{handed_at}
+use Rattle.early_host.specs.declared.state.State.{State}
+use Rattle.early_host.specs.declared.state.State.TheVariants.{Broken, Ended, Paused, Ready}
+use Rattle.early_host.specs.Meaning.{Meaning, after_steps}
+use Rattle.early_host.specs.Histories.{Entry, Attach, Tell, Take, Detach, Ran, apply}
+use Rattle.early_host.specs.States.{state_of}
+use Rattle.early_host.specs.Rules.{handed_at}
 
 -- a line of output
 pub data Output : Type 0 where

@@ -4,7 +4,7 @@ use Rattle.cdp_edge.specs.Outside.{Rose, Named, Told, content_of}
 use Rattle.cdp_edge.specs.Blame.{Faults, Blames, Read}
 use Rattle.cdp_text.specs.Lines.{lines_of}
 use Rattle.early_machine.specs.Early.{early_of}
-use Rattle.cdp_host.specs.Meaning.{begin}
+use Rattle.early_host.specs.Meaning.{begin}
 use Rattle.command_line.specs.Ends.{end_of, journal_output}
 use Rattle.command_line.specs.Journal.{refused}
 use Rattle.command_line.specs.Words.{Request, Command, Run, Replay}

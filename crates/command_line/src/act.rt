@@ -1,9 +1,9 @@
 // What a journal's line does to the host.
 ghost use Rattle.std.specs.Prelude.{◌≡◌, ◌∷◌, [], false, true, is_some, Some, OnOk, IfOk, map, string_bytes, Option};
 ghost use Rattle.std.specs.Option.{option_map, option_map_or};
-ghost use Rattle.cdp_host.specs.Command.{command_of};
-ghost use Rattle.cdp_host.specs.Histories.{after, Ran};
-ghost use Rattle.cdp_host.specs.Meaning.{longest};
+ghost use Rattle.early_host.specs.Command.{command_of};
+ghost use Rattle.early_host.specs.Histories.{after, Ran};
+ghost use Rattle.early_host.specs.Meaning.{longest};
 ghost use Rattle.command_line.specs.Lines.{IsInForm, Attach, Tell, Take};
 ghost use Rattle.command_line.specs.Journal.{entry_at};
 ghost use Rattle.command_line.specs.LineRead.{line_held};
@@ -11,7 +11,7 @@ ghost use Rattle.command_line.specs.Output.{output_at, output_text};
 
 use crate::line::Line;
 use crate::output::{attached_line, printed_lines, ran_line, sent_lines};
-use cdp_host::{Host, Told};
+use early_host::{Host, Told};
 use std::alloc::{AllocError, Global};
 
 /// Does what a line asks for, and answers the lines of output; None, and nothing is done, where the line is refused.

@@ -1,9 +1,9 @@
 // The lines of output.
 ghost use Rattle.std.specs.Prelude.{◌≡◌, ◌++◌, IfOk, map, string_bytes};
-ghost use Rattle.cdp_host.specs.declared.state.State.{State};
+ghost use Rattle.early_host.specs.declared.state.State.{State};
 ghost use Rattle.command_line.specs.Output.{Attached, To, Out, RanTo, output_text, state_name};
 
-use cdp_host::State;
+use early_host::State;
 use std::alloc::{AllocError, Global};
 
 /// The line of a session that was attached.

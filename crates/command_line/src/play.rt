@@ -12,7 +12,7 @@ use crate::act::act;
 use crate::line::read_line;
 use crate::outcome::Outcome;
 use cdp_edge::{Sink, SinkFault, put};
-use cdp_host::Host;
+use early_host::Host;
 use cdp_text::lines::cut_line;
 use std::alloc::Global;
 

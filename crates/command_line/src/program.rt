@@ -2,7 +2,7 @@
 ghost use Rattle.std.specs.Prelude.{◌≡◌, ◌≢◌, ◌⊎◌, ◌↔◌, ◌≤◌, ◌<◌, ℕ, List, None};
 ghost use Rattle.cdp_edge.specs.Blame.{Blames, Read};
 ghost use Rattle.cdp_edge.specs.Outside.{Rose, Told, gains, GainsPrefix, GainsLess};
-ghost use Rattle.cdp_host.specs.Meaning.{begin};
+ghost use Rattle.early_host.specs.Meaning.{begin};
 ghost use Rattle.command_line.specs.Applied.{AreEntries, RefusesAt};
 ghost use Rattle.command_line.specs.Words.{asked};
 ghost use Rattle.command_line.specs.Headline.{Headline, script_in, texts_in, history_in, lines_in};

@@ -10,7 +10,7 @@ use crate::outcome::{File, Outcome};
 use crate::play::play;
 use crate::words::Request;
 use cdp_edge::{Shelf, ShelfFault, Sink};
-use cdp_host::Host;
+use early_host::Host;
 use early_machine::early::{EarlyFault, read_early};
 use std::alloc::Global;
 

@@ -1,5 +1,5 @@
 // Each command in each state of its session.
-use cdp_host::{Host, Told, is_early};
+use early_host::{Host, Told, is_early};
 use early_machine::early::read_early;
 use std::process::Abort;
 use std::test::Fail;

@@ -2,10 +2,10 @@
 use Rattle.std.specs.Prelude.{List, if◌then◌else◌, ℕ, []}
 use Rattle.std.specs.Option.{option_map_or}
 use Rattle.early_machine.specs.Plain.{is_finished}
-use Rattle.cdp_host.specs.Meaning.{Meaning}
-use Rattle.cdp_host.specs.Histories.{HostState}
-use Rattle.cdp_host.specs.declared.state.State.{State}
-use Rattle.cdp_host.specs.declared.state.State.TheVariants.{Broken, Ended, Paused, Ready}
+use Rattle.early_host.specs.Meaning.{Meaning}
+use Rattle.early_host.specs.Histories.{HostState}
+use Rattle.early_host.specs.declared.state.State.{State}
+use Rattle.early_host.specs.declared.state.State.TheVariants.{Broken, Ended, Paused, Ready}
 
 -- the state of a program that no want of memory broke: the first that holds
 abbrev pub state_of : Meaning → State

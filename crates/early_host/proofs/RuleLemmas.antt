@@ -4,18 +4,18 @@ use Rattle.std.specs.List.{fold}
 use Rattle.std.specs.Option.{option_map, option_map_or}
 use Rattle.std.proofs.lemmas.Bool.{lt-ltb}
 use Rattle.early_machine.specs.Plain.{Configuration, plain, next}
-use Rattle.cdp_host.specs.Kept.{Session}
-use Rattle.cdp_host.specs.Command.{Command, command_of}
-use Rattle.cdp_host.specs.Messages.{paused_event}
-use Rattle.cdp_host.specs.Session.{stopped, answer_of, done, refused, refusal_of, method_of, emptied}
-use Rattle.cdp_host.specs.declared.method.Method.{Method}
-use Rattle.cdp_host.specs.declared.method.Method.TheVariants.{DebuggerEnable, DebuggerPause, DebuggerResume}
-use Rattle.cdp_host.specs.declared.refusal.Refusal.{Refusal}
-use Rattle.cdp_host.specs.Meaning.{Meaning, step, after_steps, is_attached, is_named, is_ready, names, longest}
-use Rattle.cdp_host.specs.Histories.{Entry, Attach, Tell, Take, Detach, Ran, apply, told, with_answer, steps_made}
-use Rattle.cdp_host.specs.States.{outbox_of}
-use Rattle.cdp_host.specs.Rules.{AllStopExactly, texts_at, texts_of, answer_texts, handed_at, handed_of, FitsEntry, FitsAll}
-use Rattle.cdp_host.proofs.RunLemmas.{after_steps-plain, after_steps-suc, longest-is, longest-stops, quiet, next-plain}
+use Rattle.early_host.specs.Kept.{Session}
+use Rattle.early_host.specs.Command.{Command, command_of}
+use Rattle.early_host.specs.Messages.{paused_event}
+use Rattle.early_host.specs.Session.{stopped, answer_of, done, refused, refusal_of, method_of, emptied}
+use Rattle.early_host.specs.declared.method.Method.{Method}
+use Rattle.early_host.specs.declared.method.Method.TheVariants.{DebuggerEnable, DebuggerPause, DebuggerResume}
+use Rattle.early_host.specs.declared.refusal.Refusal.{Refusal}
+use Rattle.early_host.specs.Meaning.{Meaning, step, after_steps, is_attached, is_named, is_ready, names, longest}
+use Rattle.early_host.specs.Histories.{Entry, Attach, Tell, Take, Detach, Ran, apply, told, with_answer, steps_made}
+use Rattle.early_host.specs.States.{outbox_of}
+use Rattle.early_host.specs.Rules.{AllStopExactly, texts_at, texts_of, answer_texts, handed_at, handed_of, FitsEntry, FitsAll}
+use Rattle.early_host.proofs.RunLemmas.{after_steps-plain, after_steps-suc, longest-is, longest-stops, quiet, next-plain}
 
 -- ---- the program's way
 

@@ -1,7 +1,7 @@
 // What a session keeps, and how it answers.
 ghost use Rattle.std.specs.Prelude.{◌≡◌, ◌∷◌, [], ◌&&◌, IfOk, OnOk, map, string_bytes};
-ghost use Rattle.cdp_host.specs.CommandRead.{held};
-ghost use Rattle.cdp_host.specs.Session.{fresh, sent, refusal_of, answer_of, emptied, stopped};
+ghost use Rattle.early_host.specs.CommandRead.{held};
+ghost use Rattle.early_host.specs.Session.{fresh, sent, refusal_of, answer_of, emptied, stopped};
 
 use crate::command::Command;
 use crate::message::{self, DEBUGGER_ID, EMPTY_RESULT};
@@ -20,7 +20,7 @@ pub(crate) struct Session {
 
 impl Model for Session {
     ghost use Rattle.std.specs.Prelude.{map, string_bytes};
-    ghost use Rattle.cdp_host.specs.Kept.{Session as Kept};
+    ghost use Rattle.early_host.specs.Kept.{Session as Kept};
 
     ghost Value = { Kept };
 

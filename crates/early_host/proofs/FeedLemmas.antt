@@ -5,18 +5,18 @@ use Rattle.std.specs.List.{list_all}
 use Rattle.std.specs.Option.{option_map_or}
 use Rattle.std.proofs.lemmas.Bool.{and_parts, ne_eqb, eqb-true}
 use Rattle.early_machine.specs.Plain.{plain}
-use Rattle.cdp_host.specs.Command.{Command, command_of, is_method_byte}
-use Rattle.cdp_host.specs.Histories.{Entry, Attach, Tell, Take, Detach, Ran, apply, steps_made}
-use Rattle.cdp_host.specs.Kept.{Session}
-use Rattle.cdp_host.specs.Meaning.{Meaning, is_attached, is_named}
-use Rattle.cdp_host.specs.Messages.{result_text, debugger_id, empty_result, refusal_text, paused_event}
-use Rattle.cdp_host.specs.Rules.{texts_at, texts_of, answer_texts}
-use Rattle.cdp_host.specs.Session.{answer_of, done, refused, refusal_of, method_of}
-use Rattle.cdp_host.specs.declared.method.Method.{Method}
-use Rattle.cdp_host.specs.declared.method.Method.TheVariants.{DebuggerEnable, DebuggerPause, DebuggerResume}
-use Rattle.cdp_host.specs.declared.refusal.Refusal.{Refusal}
-use Rattle.cdp_host.specs.declared.refusal.Refusal.TheVariants.{MethodNotFound, AgentNotEnabled, NotPaused}
-use Rattle.cdp_host.proofs.CommandLemmas.{command_of-some}
+use Rattle.early_host.specs.Command.{Command, command_of, is_method_byte}
+use Rattle.early_host.specs.Histories.{Entry, Attach, Tell, Take, Detach, Ran, apply, steps_made}
+use Rattle.early_host.specs.Kept.{Session}
+use Rattle.early_host.specs.Meaning.{Meaning, is_attached, is_named}
+use Rattle.early_host.specs.Messages.{result_text, debugger_id, empty_result, refusal_text, paused_event}
+use Rattle.early_host.specs.Rules.{texts_at, texts_of, answer_texts}
+use Rattle.early_host.specs.Session.{answer_of, done, refused, refusal_of, method_of}
+use Rattle.early_host.specs.declared.method.Method.{Method}
+use Rattle.early_host.specs.declared.method.Method.TheVariants.{DebuggerEnable, DebuggerPause, DebuggerResume}
+use Rattle.early_host.specs.declared.refusal.Refusal.{Refusal}
+use Rattle.early_host.specs.declared.refusal.Refusal.TheVariants.{MethodNotFound, AgentNotEnabled, NotPaused}
+use Rattle.early_host.proofs.CommandLemmas.{command_of-some}
 
 -- ---- texts without LF
 

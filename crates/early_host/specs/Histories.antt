@@ -1,9 +1,9 @@
 -- Histories of a host and what they mean.
 use Rattle.std.specs.Prelude.{◌≡◌, ℕ, ◌+◌, List, [], ◌∷◌, fold, Bool, true, false, if◌then◌else◌, Some, None}
 use Rattle.std.specs.Option.{option_map, option_map_or}
-use Rattle.cdp_host.specs.Command.{Command, command_of}
-use Rattle.cdp_host.specs.Session.{Answer, answer_of, fresh, sent, emptied}
-use Rattle.cdp_host.specs.Meaning.{Meaning, begin, is_attached, after_steps}
+use Rattle.early_host.specs.Command.{Command, command_of}
+use Rattle.early_host.specs.Session.{Answer, answer_of, fresh, sent, emptied}
+use Rattle.early_host.specs.Meaning.{Meaning, begin, is_attached, after_steps}
 
 -- what may befall a host
 pub data Entry : Type 0 where

@@ -1,7 +1,7 @@
 // The texts that a session is sent.
 ghost use Rattle.std.specs.Prelude.{◌≡◌, IfOk, string_bytes};
-ghost use Rattle.cdp_host.specs.Messages.{result_text, refusal_text, paused_event, resumed_event};
-ghost use Rattle.cdp_host.specs.CommandRead.{held};
+ghost use Rattle.early_host.specs.Messages.{result_text, refusal_text, paused_event, resumed_event};
+ghost use Rattle.early_host.specs.CommandRead.{held};
 
 use crate::command::Command;
 use crate::refusal::Refusal;

@@ -2,8 +2,8 @@
 use Rattle.std.proofs.Common.{◌≡◌, ◌⊎◌, ℕ, zero, suc, ◌+◌, ◌-◌, ◌<◌, List, ◌++◌, Bool, true, false, not, refl, ap, sym, ◌∙◌, inl, inr, arith, add-one, if◌then◌else◌, Option, option_to_list, append_assoc}
 use Rattle.std.proofs.lemmas.Bool.{and_parts, not-true}
 use Rattle.early_machine.specs.Plain.{Configuration, plain, next, prints, is_finished}
-use Rattle.cdp_host.specs.Meaning.{Meaning, step, after_steps, is_ready, is_named, longest, IsLongest}
-use Rattle.cdp_host.specs.Rules.{StopsExactly}
+use Rattle.early_host.specs.Meaning.{Meaning, step, after_steps, is_ready, is_named, longest, IsLongest}
+use Rattle.early_host.specs.Rules.{StopsExactly}
 
 -- one more step comes behind the others
 pub after_steps-suc : (n : ℕ) (m : Meaning) → after_steps (suc n) m ≡ step (after_steps n m)

@@ -1,9 +1,9 @@
 use Rattle.std.proofs.Common.{◌≡◌, ◌++◌, ◌∙◌, not, ap, sym, arith, append-nil, option_to_list, ℕ, Vec, Global}
 use Rattle.std.proofs.lemmas.Bool.{and_parts}
-use Rattle.cdp_host.specs.Meaning.{is_ready, step}
-use Rattle.cdp_host.proofs.RunLemmas.{after_steps-more, longest-more, printed-more}
-use Rattle.cdp_host.proofs.host.Host.run_steps.Goals as goal
-use Rattle.cdp_host.proofs.host.Host.run_steps.Goals.{in-Some+in_ok-push, in_default}
+use Rattle.early_host.specs.Meaning.{is_ready, step}
+use Rattle.early_host.proofs.RunLemmas.{after_steps-more, longest-more, printed-more}
+use Rattle.early_host.proofs.host.Host.run_steps.Goals as goal
+use Rattle.early_host.proofs.host.Host.run_steps.Goals.{in-Some+in_ok-push, in_default}
 
 pub loop-steps-preserved : goal.loop-steps-preserved
 loop-steps-preserved c =

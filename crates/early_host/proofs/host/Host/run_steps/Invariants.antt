@@ -1,6 +1,6 @@
 use Rattle.std.proofs.Common.{◌-◌, ◌≡◌, ◌++◌, true, ◌+◌, ◌≤◌}
-use Rattle.cdp_host.specs.Meaning.{longest, after_steps}
-use Rattle.cdp_host.proofs.host.Host.run_steps.Given as goal
+use Rattle.early_host.specs.Meaning.{longest, after_steps}
+use Rattle.early_host.proofs.host.Host.run_steps.Given as goal
 
 -- the steps so far, and the longest run from here on makes up the longest one
 abbrev pub invariant-loop-steps : goal.invariant-loop-steps

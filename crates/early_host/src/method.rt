@@ -1,6 +1,6 @@
 // The methods of the Chrome DevTools Protocol that a host knows.
 ghost use Rattle.std.specs.Prelude.{◌≡◌};
-ghost use Rattle.cdp_host.specs.Session.{method_of};
+ghost use Rattle.early_host.specs.Session.{method_of};
 
 /// A method of the protocol's domains.
 #[derive(Clone, Copy, Debug, PartialEq, Eq)]

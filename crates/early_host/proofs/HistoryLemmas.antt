@@ -1,8 +1,8 @@
 -- Histories: one entry behind others, and the program's plain way.
 use Rattle.std.proofs.Common.{◌≡◌, ℕ, List, [], ◌∷◌, ◌++◌, true, false, ap, sym, ◌∙◌}
 use Rattle.std.proofs.lemmas.Grind.{fold-append}
-use Rattle.cdp_host.specs.Meaning.{begin, after_steps}
-use Rattle.cdp_host.specs.Histories.{Entry, Ran, apply, whole, HostState, Stands, after}
+use Rattle.early_host.specs.Meaning.{begin, after_steps}
+use Rattle.early_host.specs.Histories.{Entry, Ran, apply, whole, HostState, Stands, after}
 
 -- a history with one more entry means what that entry makes of it
 pub whole-more : (script : List ℕ) (history : List Entry) (entry : Entry) → whole script (history ++ entry ∷ []) ≡ apply (whole script history) entry

@@ -2,12 +2,12 @@
 use Rattle.std.specs.Prelude.{◌≡◌, ◌<◌, ℕ, ◌+◌, List, [], ◌∷◌, ◌++◌, false, ◌&&◌, nat_lt, if◌then◌else◌, None}
 use Rattle.std.specs.Option.{option_map_or}
 use Rattle.early_machine.specs.Plain.{plain}
-use Rattle.cdp_host.specs.Command.{Command, command_of}
-use Rattle.cdp_host.specs.Messages.{paused_event}
-use Rattle.cdp_host.specs.Session.{answer_of}
-use Rattle.cdp_host.specs.Meaning.{Meaning, after_steps, is_attached, is_named, longest}
-use Rattle.cdp_host.specs.States.{outbox_of}
-use Rattle.cdp_host.specs.Histories.{Entry, Attach, Tell, Take, Detach, Ran, apply, steps_made}
+use Rattle.early_host.specs.Command.{Command, command_of}
+use Rattle.early_host.specs.Messages.{paused_event}
+use Rattle.early_host.specs.Session.{answer_of}
+use Rattle.early_host.specs.Meaning.{Meaning, after_steps, is_attached, is_named, longest}
+use Rattle.early_host.specs.States.{outbox_of}
+use Rattle.early_host.specs.Histories.{Entry, Attach, Tell, Take, Detach, Ran, apply, steps_made}
 
 -- a script's program makes these steps, from the one that many steps in: no step before the last is one that a session names,
 -- and the program stops at the last exactly where a session names it

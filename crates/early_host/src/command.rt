@@ -2,8 +2,8 @@
 ghost use Rattle.std.specs.Prelude.{◌≡◌, false, IsTrue, is_some};
 ghost use Rattle.std.specs.Option.{option_map};
 ghost use Rattle.std.specs.List.{list_all};
-ghost use Rattle.cdp_host.specs.Command.{Command as Meant, IsCommand, is_method_byte, command_of};
-ghost use Rattle.cdp_host.specs.CommandRead.{held};
+ghost use Rattle.early_host.specs.Command.{Command as Meant, IsCommand, is_method_byte, command_of};
+ghost use Rattle.early_host.specs.CommandRead.{held};
 
 use cdp_text::decimal::read_decimal;
 use cdp_text::parts::{behind, halves};

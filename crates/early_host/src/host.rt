@@ -1,15 +1,15 @@
 // The host and its calls, each of which is one entry of its history.
 ghost use Rattle.std.specs.Prelude.{◌≡◌, ◌++◌, ◌∷◌, [], ◌==◌, ◌&&◌, ◌<◌, not, ℕ, List, IfOk, OnOk, OnErr, IsErr, IsTrue, None, Some, map, string_bytes, true, false, is_some, if◌then◌else◌, ◌↔◌};
 ghost use Rattle.early_machine.specs.Plain.{plain, prints};
-ghost use Rattle.cdp_host.specs.Command.{Command as Meant, command_of};
-ghost use Rattle.cdp_host.specs.Kept.{Session as Kept};
-ghost use Rattle.cdp_host.specs.Messages.{refusal_text};
-ghost use Rattle.cdp_host.specs.declared.refusal.Refusal.{Refusal};
-ghost use Rattle.cdp_host.specs.Session.{sent, refusal_of, method_of};
-ghost use Rattle.cdp_host.specs.Meaning.{begin, is_attached, is_ready, step, longest, IsLongest};
-ghost use Rattle.cdp_host.specs.Histories.{Entry, Attach, Tell, Take, Detach, Ran as RanEntry, Stands, after};
-ghost use Rattle.cdp_host.specs.Rules.{StopsExactly};
-ghost use Rattle.cdp_host.specs.States.{state_at, outbox_of};
+ghost use Rattle.early_host.specs.Command.{Command as Meant, command_of};
+ghost use Rattle.early_host.specs.Kept.{Session as Kept};
+ghost use Rattle.early_host.specs.Messages.{refusal_text};
+ghost use Rattle.early_host.specs.declared.refusal.Refusal.{Refusal};
+ghost use Rattle.early_host.specs.Session.{sent, refusal_of, method_of};
+ghost use Rattle.early_host.specs.Meaning.{begin, is_attached, is_ready, step, longest, IsLongest};
+ghost use Rattle.early_host.specs.Histories.{Entry, Attach, Tell, Take, Detach, Ran as RanEntry, Stands, after};
+ghost use Rattle.early_host.specs.Rules.{StopsExactly};
+ghost use Rattle.early_host.specs.States.{state_at, outbox_of};
 
 use crate::command::read_command;
 use crate::session::Session;
@@ -32,7 +32,7 @@ pub struct Host {
 
 impl Model for Host {
     ghost use Rattle.std.specs.Prelude.{◌≡◌, None, true};
-    ghost use Rattle.cdp_host.specs.Histories.{HostState};
+    ghost use Rattle.early_host.specs.Histories.{HostState};
 
     ghost Value = { HostState };
 
