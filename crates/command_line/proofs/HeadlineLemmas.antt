@@ -7,15 +7,16 @@ use Rattle.std.proofs.lemmas.Option.{same_Some}
 use Rattle.std.proofs.Math.Seq.{drop-append_seam}
 use Rattle.early_machine.specs.Plain.{plain, prints, next, is_finished}
 use Rattle.early_machine.proofs.PlainRun.{plain-prefix, plain-ended, plain-all}
-use Rattle.early_host.specs.Kept.{Session}
-use Rattle.early_host.specs.Command.{Command, command_of}
-use Rattle.early_host.specs.Session.{emptied, stopped, answer_of}
+use Rattle.cdp_session.specs.Kept.{Session}
+use Rattle.cdp_session.specs.Command.{Command, command_of}
+use Rattle.cdp_session.specs.Session.{emptied, stopped, answer_of}
 use Rattle.early_host.specs.Meaning.{Meaning, begin, step, after_steps, is_attached, is_named, longest}
 use Rattle.early_host.specs.Histories.{Entry, Attach, Tell, Take, Detach, Ran, apply, told, with_answer, whole, steps_made}
 use Rattle.early_host.specs.Rules.{StopsExactly, FitsEntry, FitsAll, handed_at, handed_of, texts_at}
 use Rattle.early_host.specs.States.{outbox_of, state_of}
 use Rattle.early_host.proofs.RuleLemmas.{choice-program, tell-program, apply-plain, fits-stops, fits-texts, keeps}
-use Rattle.early_host.proofs.FeedLemmas.{are_one_line, are-first, texts-one}
+use Rattle.cdp_session.proofs.OneLineLemmas.{are_one_line, are-first}
+use Rattle.early_host.proofs.FeedLemmas.{texts-one}
 use Rattle.early_host.proofs.RunLemmas.{after_steps-plain, longest-stops}
 use Rattle.early_host.specs.declared.state.State.TheVariants.{Ended, Paused, Ready}
 use Rattle.command_line.specs.Lines as lines

@@ -11,7 +11,7 @@ use Rattle.cdp_text.specs.Decimal.{decimal_value}
 use Rattle.cdp_text.specs.Parts.{behind, halves}
 use Rattle.cdp_text.proofs.Decimals.{decimal_value-some, decimal_value-decimal}
 use Rattle.cdp_text.proofs.PartsLemmas.{behind-some, halves-some, halves-decimal}
-use Rattle.early_host.specs.Command.{command_of}
+use Rattle.cdp_session.specs.Command.{command_of}
 use Rattle.command_line.specs.declared.line.Line.{Line as Held}
 use Rattle.command_line.specs.LineRead.{line_held}
 use Rattle.command_line.specs.Lines.{Line, Attach, Tell, Take, Run, line_text, IsInForm, IsLine, tell_at, tell_in, run_at, run_in, tell_rest, take_rest, run_rest, or_else, line_of, line_of_text}

@@ -7,7 +7,7 @@ use Rattle.cdp_text.specs.Lines.{lines_of}
 use Rattle.cdp_text.specs.Parts.{behind, halves}
 use Rattle.cdp_text.proofs.PartsLemmas.{behind-append, behind-some, halves-decimal}
 use Rattle.early_host.specs.declared.state.State.TheVariants.{Broken, Ended, Paused, Ready}
-use Rattle.early_host.proofs.FeedLemmas.{is_other, is_one_line, are_one_line, one-append, decimal-one}
+use Rattle.cdp_session.proofs.OneLineLemmas.{is_other, is_one_line, are_one_line, one-append, decimal-one}
 use Rattle.command_line.specs.Headline.{behind_each, to_front}
 use Rattle.command_line.specs.Output.{Output, Attached, To, Out, RanTo, state_name, output_text, output_bytes}
 

@@ -4,7 +4,7 @@ use Rattle.std.specs.Option.{option_and_then, option_map}
 use Rattle.std.specs.Str.{is_utf8}
 use Rattle.cdp_text.specs.Decimal.{decimal_value}
 use Rattle.cdp_text.specs.Parts.{behind, Halves, halves}
-use Rattle.early_host.specs.Command.{command_of}
+use Rattle.cdp_session.specs.Command.{command_of}
 
 -- what a line asks for
 pub data Line : Type 0 where

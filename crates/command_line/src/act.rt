@@ -1,7 +1,7 @@
 // What a journal's line does to the host.
 ghost use Rattle.std.specs.Prelude.{◌≡◌, ◌∷◌, [], false, true, is_some, Some, OnOk, IfOk, map, string_bytes, Option};
 ghost use Rattle.std.specs.Option.{option_map, option_map_or};
-ghost use Rattle.early_host.specs.Command.{command_of};
+ghost use Rattle.cdp_session.specs.Command.{command_of};
 ghost use Rattle.early_host.specs.Histories.{after, Ran};
 ghost use Rattle.early_host.specs.Meaning.{longest};
 ghost use Rattle.command_line.specs.Lines.{IsInForm, Attach, Tell, Take};

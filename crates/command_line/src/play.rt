@@ -12,8 +12,8 @@ use crate::act::act;
 use crate::line::read_line;
 use crate::outcome::Outcome;
 use cdp_edge::{Sink, SinkFault, put};
-use early_host::Host;
 use cdp_text::lines::cut_line;
+use early_host::Host;
 use std::alloc::Global;
 
 /// Why a line wasn't played.

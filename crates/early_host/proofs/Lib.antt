@@ -1,4 +1,3 @@
-pub mod CommandLemmas
 pub mod RunLemmas
 pub mod HistoryLemmas
 pub mod RuleLemmas

@@ -4,13 +4,11 @@ use Rattle.std.specs.List.{fold}
 use Rattle.std.specs.Option.{option_map, option_map_or}
 use Rattle.std.proofs.lemmas.Bool.{lt-ltb}
 use Rattle.early_machine.specs.Plain.{Configuration, plain, next}
-use Rattle.early_host.specs.Kept.{Session}
-use Rattle.early_host.specs.Command.{Command, command_of}
-use Rattle.early_host.specs.Messages.{paused_event}
-use Rattle.early_host.specs.Session.{stopped, answer_of, done, refused, refusal_of, method_of, emptied}
-use Rattle.early_host.specs.declared.method.Method.{Method}
-use Rattle.early_host.specs.declared.method.Method.TheVariants.{DebuggerEnable, DebuggerPause, DebuggerResume}
-use Rattle.early_host.specs.declared.refusal.Refusal.{Refusal}
+use Rattle.cdp_session.specs.Kept.{Session}
+use Rattle.cdp_session.specs.Command.{Command, command_of}
+use Rattle.cdp_session.specs.Messages.{paused_event}
+use Rattle.cdp_session.specs.Session.{stopped, answer_of, emptied}
+use Rattle.cdp_session.proofs.AnswerLemmas.{answer-outbox}
 use Rattle.early_host.specs.Meaning.{Meaning, step, after_steps, is_attached, is_named, is_ready, names, longest}
 use Rattle.early_host.specs.Histories.{Entry, Attach, Tell, Take, Detach, Ran, apply, told, with_answer, steps_made}
 use Rattle.early_host.specs.States.{outbox_of}
@@ -60,23 +58,11 @@ fits-stops script made m (Ran n ∷ history) is fits =
 
 -- ---- what became of each text
 
--- an answer leaves the texts that wait as they are
-done-outbox : (paused : Bool) (x : Session) (id : ℕ) (method : Option Method) → (done paused x id method).session.outbox ≡ x.outbox
-done-outbox paused x id None = refl
-done-outbox paused x id (Some DebuggerEnable) = refl
-done-outbox paused x id (Some DebuggerPause) = refl
-done-outbox paused x id (Some DebuggerResume) = refl
-
-answer-outbox : (paused : Bool) (x : Session) (command : Command) (o : Option Refusal)
-    → (option_map_or (refused paused x command) o (done paused x command.id (method_of command.method))).session.outbox ≡ x.outbox
-answer-outbox paused x command None = done-outbox paused x command.id (method_of command.method)
-answer-outbox paused x command (Some refusal) = refl
-
 told-outbox : (m : Meaning) (command : Command) (o : Option Session) → m.session ≡ o → outbox_of (told command m) ≡ outbox_of m ++ answer_texts m command
 told-outbox m command None is = rw is refl
 told-outbox m command (Some x) is =
     let answer = answer_of m.paused x command in
-    rw is (ap (λ texts. texts ++ answer.texts) (answer-outbox m.paused x command (refusal_of m.paused x (method_of command.method))))
+    rw is (ap (λ texts. texts ++ answer.texts) (answer-outbox m.paused x command))
 
 tell-outbox : (m : Meaning) (o : Option Command) → outbox_of (option_map_or (λ command. told command m) o m) ≡ outbox_of m ++ option_map_or (answer_texts m) o []
 tell-outbox m None = sym (append-nil (outbox_of m))

@@ -1,8 +1,8 @@
 -- Histories of a host and what they mean.
 use Rattle.std.specs.Prelude.{◌≡◌, ℕ, ◌+◌, List, [], ◌∷◌, fold, Bool, true, false, if◌then◌else◌, Some, None}
 use Rattle.std.specs.Option.{option_map, option_map_or}
-use Rattle.early_host.specs.Command.{Command, command_of}
-use Rattle.early_host.specs.Session.{Answer, answer_of, fresh, sent, emptied}
+use Rattle.cdp_session.specs.Command.{Command, command_of}
+use Rattle.cdp_session.specs.Session.{Answer, answer_of, fresh, sent, emptied}
 use Rattle.early_host.specs.Meaning.{Meaning, begin, is_attached, after_steps}
 
 -- what may befall a host

@@ -1,8 +1,3 @@
-pub mod Command
-pub mod CommandRead
-pub mod Messages
-pub mod Kept
-pub mod Session
 pub mod Meaning
 pub mod Histories
 pub mod States

@@ -2,8 +2,8 @@
 use Rattle.std.specs.Prelude.{◌≡◌, ◌⊎◌, ℕ, zero, suc, ◌+◌, ◌<◌, ◌≤◌, List, Bool, true, false, ◌==◌, ◌&&◌, not, is_some, if◌then◌else◌, Option, None}
 use Rattle.std.specs.Option.{option_map, option_map_or}
 use Rattle.early_machine.specs.Plain.{Configuration, start, next, is_finished, is_arrival}
-use Rattle.early_host.specs.Kept.{Session}
-use Rattle.early_host.specs.Session.{stopped}
+use Rattle.cdp_session.specs.Kept.{Session}
+use Rattle.cdp_session.specs.Session.{stopped}
 
 -- the program, and whether it is paused; how many sessions were attached so far, and the last of them while it is attached
 pub record Meaning : Type 0 where

@@ -2,9 +2,9 @@
 use Rattle.std.specs.Prelude.{◌≡◌, ◌<◌, ℕ, ◌+◌, List, [], ◌∷◌, ◌++◌, false, ◌&&◌, nat_lt, if◌then◌else◌, None}
 use Rattle.std.specs.Option.{option_map_or}
 use Rattle.early_machine.specs.Plain.{plain}
-use Rattle.early_host.specs.Command.{Command, command_of}
-use Rattle.early_host.specs.Messages.{paused_event}
-use Rattle.early_host.specs.Session.{answer_of}
+use Rattle.cdp_session.specs.Command.{Command, command_of}
+use Rattle.cdp_session.specs.Messages.{paused_event}
+use Rattle.cdp_session.specs.Session.{answer_of}
 use Rattle.early_host.specs.Meaning.{Meaning, after_steps, is_attached, is_named, longest}
 use Rattle.early_host.specs.States.{outbox_of}
 use Rattle.early_host.specs.Histories.{Entry, Attach, Tell, Take, Detach, Ran, apply, steps_made}

@@ -1,19 +1,19 @@
 // The host and its calls, each of which is one entry of its history.
 ghost use Rattle.std.specs.Prelude.{◌≡◌, ◌++◌, ◌∷◌, [], ◌==◌, ◌&&◌, ◌<◌, not, ℕ, List, IfOk, OnOk, OnErr, IsErr, IsTrue, None, Some, map, string_bytes, true, false, is_some, if◌then◌else◌, ◌↔◌};
 ghost use Rattle.early_machine.specs.Plain.{plain, prints};
-ghost use Rattle.early_host.specs.Command.{Command as Meant, command_of};
-ghost use Rattle.early_host.specs.Kept.{Session as Kept};
-ghost use Rattle.early_host.specs.Messages.{refusal_text};
-ghost use Rattle.early_host.specs.declared.refusal.Refusal.{Refusal};
-ghost use Rattle.early_host.specs.Session.{sent, refusal_of, method_of};
+ghost use Rattle.cdp_session.specs.Command.{Command as Meant, command_of};
+ghost use Rattle.cdp_session.specs.Kept.{Session as Kept};
+ghost use Rattle.cdp_session.specs.Messages.{refusal_text};
+ghost use Rattle.cdp_session.specs.declared.refusal.Refusal.{Refusal};
+ghost use Rattle.cdp_session.specs.Session.{sent, refusal_of, method_of};
 ghost use Rattle.early_host.specs.Meaning.{begin, is_attached, is_ready, step, longest, IsLongest};
 ghost use Rattle.early_host.specs.Histories.{Entry, Attach, Tell, Take, Detach, Ran as RanEntry, Stands, after};
 ghost use Rattle.early_host.specs.Rules.{StopsExactly};
 ghost use Rattle.early_host.specs.States.{state_at, outbox_of};
 
-use crate::command::read_command;
-use crate::session::Session;
 use crate::state::State;
+use cdp_session::command::read_command;
+use cdp_session::session::Session;
 use early_machine::early::Early;
 use early_machine::machine::Machine;
 use std::alloc::{AllocError, Global};
@@ -253,7 +253,7 @@ impl Host {
         let number = self.machine.step_early();
         let arrives = self.machine.arrives();
         if let Some(mut session) = self.session.take() {
-            if session.names(arrives) {
+            if session.wants_stop() && arrives {
                 session.stop()?;
                 self.paused = true;
             }

@@ -2,8 +2,8 @@
 ghost use Rattle.std.specs.Prelude.{◌≡◌, false, IsTrue, is_some};
 ghost use Rattle.std.specs.Option.{option_map};
 ghost use Rattle.std.specs.List.{list_all};
-ghost use Rattle.early_host.specs.Command.{Command as Meant, IsCommand, is_method_byte, command_of};
-ghost use Rattle.early_host.specs.CommandRead.{held};
+ghost use Rattle.cdp_session.specs.Command.{Command as Meant, IsCommand, is_method_byte, command_of};
+ghost use Rattle.cdp_session.specs.CommandRead.{held};
 
 use cdp_text::decimal::read_decimal;
 use cdp_text::parts::{behind, halves};
@@ -13,13 +13,13 @@ const MAX_SAFE_INTEGER: u64 = 0x1f_ffff_ffff_ffff;
 
 /// A command's id and the name of its method.
 #[derive(Clone, Copy)]
-pub(crate) struct Command<'t> {
-    pub(crate) id: u64,
-    pub(crate) method: &'t str,
+pub struct Command<'t> {
+    pub id: u64,
+    pub method: &'t str,
 }
 
 /// The command whose text this is.
-pub(crate) fn read_command(text: &str) -> Option<Command<'_>>
+pub fn read_command(text: &str) -> Option<Command<'_>>
     ensures { option_map held result ≡ command_of text.now }
 {
     let (digits, rest) = halves(behind(text, "{\"id\":")?, ',')?;

@@ -1,13 +1,13 @@
 -- What a session keeps, and how it answers a command.
 use Rattle.std.specs.Prelude.{ℕ, List, [], ◌∷◌, ◌++◌, Bool, true, false, ◌&&◌, ◌||◌, not, bytes_eq, if◌then◌else◌, codes, Option, Some, None}
 use Rattle.std.specs.Option.{option_map_or}
-use Rattle.early_host.specs.Command.{Command}
-use Rattle.early_host.specs.Kept.{Session}
-use Rattle.early_host.specs.declared.refusal.Refusal.{Refusal}
-use Rattle.early_host.specs.declared.refusal.Refusal.TheVariants.{MethodNotFound, AgentNotEnabled, NotPaused}
-use Rattle.early_host.specs.Messages.{result_text, debugger_id, empty_result, refusal_text, paused_event, resumed_event}
-use Rattle.early_host.specs.declared.method.Method.{Method}
-use Rattle.early_host.specs.declared.method.Method.TheVariants.{DebuggerEnable, DebuggerPause, DebuggerResume}
+use Rattle.cdp_session.specs.Command.{Command}
+use Rattle.cdp_session.specs.Kept.{Session}
+use Rattle.cdp_session.specs.declared.refusal.Refusal.{Refusal}
+use Rattle.cdp_session.specs.declared.refusal.Refusal.TheVariants.{MethodNotFound, AgentNotEnabled, NotPaused}
+use Rattle.cdp_session.specs.Messages.{result_text, debugger_id, empty_result, refusal_text, paused_event, resumed_event}
+use Rattle.cdp_session.specs.declared.method.Method.{Method}
+use Rattle.cdp_session.specs.declared.method.Method.TheVariants.{DebuggerEnable, DebuggerPause, DebuggerResume}
 
 -- a session that was just attached
 abbrev pub fresh : Session

@@ -1,10 +1,10 @@
 // The methods of the Chrome DevTools Protocol that a host knows.
 ghost use Rattle.std.specs.Prelude.{◌≡◌};
-ghost use Rattle.early_host.specs.Session.{method_of};
+ghost use Rattle.cdp_session.specs.Session.{method_of};
 
 /// A method of the protocol's domains.
 #[derive(Clone, Copy, Debug, PartialEq, Eq)]
-pub(crate) enum Method {
+pub enum Method {
     DebuggerEnable,
     DebuggerPause,
     DebuggerResume,
@@ -12,7 +12,7 @@ pub(crate) enum Method {
 
 impl Method {
     /// The method of this name, as `Debugger.enable`.
-    pub(crate) fn from_name(name: &str) -> Option<Method>
+    pub fn from_name(name: &str) -> Option<Method>
         ensures { result ≡ method_of name.now }
     {
         match name {

@@ -1,27 +1,27 @@
 // The texts that a session is sent.
 ghost use Rattle.std.specs.Prelude.{◌≡◌, IfOk, string_bytes};
-ghost use Rattle.early_host.specs.Messages.{result_text, refusal_text, paused_event, resumed_event};
-ghost use Rattle.early_host.specs.CommandRead.{held};
+ghost use Rattle.cdp_session.specs.Messages.{result_text, refusal_text, paused_event, resumed_event};
+ghost use Rattle.cdp_session.specs.CommandRead.{held};
 
 use crate::command::Command;
 use crate::refusal::Refusal;
 use std::alloc::{AllocError, Global};
 
 /// The result of `Debugger.enable`.
-pub(crate) const DEBUGGER_ID: &str = "{\"debuggerId\":\"1\"}";
+pub const DEBUGGER_ID: &str = "{\"debuggerId\":\"1\"}";
 
 /// The result of a method that answers nothing.
-pub(crate) const EMPTY_RESULT: &str = "{}";
+pub const EMPTY_RESULT: &str = "{}";
 
 /// The reply to the command of this id, with its result's JSON.
-pub(crate) fn result_text(alloc: Global, id: u64, result_json: &str) -> Result<String, AllocError>
+pub fn result_text(alloc: Global, id: u64, result_json: &str) -> Result<String, AllocError>
     ensures { IfOk result (λ text. string_bytes text ≡ result_text id result_json.now) }
 {
     Ok(format!(in alloc; "{{\"id\":{id},\"result\":{result_json}}}")?)
 }
 
 /// The reply to a command that is refused (JSON-RPC 2.0, section 5.1).
-pub(crate) fn refusal_text(
+pub fn refusal_text(
     alloc: Global,
     command: Command<'_>,
     refusal: Refusal,
@@ -46,7 +46,7 @@ pub(crate) fn refusal_text(
 }
 
 /// The event `Debugger.paused`.
-pub(crate) fn paused_event(alloc: Global) -> Result<String, AllocError>
+pub fn paused_event(alloc: Global) -> Result<String, AllocError>
     ensures { IfOk result (λ text. string_bytes text ≡ paused_event) }
 {
     String::from_str(
@@ -56,7 +56,7 @@ pub(crate) fn paused_event(alloc: Global) -> Result<String, AllocError>
 }
 
 /// The event `Debugger.resumed`.
-pub(crate) fn resumed_event(alloc: Global) -> Result<String, AllocError>
+pub fn resumed_event(alloc: Global) -> Result<String, AllocError>
     ensures { IfOk result (λ text. string_bytes text ≡ resumed_event) }
 {
     String::from_str(alloc, "{\"method\":\"Debugger.resumed\",\"params\":{}}")

@@ -1,8 +1,8 @@
 -- The texts that a session is sent: replies, refusals and events of the Chrome DevTools Protocol, as compact JSON with keys sorted.
 use Rattle.std.specs.Prelude.{ℕ, List, ◌++◌, codes, decimal}
-use Rattle.early_host.specs.Command.{Command}
-use Rattle.early_host.specs.declared.refusal.Refusal.{Refusal}
-use Rattle.early_host.specs.declared.refusal.Refusal.TheVariants.{MethodNotFound, AgentNotEnabled, NotPaused}
+use Rattle.cdp_session.specs.Command.{Command}
+use Rattle.cdp_session.specs.declared.refusal.Refusal.{Refusal}
+use Rattle.cdp_session.specs.declared.refusal.Refusal.TheVariants.{MethodNotFound, AgentNotEnabled, NotPaused}
 
 -- the reply to a command that was done: its id and this JSON
 abbrev pub result_text : ℕ → List ℕ → List ℕ

@@ -1,7 +1,7 @@
 // What a session keeps, and how it answers.
 ghost use Rattle.std.specs.Prelude.{◌≡◌, ◌∷◌, [], ◌&&◌, IfOk, OnOk, map, string_bytes};
-ghost use Rattle.early_host.specs.CommandRead.{held};
-ghost use Rattle.early_host.specs.Session.{fresh, sent, refusal_of, answer_of, emptied, stopped};
+ghost use Rattle.cdp_session.specs.CommandRead.{held};
+ghost use Rattle.cdp_session.specs.Session.{fresh, sent, refusal_of, answer_of, emptied, stopped};
 
 use crate::command::Command;
 use crate::message::{self, DEBUGGER_ID, EMPTY_RESULT};
@@ -12,7 +12,7 @@ use std::marker::Model;
 
 /// One client: whether it has the Debugger domain enabled, whether it requested a pause, and the texts that wait for it.
 #[derive(Drop)]
-pub(crate) struct Session {
+pub struct Session {
     enabled: bool,
     pause: bool,
     outbox: Vec<String>,
@@ -20,7 +20,7 @@ pub(crate) struct Session {
 
 impl Model for Session {
     ghost use Rattle.std.specs.Prelude.{map, string_bytes};
-    ghost use Rattle.early_host.specs.Kept.{Session as Kept};
+    ghost use Rattle.cdp_session.specs.Kept.{Session as Kept};
 
     ghost Value = { Kept };
 
@@ -28,7 +28,7 @@ impl Model for Session {
 }
 
 impl Session {
-    pub(crate) fn new(alloc: Global) -> Session
+    pub fn new(alloc: Global) -> Session
         ensures { result ≡ fresh }
     {
         Session {
@@ -38,15 +38,15 @@ impl Session {
         }
     }
 
-    /// Whether the session names a stop: it has the domain enabled, it requested a pause, and the program arrives.
-    pub(crate) fn names(&self, arrives: bool) -> bool
-        ensures { result ≡ (self.now.enabled && self.now.pause && arrives) }
+    /// Whether the session asks for a stop at the next arrival: it has the domain enabled, and it requested a pause.
+    pub fn wants_stop(&self) -> bool
+        ensures { result ≡ (self.now.enabled && self.now.pause) }
     {
-        self.enabled && self.pause && arrives
+        self.enabled && self.pause
     }
 
     /// Clears the request and tells of the stop.
-    pub(crate) fn stop(&mut self) -> Result<(), AllocError>
+    pub fn stop(&mut self) -> Result<(), AllocError>
         ensures { OnOk result (self.new ≡ stopped self.old) }
     {
         let alloc = *self.outbox.allocator();
@@ -55,7 +55,7 @@ impl Session {
     }
 
     /// Hands out the texts that wait.
-    pub(crate) fn take(&mut self) -> Vec<String>
+    pub fn take(&mut self) -> Vec<String>
         ensures texts { map string_bytes result.items ≡ self.old.outbox }
         ensures rest { self.new ≡ emptied self.old }
     {
@@ -64,7 +64,7 @@ impl Session {
     }
 
     /// Answers a command, and says whether the program is still paused.
-    pub(crate) fn answer(&mut self, command: Command<'_>, paused: bool) -> Result<bool, AllocError>
+    pub fn answer(&mut self, command: Command<'_>, paused: bool) -> Result<bool, AllocError>
         ensures session { OnOk result (let answer = answer_of paused self.old (held command.entry) in self.new ≡ sent answer.texts answer.session) }
         ensures paused { IfOk result (λ still. still ≡ (answer_of paused self.old (held command.entry)).paused) }
     {

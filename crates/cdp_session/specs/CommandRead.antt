@@ -1,6 +1,6 @@
 -- A command as the code holds it.
-use Rattle.early_host.specs.declared.command.Command.{Command as Held}
-use Rattle.early_host.specs.Command.{Command}
+use Rattle.cdp_session.specs.declared.command.Command.{Command as Held}
+use Rattle.cdp_session.specs.Command.{Command}
 
 -- the command that is held
 abbrev pub held : Held → Command

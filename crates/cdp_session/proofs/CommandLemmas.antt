@@ -11,9 +11,9 @@ use Rattle.cdp_text.specs.Decimal.{decimal_value}
 use Rattle.cdp_text.specs.Parts.{behind, Halves, halves}
 use Rattle.cdp_text.proofs.Decimals.{decimal_value-some, decimal_value-decimal}
 use Rattle.cdp_text.proofs.PartsLemmas.{behind-some, halves-append, halves-some, halves-decimal}
-use Rattle.early_host.specs.declared.command.Command.{Command as Held}
-use Rattle.early_host.specs.CommandRead.{held}
-use Rattle.early_host.specs.Command.{Command, IsCommand, command_text, command_of, with_parts, with_id, with_method, is_method_byte}
+use Rattle.cdp_session.specs.declared.command.Command.{Command as Held}
+use Rattle.cdp_session.specs.CommandRead.{held}
+use Rattle.cdp_session.specs.Command.{Command, IsCommand, command_text, command_of, with_parts, with_id, with_method, is_method_byte}
 
 -- a method's name holds no quotation mark
 name_lacks_quotation : (name : List ℕ) → list_all is_method_byte name ≡ true → (i : ℕ) → i < length name → get_or name i 0 ≢ 34

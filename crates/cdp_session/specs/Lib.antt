@@ -1,0 +1,5 @@
+pub mod Command
+pub mod CommandRead
+pub mod Messages
+pub mod Kept
+pub mod Session
