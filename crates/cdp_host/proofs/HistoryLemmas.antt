@@ -1,0 +1,129 @@
+-- Hosts and histories: one entry behind others.
+use Rattle.std.proofs.Common.{◌≡◌, ℕ, List, [], ◌∷◌, ◌++◌, Bool, true, false, ◌&&◌, ◌==◌, is_some, refl, ap, sym, ◌∙◌, append-nil, if◌then◌else◌, Option, Some, None}
+use Rattle.std.specs.Option.{option_map, option_map_or}
+use Rattle.std.proofs.lemmas.Bool.{eq-eqb}
+use Rattle.std.proofs.lemmas.Grind.{fold-append}
+use Rattle.js_tree.specs.declared.script.Script.{Script}
+use Rattle.js_semantics.specs.Run.{Run}
+use Rattle.cdp_session.specs.Kept.{Session}
+use Rattle.cdp_session.specs.Command.{Command, command_of}
+use Rattle.cdp_session.specs.Session.{answer_of, emptied}
+use Rattle.cdp_host.specs.Programs.{printed_of}
+use Rattle.cdp_host.specs.Meaning.{Meaning, mapped, begin, is_attached, after_steps}
+use Rattle.cdp_host.specs.Histories.{Entry, Attach, Tell, Take, Detach, Ran, changed, apply, whole, told, with_answer, steps_of}
+use Rattle.cdp_host.specs.Hosts.{HostState, Stands, after, run_with, meaning_with}
+use Rattle.cdp_host.proofs.ProgramLemmas.{start-prints}
+use Rattle.cdp_host.proofs.RuleLemmas.{changed-program}
+use Rattle.cdp_host.proofs.PartLemmas.{run-printed}
+
+-- a history with one more entry means what that entry makes of it
+pub whole-more : (scripts : List Script) (input : List (List ℕ)) (history : List Entry) (entry : Entry)
+    → whole scripts input (history ++ entry ∷ []) ≡ apply scripts (whole scripts input history) entry
+whole-more scripts input history entry = fold-append (apply scripts) (begin scripts input) history (entry ∷ [])
+
+-- ---- what an entry does beside making steps doesn't look at the program
+
+told_mapped : {A B : Type 0} (f : A → B) (m : Meaning A) (command : Command) (o : Option Session)
+    → mapped f (option_map_or (λ x. with_answer m (answer_of m.paused x command)) o m) ≡ option_map_or (λ x. with_answer (mapped f m) (answer_of m.paused x command)) o (mapped f m)
+told_mapped f m command None = refl
+told_mapped f m command (Some x) = refl
+
+tell_mapped : {A B : Type 0} (f : A → B) (m : Meaning A) (o : Option Command)
+    → mapped f (option_map_or (λ command. told command m) o m) ≡ option_map_or (λ command. told command (mapped f m)) o (mapped f m)
+tell_mapped f m None = refl
+tell_mapped f m (Some command) = told_mapped f m command m.session
+
+choice_mapped : {A B : Type 0} (f : A → B) (b : Bool) (k m : Meaning A) (n : Meaning B) → mapped f k ≡ n → mapped f (if b then k else m) ≡ (if b then n else mapped f m)
+choice_mapped f true k m n is = is
+choice_mapped f false k m n is = refl
+
+pub changed-mapped : {A B : Type 0} (f : A → B) (m : Meaning A) (entry : Entry) → mapped f (changed m entry) ≡ changed (mapped f m) entry
+changed-mapped f m Attach = refl
+changed-mapped f m (Tell s text) = choice_mapped f (is_attached m s) (option_map_or (λ command. told command m) (command_of text) m) m _ (tell_mapped f m (command_of text))
+changed-mapped f m (Take s) = choice_mapped f (is_attached m s) (record m { session = option_map emptied m.session }) m _ refl
+changed-mapped f m (Detach s) = choice_mapped f (is_attached m s) (record m { paused = false; session = None }) m _ refl
+changed-mapped f m (Ran n) = refl
+
+-- ---- standing for a history
+
+-- where it begins
+pub stands-start : (scripts : List Script) (input : List (List ℕ)) (host : HostState) → host.scripts ≡ scripts → host.broken ≡ false → meaning_with host [] ≡ begin scripts input
+    → Stands scripts input host []
+stands-start scripts input host same works is = record {
+  runs = same;
+  means = λ _. ap (meaning_with host) (start-prints scripts input) ∙ is;
+  alone = λ fails. absurd cc;
+}
+
+-- a call's equation is all that a host needs to stand for one entry more
+pub stands-more : (scripts : List Script) (input : List (List ℕ)) (old new : HostState) (history : List Entry) (entry : Entry)
+    → new ≡ after old entry → steps_of entry ≡ 0 → old.broken ≡ false → Stands scripts input old history → Stands scripts input new (history ++ entry ∷ [])
+stands-more scripts input old new history entry is none works stood =
+    let m : Meaning Run = whole scripts input history in
+    let one : whole scripts input (history ++ entry ∷ []) ≡ changed m entry = whole-more scripts input history entry ∙ ap (λ k. after_steps scripts k (changed m entry)) none in
+    let taken : List (List ℕ) = printed_of m.program in
+    let same : printed_of (whole scripts input (history ++ entry ∷ [])).program ≡ taken = ap (λ k. printed_of k.program) one ∙ ap printed_of (changed-program m entry) in
+    record {
+      runs = ap (λ h. h.scripts) is ∙ stood.runs;
+      means = λ _.
+          ap (meaning_with new) same
+          ∙ ap (λ h. meaning_with h taken) is
+          ∙ changed-mapped (run_with taken) old.meaning entry
+          ∙ ap (λ k. changed k entry) (stood.means works)
+          ∙ sym one;
+      alone = λ fails. let still : new.broken ≡ old.broken = ap (λ h. h.broken) is in cc;
+    }
+
+-- what a run says of a host before and behind it
+pub record RanSo (old new : HostState) (n : ℕ) (printed : List (List ℕ)) : Type 0 where
+  pub scripts : new.scripts ≡ old.scripts
+  pub same : new.broken ≡ old.broken
+  pub handed : new.broken ≡ false → new.meaning.program.machine.context.printed ≡ []
+  pub means : (taken : List (List ℕ)) → meaning_with new (taken ++ printed) ≡ after_steps old.scripts n (meaning_with old taken)
+  -- a broken host makes no step
+  pub stays : old.broken ≡ true → n ≡ 0
+
+pub stands-ran : (scripts : List Script) (input : List (List ℕ)) (old new : HostState) (history : List Entry) (n : ℕ) (printed : List (List ℕ))
+    → RanSo old new n printed → Stands scripts input old history → Stands scripts input new (history ++ Ran n ∷ [])
+stands-ran scripts input old new history n printed ran stood =
+    let m : Meaning Run = whole scripts input history in
+    let one = whole-more scripts input history (Ran n) in
+    let taken : List (List ℕ) = printed_of m.program in
+    let works_old : new.broken ≡ false → old.broken ≡ false = λ works. sym ran.same ∙ works in
+    let reached : new.broken ≡ false → meaning_with new (taken ++ printed) ≡ whole scripts input (history ++ Ran n ∷ []) = λ works.
+    ran.means taken ∙ ap (λ s. after_steps s n (meaning_with old taken)) stood.runs ∙ ap (after_steps scripts n) (stood.means (works_old works)) ∙ sym one in
+    let all : new.broken ≡ false → printed_of (whole scripts input (history ++ Ran n ∷ [])).program ≡ taken ++ printed = λ works.
+    ap (λ k. printed_of k.program) (sym (reached works))
+    ∙ run-printed new.meaning.program (taken ++ printed)
+    ∙ ap (λ xs. (taken ++ printed) ++ xs) (ran.handed works)
+    ∙ append-nil (taken ++ printed) in
+    record {
+      runs = ran.scripts ∙ stood.runs;
+      means = λ works. ap (meaning_with new) (all works) ∙ reached works;
+      alone = λ fails.
+          ap (λ k. k.session) one ∙ ap (λ k. (after_steps scripts k m).session) (ran.stays (sym ran.same ∙ fails)) ∙ stood.alone (sym ran.same ∙ fails);
+    }
+
+detached_by : (b : Bool) (m : Meaning Run) (o : Option Session) → m.session ≡ o → b ≡ is_some o → (if b then record m { paused = false; session = None } else m).session ≡ None
+detached_by true m o is b = refl
+detached_by false m None is b = is
+detached_by false m (Some x) is b = absurd cc
+
+same_number : (n : ℕ) (b : Bool) → (b && (n == n)) ≡ b
+same_number n true = eq-eqb n n refl
+same_number n false = refl
+
+-- a run that finds no memory leaves a host without a session
+pub stands-broken : (scripts : List Script) (input : List (List ℕ)) (old new : HostState) (history : List Entry) → new.scripts ≡ old.scripts → new.broken ≡ true → old.broken ≡ false
+    → Stands scripts input old history → Stands scripts input new (history ++ Detach old.meaning.attached ∷ [])
+stands-broken scripts input old new history same fails works stood =
+    let m : Meaning Run = whole scripts input history in
+    let number : m.attached ≡ old.meaning.attached = ap (λ k. k.attached) (sym (stood.means works)) in
+    let test : is_attached m old.meaning.attached ≡ is_some m.session = ap (λ s. is_attached m s) (sym number) ∙ same_number m.attached (is_some m.session) in
+    record {
+      runs = same ∙ stood.runs;
+      means = λ intact. absurd cc;
+      alone = λ _. ap (λ k. k.session) (whole-more scripts input history (Detach old.meaning.attached)) ∙ detached_by (is_attached m old.meaning.attached) m m.session refl test;
+    }
+
+pub ruleset stands = (stands-more, stands-start)

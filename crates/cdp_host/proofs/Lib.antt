@@ -1,0 +1,10 @@
+pub mod ProgramLemmas
+pub mod PartLemmas
+pub mod StateLemmas
+pub mod RunLemmas
+pub mod AdvanceLemmas
+pub mod StartLemmas
+pub mod RuleLemmas
+pub mod FeedLemmas
+pub mod HistoryLemmas
+pub mod RanLemmas

@@ -1,0 +1,19 @@
+use Rattle.std.proofs.Common.{◌-◌, ◌≡◌, ◌++◌, ◌≤◌, true, false, List, [], ℕ}
+use Rattle.cdp_host.specs.Hosts.{meaning_with}
+use Rattle.cdp_host.specs.Ran.{HasMade}
+use Rattle.cdp_host.proofs.host.Host.run.Given as goal
+
+-- so many steps were made, and what they printed is kept
+abbrev pub invariant-loop-self : goal.invariant-loop-self
+invariant-loop-self l = record {
+  within : l.left ≤ l.n;
+  scripts : l.self.scripts ≡ l.fn.self.scripts;
+  same : l.self.broken ≡ l.fn.self.broken;
+  sessions : l.self.meaning.attached ≡ l.fn.self.meaning.attached;
+  handed : l.self.broken ≡ false → l.self.meaning.program.machine.context.printed ≡ [];
+  stays : l.self.broken ≡ true → l.left ≡ l.n;
+  made : (taken : List (List ℕ)) → HasMade l.fn.self.scripts (meaning_with l.fn.self taken) (meaning_with l.self (taken ++ l.printed.items)) (l.n - l.left);
+}
+
+abbrev pub decreases-loop-self : goal.decreases-loop-self
+decreases-loop-self l = l.left

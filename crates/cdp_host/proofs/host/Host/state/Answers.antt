@@ -1,0 +1,28 @@
+use Rattle.std.proofs.Common.{sym, ap, ◌∙◌}
+use Rattle.cdp_host.proofs.StateLemmas.{state-broken, state-threw, state-ended, state-paused, state-ready}
+use Rattle.cdp_host.proofs.host.Host.state.Goals as goal
+
+pub returns-then-self : goal.returns-then-self
+returns-then-self c = λ taken. state-broken c.args.self.now taken (sym (ap (λ h. h.broken) c.self.view_is) ∙ c.if-self.true)
+
+pub returns-then-has_thrown : goal.returns-then-has_thrown
+returns-then-has_thrown c = λ taken.
+    let works = sym (ap (λ h. h.broken) c.self.view_is) ∙ c.if-self.false in
+    state-threw c.args.self.now taken works (c.if-has_thrown.ensures works taken)
+
+pub returns-then-is_over : goal.returns-then-is_over
+returns-then-is_over c = λ taken.
+    let works = sym (ap (λ h. h.broken) c.self.view_is) ∙ c.if-self.false in
+    state-ended c.args.self.now taken works (c.if-has_thrown.ensures works taken) (c.if-is_over.ensures works taken)
+
+pub returns-then-self-2 : goal.returns-then-self-2
+returns-then-self-2 c = λ taken.
+    let works = sym (ap (λ h. h.broken) c.self.view_is) ∙ c.if-self.false in
+    state-paused c.args.self.now taken works (c.if-has_thrown.ensures works taken) (c.if-is_over.ensures works taken)
+    (sym (ap (λ h. h.meaning.paused) c.self.view_is) ∙ c.if-self-2.true)
+
+pub returns-else-self-2 : goal.returns-else-self-2
+returns-else-self-2 c = λ taken.
+    let works = sym (ap (λ h. h.broken) c.self.view_is) ∙ c.if-self.false in
+    state-ready c.args.self.now taken works (c.if-has_thrown.ensures works taken) (c.if-is_over.ensures works taken)
+    (sym (ap (λ h. h.meaning.paused) c.self.view_is) ∙ c.if-self-2.false)

@@ -1,0 +1,7 @@
+pub mod Programs
+pub mod Meaning
+pub mod Histories
+pub mod States
+pub mod Ran
+pub mod Rules
+pub mod Hosts

@@ -1,0 +1,53 @@
+-- What a host's definitions need of a program.
+use Rattle.std.specs.Prelude.{ℕ, zero, suc, List, Bool, true, false, is_some}
+use Rattle.js_tree.specs.declared.script.Script.{Script}
+use Rattle.js_semantics.specs.State.{top_spot}
+use Rattle.js_semantics.specs.Functions.{Program}
+use Rattle.js_semantics.specs.Run as runs
+use Rattle.js_semantics.specs.Run.{Run, running, over, ended, threw, by_effect, by_full}
+use Rattle.js_semantics.specs.Sources.{terms_of_scripts}
+use Rattle.js_semantics.specs.Frames.{at}
+use Rattle.js_frames.specs.Sources.{spans_in}
+
+-- the sources in which the code of the scripts' functions is looked up
+unfoldable pub code_of : List Script → Program
+code_of scripts = runs.program_of (terms_of_scripts scripts)
+
+-- the scripts' program with these lines of input, before its first step
+unfoldable pub start : List Script → List (List ℕ) → Run
+start scripts input = runs.start (terms_of_scripts scripts) input
+
+-- one step further; a program that is over stays as it is
+unfoldable pub next : List Script → Run → Run
+next scripts r = runs.step (code_of scripts) r
+
+-- so many steps further
+abbrev pub nexts : List Script → ℕ → Run → Run
+nexts scripts zero r = r
+nexts scripts (suc k) r = nexts scripts k (next scripts r)
+
+-- where it is after so many steps that nobody watches
+unfoldable pub plain : ℕ → List Script → List (List ℕ) → Run
+plain k scripts input = runs.plain k (terms_of_scripts scripts) input
+
+-- its next step arrives at a place where a program can be stopped
+unfoldable pub is_arrival : List Script → Run → Bool
+is_arrival scripts (running t s) = is_some (at (spans_in scripts (top_spot s.frames).source) t)
+is_arrival scripts (over f s) = false
+
+-- nothing is left to do
+abbrev pub is_over : Run → Bool
+is_over (running t s) = false
+is_over (over f s) = true
+
+-- it is over by a throw that no `catch` took
+abbrev pub has_thrown : Run → Bool
+has_thrown (running t s) = false
+has_thrown (over (ended v) s) = false
+has_thrown (over (threw v place) s) = true
+has_thrown (over by_effect s) = false
+has_thrown (over (by_full what) s) = false
+
+-- the texts that it has printed
+abbrev pub printed_of : Run → List (List ℕ)
+printed_of r = runs.printed_of r

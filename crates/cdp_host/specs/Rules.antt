@@ -1,0 +1,87 @@
+-- What holds of a history, in the words of the run without a debugger.
+use Rattle.std.specs.Prelude.{◌≡◌, ◌<◌, ℕ, ◌+◌, List, [], ◌∷◌, ◌++◌, true, false, ◌&&◌, nat_lt, if◌then◌else◌, None}
+use Rattle.std.specs.Option.{option_map_or}
+use Rattle.js_tree.specs.declared.script.Script.{Script}
+use Rattle.js_semantics.specs.Run.{Run}
+use Rattle.js_semantics.specs.Laws.{IsPrefix}
+use Rattle.cdp_session.specs.Command.{Command, command_of}
+use Rattle.cdp_session.specs.Messages.{paused_event}
+use Rattle.cdp_session.specs.Session.{answer_of}
+use Rattle.cdp_host.specs.Programs.{plain, printed_of, is_over}
+use Rattle.cdp_host.specs.Meaning.{Meaning, after_steps, is_attached, is_named, longest}
+use Rattle.cdp_host.specs.States.{outbox_of}
+use Rattle.cdp_host.specs.Histories.{Entry, Attach, Tell, Take, Detach, Ran, apply, steps_of}
+
+-- ---- output
+
+-- A program that has made so many steps has printed what the run without a debugger has printed by then: a prefix of what that
+-- prints in any further steps, and all of it once it is over.
+pub record PrintsAsPlain (scripts : List Script) (input : List (List ℕ)) (made : ℕ) (r : Run) : Type 0 where
+  pub first : (j : ℕ) → IsPrefix (printed_of r) (printed_of (plain (made + j) scripts input))
+  pub all : is_over r ≡ true → (j : ℕ) → printed_of (plain (made + j) scripts input) ≡ printed_of r
+
+-- ---- stops
+
+-- a program makes these steps, from the one that many steps in: no step before the last is one that a session names,
+-- and the program stops at the last exactly where a session names it
+pub record StopsExactly (scripts : List Script) (input : List (List ℕ)) (made : ℕ) (m : Meaning Run) (n : ℕ) : Type 0 where
+  pub passes_none : (j : ℕ) → j + 1 < n → is_named scripts m (plain (made + j + 1) scripts input) ≡ false
+  pub stops_there : 0 < n → (after_steps scripts n m).paused ≡ is_named scripts m (plain (made + n) scripts input)
+  pub starts_ready : 0 < n → m.paused ≡ false
+
+-- an entry that makes steps makes such ones
+abbrev pub StopsAt : List Script → List (List ℕ) → ℕ → Meaning Run → Entry → Type 0
+StopsAt scripts input made m Attach = Unit {0}
+StopsAt scripts input made m (Tell s text) = Unit {0}
+StopsAt scripts input made m (Take s) = Unit {0}
+StopsAt scripts input made m (Detach s) = Unit {0}
+StopsAt scripts input made m (Ran n) = StopsExactly scripts input made m n
+
+-- each run of the history does so
+abbrev pub AllStopExactly : List Script → List (List ℕ) → ℕ → Meaning Run → List Entry → Type 0
+AllStopExactly scripts input made m [] = Unit {0}
+AllStopExactly scripts input made m (entry ∷ history) = StopsAt scripts input made m entry × AllStopExactly scripts input (made + steps_of entry) (apply scripts m entry) history
+
+-- ---- texts
+
+-- the texts of the answer to a command of the session that is attached
+abbrev pub answer_texts : Meaning Run → Command → List (List ℕ)
+answer_texts m command = option_map_or (λ x. (answer_of m.paused x command).texts) m.session []
+
+-- the texts that an entry makes for the session: the answers to its commands, and the event of a stop
+abbrev pub texts_at : List Script → List (List ℕ) → ℕ → Meaning Run → Entry → List (List ℕ)
+texts_at scripts input made m Attach = []
+texts_at scripts input made m (Tell s text) = if is_attached m s then option_map_or (answer_texts m) (command_of text) [] else []
+texts_at scripts input made m (Take s) = []
+texts_at scripts input made m (Detach s) = []
+texts_at scripts input made m (Ran n) = if nat_lt 0 n && is_named scripts m (plain (made + n) scripts input) then paused_event ∷ [] else []
+
+-- the texts that a history makes, in order
+abbrev pub texts_of : List Script → List (List ℕ) → ℕ → Meaning Run → List Entry → List (List ℕ)
+texts_of scripts input made m [] = []
+texts_of scripts input made m (entry ∷ history) = texts_at scripts input made m entry ++ texts_of scripts input (made + steps_of entry) (apply scripts m entry) history
+
+-- the texts that an entry hands out
+abbrev pub handed_at : Meaning Run → Entry → List (List ℕ)
+handed_at m Attach = []
+handed_at m (Tell s text) = []
+handed_at m (Take s) = if is_attached m s then outbox_of m else []
+handed_at m (Detach s) = []
+handed_at m (Ran n) = []
+
+-- the texts that a history hands out, in order
+abbrev pub handed_of : List Script → Meaning Run → List Entry → List (List ℕ)
+handed_of scripts m [] = []
+handed_of scripts m (entry ∷ history) = handed_at m entry ++ handed_of scripts (apply scripts m entry) history
+
+-- an entry of a journal: one session is attached at most once, and a run is the longest one of at most some number of steps
+abbrev pub FitsEntry : List Script → Meaning Run → Entry → Type 0
+FitsEntry scripts m Attach = (m.attached ≡ 0) × (m.session ≡ None)
+FitsEntry scripts m (Tell s text) = Unit {0}
+FitsEntry scripts m (Take s) = Unit {0}
+FitsEntry scripts m (Detach s) = ⊥
+FitsEntry scripts m (Ran n) = (most : ℕ) × (n ≡ longest scripts most m)
+
+abbrev pub FitsAll : List Script → Meaning Run → List Entry → Type 0
+FitsAll scripts m [] = Unit {0}
+FitsAll scripts m (entry ∷ history) = FitsEntry scripts m entry × FitsAll scripts (apply scripts m entry) history

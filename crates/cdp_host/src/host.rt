@@ -1,0 +1,325 @@
+//! The host and its calls, each of which is one entry of its history.
+
+ghost use Rattle.std.specs.Prelude.{◌≡◌, ◌++◌, ◌∷◌, [], ◌==◌, ◌&&◌, ◌<◌, ◌≤◌, not, ℕ, List, IfOk, OnOk, OnErr, IsErr, IsTrue, None, Some, map, string_bytes, true, false, is_some, if◌then◌else◌, nat_lt, ◌↔◌};
+ghost use Rattle.js_tree.specs.declared.script.Script.{Script as AnyScript};
+ghost use Rattle.cdp_session.specs.Command.{Command as Meant, command_of};
+ghost use Rattle.cdp_session.specs.Kept.{Session as Kept};
+ghost use Rattle.cdp_session.specs.Messages.{refusal_text};
+ghost use Rattle.cdp_session.specs.declared.refusal.Refusal.{Refusal};
+ghost use Rattle.cdp_session.specs.Session.{sent, refusal_of, method_of};
+ghost use Rattle.cdp_host.specs.Programs.{plain, is_over, has_thrown};
+ghost use Rattle.cdp_host.specs.Meaning.{begin, is_attached, is_ready, after_steps, longest, IsLongest};
+ghost use Rattle.cdp_host.specs.Histories.{Entry, Attach, Tell, Take, Detach, Ran as RanEntry};
+ghost use Rattle.cdp_host.specs.Hosts.{Stands, after, meaning_with, state_at};
+ghost use Rattle.cdp_host.specs.Ran.{HasMade, IsStretch};
+ghost use Rattle.cdp_host.specs.Rules.{StopsExactly};
+ghost use Rattle.cdp_host.specs.States.{outbox_of};
+
+use crate::advance::{Advanced, advance};
+use crate::state::State;
+use cdp_session::command::read_command;
+use cdp_session::session::Session;
+use cdp_text::units::Units;
+use js_machine::machine::{Machine, Started};
+use js_steps::stepped::Finish;
+use js_tree::script::Script;
+use js_world::heap::BaseHeap;
+use std::alloc::{AllocError, Global};
+use std::collections::VecDeque;
+use std::marker::Model;
+
+/// A program and the session that debugs it.
+#[derive(Drop)]
+pub struct Host {
+    alloc: Global,
+    scripts: Vec<Script>,
+    machine: Machine,
+    heap: BaseHeap,
+    paused: bool,
+    attached: u64,
+    session: Option<Session>,
+    broken: bool,
+}
+
+impl Model for Host {
+    ghost use Rattle.js_tree.specs.contracts.tree.Stmt as stmt;
+    ghost use Rattle.std.specs.Coded.{codes};
+    ghost use Rattle.cdp_host.specs.Hosts.{HostState, IsSound};
+
+    ghost Value = { HostState };
+
+    ghost coded = { Prim.hlevel (codes, stmt.the_row.coded) };
+
+    ghost view = { λ a. record {
+      scripts = a.scripts.items;
+      meaning = record { program = record { machine = a.machine; heap = a.heap }; paused = a.paused; attached = a.attached; session = a.session };
+      broken = a.broken;
+    } };
+
+    ghost invariant = { λ a. IsSound a.scripts.items a.machine a.broken a.session };
+}
+
+/// What a run did.
+#[derive(Drop)]
+pub struct Ran {
+    /// How many steps were made.
+    pub steps: u64,
+    /// The texts that they printed, in order.
+    pub printed: Vec<Units>,
+}
+
+/// What became of a command.
+#[derive(Clone, Copy, Debug, PartialEq, Eq)]
+pub enum Told {
+    /// It was answered.
+    Kept,
+    /// There was no memory for the answer, and the session is detached.
+    Memory,
+}
+
+impl Host {
+    /// A host whose program runs these scripts one after another with these lines of input, before its first step; no session
+    /// is attached.
+    ///
+    /// # Errors
+    ///
+    /// There is no memory, also where the scripts have more string literals than there are addresses.
+    #[tactic(auto, using(crate::proofs::StartLemmas::starts, crate::proofs::HistoryLemmas::stands))]
+    pub fn start(
+        alloc: Global,
+        scripts: Vec<Script>,
+        input: VecDeque<Units>,
+    ) -> Result<Host, AllocError>
+        ensures host { IfOk result (λ host. meaning_with host [] ≡ begin scripts.items input.items) }
+        ensures scripts { IfOk result (λ host. host.scripts ≡ scripts.items) }
+        ensures works { IfOk result (λ host. host.broken ≡ false) }
+        ensures stands { IfOk result (λ host. Stands scripts.items input.items host []) }
+    {
+        let Started { machine, heap } = Machine::start(alloc, scripts.as_slice(), input)?;
+        Ok(Host {
+            alloc,
+            scripts,
+            machine,
+            heap,
+            paused: false,
+            attached: 0,
+            session: None,
+            broken: false,
+        })
+    }
+
+    /// Attaches the first session and answers its number, 1. An error comes exactly from a broken host, and changes nothing.
+    #[tactic(auto, using(crate::proofs::HistoryLemmas::stands))]
+    pub fn attach(&mut self) -> Result<u64, AllocError>
+        requires { self.old.meaning.attached ≡ 0 }
+        ensures number { IfOk result (λ s. s ≡ 1) }
+        ensures host { OnOk result (self.new ≡ after self.old Attach) }
+        ensures broken { IsErr result ↔ IsTrue self.old.broken }
+        ensures err { OnErr result (self.new ≡ self.old) }
+        ensures stands { OnOk result ((scripts : List AnyScript) (input : List (List ℕ)) (history : List Entry) → Stands scripts input self.old history
+            → Stands scripts input self.new (history ++ Attach ∷ [])) }
+    {
+        if self.broken {
+            return Err(AllocError);
+        }
+        self.attached = 1;
+        self.session = Some(Session::new(self.alloc));
+        Ok(1)
+    }
+
+    /// How many sessions were attached so far, detached ones included.
+    pub fn sessions(&self) -> u64
+        ensures { result ≡ self.now.meaning.attached }
+    {
+        self.attached
+    }
+
+    /// Whether this session is attached.
+    pub fn attached(&self, s: u64) -> bool
+        ensures { result ≡ is_attached self.now.meaning s }
+    {
+        self.session.is_some() && s == self.attached
+    }
+
+    /// The first state that holds, in the order in which `State` lists them.
+    pub fn state(&self) -> State
+        ensures { (taken : List (List ℕ)) → result ≡ state_at self.now taken }
+    {
+        if self.broken {
+            State::Broken
+        } else if self.has_thrown() {
+            State::Threw
+        } else if self.is_over() {
+            State::Ended
+        } else if self.paused {
+            State::Paused
+        } else {
+            State::Ready
+        }
+    }
+
+    /// Hands out the texts that wait for this session, in order; none of them waits any more. Takes no memory.
+    #[tactic(auto, using(crate::proofs::HistoryLemmas::stands))]
+    pub fn take(&mut self, s: u64) -> Vec<String>
+        requires { is_attached self.old.meaning s ≡ true }
+        ensures texts { map string_bytes result.items ≡ outbox_of self.old.meaning }
+        ensures host { self.new ≡ after self.old (Take s) }
+        ensures stands { (scripts : List AnyScript) (input : List (List ℕ)) (history : List Entry) → Stands scripts input self.old history
+            → Stands scripts input self.new (history ++ Take s ∷ []) }
+    {
+        let Some(mut session) = self.session.take() else {
+            return Vec::new(self.alloc);
+        };
+        let texts = session.take();
+        self.session = Some(session);
+        texts
+    }
+
+    /// Answers a command of this session: its reply or refusal, and then its events, come behind the texts that wait
+    /// (JSON-RPC 2.0, section 5; Chrome DevTools Protocol, domain Debugger). A refused command changes nothing else.
+    /// After want of memory the session is detached, and a paused program goes on.
+    #[tactic(auto, using(crate::proofs::HistoryLemmas::stands))]
+    pub fn tell(&mut self, s: u64, text: &str) -> Told
+        requires attached { is_attached self.old.meaning s ≡ true }
+        requires early { is_some (command_of text.now) ≡ true }
+        ensures kept { result ≡ Told.Kept → self.new ≡ after self.old (Tell s text.now) }
+        ensures memory { result ≡ Told.Memory → self.new ≡ after self.old (Detach s) }
+        // a refused command changes only the texts that wait
+        ensures refused { result ≡ Told.Kept → (command : Meant) (x : Kept) → command_of text.now ≡ Some command → self.old.meaning.session ≡ Some x
+            → (refusal : Refusal) → refusal_of self.old.meaning.paused x (method_of command.method) ≡ Some refusal
+            → self.new.meaning ≡ record self.old.meaning { session = Some (sent (refusal_text command refusal ∷ []) x) } }
+        ensures stands_kept { result ≡ Told.Kept → (scripts : List AnyScript) (input : List (List ℕ)) (history : List Entry) → Stands scripts input self.old history
+            → Stands scripts input self.new (history ++ Tell s text.now ∷ []) }
+        ensures stands_memory { result ≡ Told.Memory → (scripts : List AnyScript) (input : List (List ℕ)) (history : List Entry) → Stands scripts input self.old history
+            → Stands scripts input self.new (history ++ Detach s ∷ []) }
+    {
+        let Some(command) = read_command(text) else {
+            return Told::Kept;
+        };
+        let Some(mut session) = self.session.take() else {
+            return Told::Kept;
+        };
+        match session.answer(command, self.paused) {
+            Ok(paused) => {
+                self.paused = paused;
+                self.session = Some(session);
+                Told::Kept
+            }
+            Err(_) => {
+                self.paused = false;
+                Told::Memory
+            }
+        }
+    }
+}
+
+impl Host {
+    /// Makes the longest run of at most `n` steps: it ends earlier only where the program isn't ready any more.
+    /// A run that makes no step needs no memory. After an error the host is broken and its session is detached.
+    pub fn run(&mut self, n: u64) -> Result<Ran, AllocError>
+        // The program is so many steps further, and what they printed is handed out.
+        ensures host { IfOk result (λ ran. (taken : List (List ℕ)) → meaning_with self.new (taken ++ ran.printed.items) ≡ after_steps self.old.scripts ran.steps (meaning_with self.old taken)) }
+        ensures same { IfOk result (λ ran. self.new.broken ≡ self.old.broken) }
+        ensures scripts { self.new.scripts ≡ self.old.scripts }
+        ensures broken { self.old.broken ≡ true → IfOk result (λ ran. ran.steps ≡ 0) }
+        ensures longest { self.old.broken ≡ false → IfOk result (λ ran. (taken : List (List ℕ)) → ran.steps ≡ longest self.old.scripts n (meaning_with self.old taken)) }
+        ensures is_longest { self.old.broken ≡ false → IfOk result (λ ran. (taken : List (List ℕ)) → IsLongest self.old.scripts n (meaning_with self.old taken) ran.steps) }
+        ensures stops { self.old.broken ≡ false → IfOk result (λ ran. (taken input : List (List ℕ)) (made : ℕ) → (meaning_with self.old taken).program ≡ plain made self.old.scripts input
+            → StopsExactly self.old.scripts input made (meaning_with self.old taken) ran.steps) }
+        ensures err { OnErr result ((self.new.broken ≡ true) × (self.new.meaning.session ≡ None)) }
+        ensures sessions { self.new.meaning.attached ≡ self.old.meaning.attached }
+        // a run that makes no step needs no memory
+        ensures err_works { OnErr result (self.old.broken ≡ false) }
+        ensures err_steps { OnErr result ((taken : List (List ℕ)) → 0 < longest self.old.scripts n (meaning_with self.old taken)) }
+        ensures stands { IfOk result (λ ran. (scripts : List AnyScript) (input : List (List ℕ)) (history : List Entry) → Stands scripts input self.old history
+            → Stands scripts input self.new (history ++ RanEntry ran.steps ∷ [])) }
+        ensures stands_err { OnErr result ((scripts : List AnyScript) (input : List (List ℕ)) (history : List Entry) → Stands scripts input self.old history
+            → Stands scripts input self.new (history ++ Detach self.old.meaning.attached ∷ [])) }
+    {
+        let mut printed = Vec::new(self.alloc);
+        let mut left = n;
+        while self.may_step(left) {
+            left -= self.advance(left, &mut printed)?;
+        }
+        Ok(Ran {
+            steps: n - left,
+            printed,
+        })
+    }
+
+    /// Makes steps, at least one, until the program stops, raises, prints or ends, or until so many are made; what it prints
+    /// comes behind the other texts. After an error the host is broken and its session is detached.
+    fn advance(&mut self, most: u64, printed: &mut Vec<Units>) -> Result<u64, AllocError>
+        requires works { self.old.broken ≡ false }
+        requires ready { (taken : List (List ℕ)) → is_ready (meaning_with self.old taken) ≡ true }
+        requires some { 0 < most }
+        ensures made { IfOk result (λ steps. (taken : List (List ℕ)) → HasMade self.old.scripts (meaning_with self.old (taken ++ printed.old.items)) (meaning_with self.new (taken ++ printed.new.items)) steps) }
+        ensures counts { IfOk result (λ steps. IsStretch most steps) }
+        ensures same { OnOk result (self.new.broken ≡ false) }
+        ensures handed { OnOk result (self.new.meaning.program.machine.context.printed ≡ []) }
+        ensures scripts { self.new.scripts ≡ self.old.scripts }
+        ensures sessions { self.new.meaning.attached ≡ self.old.meaning.attached }
+        ensures err { OnErr result ((self.new.broken ≡ true) × (self.new.meaning.session ≡ None)) }
+    {
+        match advance(
+            &mut self.machine,
+            &mut self.heap,
+            self.scripts.as_slice(),
+            &mut self.session,
+            most,
+            printed,
+        ) {
+            Ok(Advanced { steps, stopped }) => {
+                self.paused = stopped;
+                Ok(steps)
+            }
+            Err(error) => {
+                self.broken = true;
+                self.session = None;
+                Err(error)
+            }
+        }
+    }
+
+    /// Whether one of so many steps that are left may be made.
+    fn may_step(&self, left: u64) -> bool
+        ensures { (taken : List (List ℕ)) → result ≡ (nat_lt 0 left && (not self.now.broken && is_ready (meaning_with self.now taken))) }
+    {
+        left > 0 && self.is_ready()
+    }
+
+    /// Whether the next step may be made.
+    fn is_ready(&self) -> bool
+        ensures { (taken : List (List ℕ)) → result ≡ (not self.now.broken && is_ready (meaning_with self.now taken)) }
+    {
+        !self.broken && self.goes_on()
+    }
+
+    /// Whether the program is neither paused nor over.
+    fn goes_on(&self) -> bool
+        ensures { self.now.broken ≡ false → (taken : List (List ℕ)) → result ≡ is_ready (meaning_with self.now taken) }
+    {
+        !self.paused && !self.is_over()
+    }
+
+    /// Whether the program is over.
+    fn is_over(&self) -> bool
+        ensures { self.now.broken ≡ false → (taken : List (List ℕ)) → result ≡ is_over (meaning_with self.now taken).program }
+    {
+        match self.machine.finished() {
+            Some(_) => true,
+            None => self.machine.end().is_some(),
+        }
+    }
+
+    /// Whether it is over by a throw that no `catch` took.
+    fn has_thrown(&self) -> bool
+        ensures { self.now.broken ≡ false → (taken : List (List ℕ)) → result ≡ has_thrown (meaning_with self.now taken).program }
+    {
+        match self.machine.finished() {
+            Some(Finish::Threw(_, _)) => true,
+            Some(Finish::Ended(_)) => false,
+            None => false,
+        }
+    }
+}
