@@ -5,6 +5,6 @@ pub mod RunLemmas
 pub mod AdvanceLemmas
 pub mod StartLemmas
 pub mod RuleLemmas
-pub mod FeedLemmas
 pub mod HistoryLemmas
 pub mod RanLemmas
+pub mod PrintLemmas

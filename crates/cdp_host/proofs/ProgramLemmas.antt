@@ -25,13 +25,13 @@ pub start-prints : (scripts : List Script) (input : List (List ℕ)) → printed
 unfolding start
 start-prints scripts input = ap (λ s. s.printed) (run_of-state _ _)
 
-prefix-same : (part : List (List ℕ)) → IsPrefix part part
+pub prefix-same : (part : List (List ℕ)) → IsPrefix part part
 prefix-same part = ([], sym (append-nil part))
 
-prefix-trans : (first second third : List (List ℕ)) → IsPrefix first second → IsPrefix second third → IsPrefix first third
+pub prefix-trans : (first second third : List (List ℕ)) → IsPrefix first second → IsPrefix second third → IsPrefix first third
 prefix-trans first second third h i = (h.0 ++ i.0, i.1 ∙ ap (λ xs. xs ++ i.0) h.1 ∙ append_assoc first h.0 i.0)
 
-next-prints : (scripts : List Script) (r : Run) → IsPrefix (printed_of r) (printed_of (next scripts r))
+pub next-prints : (scripts : List Script) (r : Run) → IsPrefix (printed_of r) (printed_of (next scripts r))
 unfolding next
 next-prints scripts r = (step-follows (code_of scripts) script_scope r).output
 

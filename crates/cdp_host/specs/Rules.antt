@@ -1,5 +1,5 @@
 -- What holds of a history, in the words of the run without a debugger.
-use Rattle.std.specs.Prelude.{◌≡◌, ◌<◌, ℕ, ◌+◌, List, [], ◌∷◌, ◌++◌, true, false, ◌&&◌, nat_lt, if◌then◌else◌, None}
+use Rattle.std.specs.Prelude.{◌≡◌, ◌<◌, ℕ, ◌+◌, List, [], ◌∷◌, ◌++◌, drop, length, true, false, ◌&&◌, nat_lt, if◌then◌else◌, None}
 use Rattle.std.specs.Option.{option_map_or}
 use Rattle.js_tree.specs.declared.script.Script.{Script}
 use Rattle.js_semantics.specs.Run.{Run}
@@ -19,6 +19,10 @@ use Rattle.cdp_host.specs.Histories.{Entry, Attach, Tell, Take, Detach, Ran, app
 pub record PrintsAsPlain (scripts : List Script) (input : List (List ℕ)) (made : ℕ) (r : Run) : Type 0 where
   pub first : (j : ℕ) → IsPrefix (printed_of r) (printed_of (plain (made + j) scripts input))
   pub all : is_over r ≡ true → (j : ℕ) → printed_of (plain (made + j) scripts input) ≡ printed_of r
+
+-- the texts that so many steps print
+abbrev pub printed_in : List Script → ℕ → Meaning Run → List (List ℕ)
+printed_in scripts n m = drop (length (printed_of m.program)) (printed_of (after_steps scripts n m).program)
 
 -- ---- stops
 

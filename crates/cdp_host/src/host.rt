@@ -12,7 +12,7 @@ ghost use Rattle.cdp_host.specs.Meaning.{begin, is_attached, is_ready, after_ste
 ghost use Rattle.cdp_host.specs.Histories.{Entry, Attach, Tell, Take, Detach, Ran as RanEntry};
 ghost use Rattle.cdp_host.specs.Hosts.{Stands, after, meaning_with, state_at};
 ghost use Rattle.cdp_host.specs.Ran.{HasMade, IsStretch};
-ghost use Rattle.cdp_host.specs.Rules.{StopsExactly};
+ghost use Rattle.cdp_host.specs.Rules.{StopsExactly, printed_in};
 ghost use Rattle.cdp_host.specs.States.{outbox_of};
 
 use crate::advance::{Advanced, advance};
@@ -219,6 +219,7 @@ impl Host {
     pub fn run(&mut self, n: u64) -> Result<Ran, AllocError>
         // The program is so many steps further, and what they printed is handed out.
         ensures host { IfOk result (λ ran. (taken : List (List ℕ)) → meaning_with self.new (taken ++ ran.printed.items) ≡ after_steps self.old.scripts ran.steps (meaning_with self.old taken)) }
+        ensures printed { self.old.broken ≡ false → IfOk result (λ ran. (taken : List (List ℕ)) → ran.printed.items ≡ printed_in self.old.scripts ran.steps (meaning_with self.old taken)) }
         ensures same { IfOk result (λ ran. self.new.broken ≡ self.old.broken) }
         ensures scripts { self.new.scripts ≡ self.old.scripts }
         ensures broken { self.old.broken ≡ true → IfOk result (λ ran. ran.steps ≡ 0) }

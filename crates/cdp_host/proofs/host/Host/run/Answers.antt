@@ -4,6 +4,7 @@ use Rattle.cdp_host.specs.Hosts.{meaning_with}
 use Rattle.cdp_host.proofs.StateLemmas.{may-parts}
 use Rattle.cdp_host.proofs.RunLemmas.{is-longest, ready-stops}
 use Rattle.cdp_host.proofs.HistoryLemmas.{stands-ran, stands-broken}
+use Rattle.cdp_host.proofs.PrintLemmas.{ran-prints}
 use Rattle.cdp_host.proofs.RanLemmas.{at-error, ran-none, ran-more, ran-longest, fails-ready}
 use Rattle.cdp_host.proofs.host.Host.run.Goals as goal
 
@@ -61,6 +62,17 @@ overflow_sub-result c = c.loop-self.invariant.within
 
 pub returns-clause-host : goal.returns-clause-host
 returns-clause-host c = λ taken. (c.loop-self.invariant.made taken).reached
+
+pub returns-clause-printed : goal.returns-clause-printed
+returns-clause-printed c = λ works taken.
+    let was = c.loop-self.invariant in
+    ran-prints c.args.self.now c.loop-self.self (c.args.n - c.loop-self.left) c.loop-self.printed.items (record {
+      scripts = was.scripts;
+      same = was.same;
+      handed = was.handed;
+      means = λ taken. (was.made taken).reached;
+      stays = λ fails. let stays = was.stays (was.same ∙ fails) in omega (arith, stays);
+    }) works (sym (ap (λ h. h.meaning.program.machine.context.printed) c.self.view_is) ∙ c.self.invariant.handed (ap (λ h. h.broken) c.self.view_is ∙ works)) taken
 
 pub returns-clause-same : goal.returns-clause-same
 returns-clause-same c = c.loop-self.invariant.same

@@ -1,4 +1,0 @@
-pub mod RunLemmas
-pub mod HistoryLemmas
-pub mod RuleLemmas
-pub mod FeedLemmas

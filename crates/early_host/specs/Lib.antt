@@ -1,4 +1,0 @@
-pub mod Meaning
-pub mod Histories
-pub mod States
-pub mod Rules

@@ -1,4 +1,0 @@
-mod Statements
-mod Scripts
-mod Parts
-pub mod PlainRun

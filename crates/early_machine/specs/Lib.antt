@@ -1,4 +1,0 @@
-pub mod Early
-pub mod Pending
-pub mod Plain
-pub mod PlainLaws

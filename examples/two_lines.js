@@ -1,2 +1,0 @@
-console.log(7);
-console.log(8);
