@@ -16,7 +16,7 @@ import sys
 TOP = os.path.dirname(os.path.dirname(os.path.abspath(__file__)))
 CRATE = os.path.join(TOP, "crates", "debug_host")
 RUNS = [
-    ("examples/pause.journal", "examples/two_lines.js", "examples/pause.output"),
+    ("examples/pause.journal", "examples/counters.js", "examples/pause.output"),
     ("crates/debug_host/data/first.journal", "crates/debug_host/data/empty.js", "crates/debug_host/stdout"),
 ]
 

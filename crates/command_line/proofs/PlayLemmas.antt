@@ -5,11 +5,15 @@ use Rattle.std.proofs.lemmas.List.{take_more, take-append-drop, map-append}
 use Rattle.std.specs.Option.{option_map_or}
 use Rattle.cdp_edge.specs.Outside.{gains, GainsPrefix, GainsLess}
 use Rattle.cdp_edge.proofs.Gains.{gains-append, gains-nil, GainsPrefix-behind, GainsLess-behind}
-use Rattle.early_host.specs.Meaning.{Meaning}
-use Rattle.early_host.specs.Histories.{Entry, HostState, apply}
-use Rattle.command_line.specs.Ends.{Plays, line_output, journal_output}
+use Rattle.js_tree.specs.declared.script.Script.{Script}
+use Rattle.js_semantics.specs.Run.{Run as Program}
+use Rattle.cdp_host.specs.Meaning.{Meaning, begin}
+use Rattle.cdp_host.specs.Histories.{Entry, apply, whole}
+use Rattle.cdp_host.specs.Hosts.{HostState, Stands}
+use Rattle.cdp_host.proofs.HistoryLemmas.{whole-more}
 use Rattle.command_line.specs.Journal.{entry_of, refused}
 use Rattle.command_line.specs.Output.{joined, output_text, output_at, output_bytes}
+use Rattle.command_line.specs.Played.{Plays, line_output, journal_output}
 
 pub joined-append : (xs ys : List (List ℕ)) → joined (xs ++ ys) ≡ joined xs ++ joined ys
 joined-append [] ys = refl
@@ -62,46 +66,114 @@ Written-all old now all left before nothing =
     before.is ∙ ap (λ bytes. gains old bytes) (sym e)
 
 -- what the lines write is what the first writes, and then the others
-pub journal_output-line : (m : Meaning) (line : List ℕ) (lines : List (List ℕ)) (o : Option Entry) → entry_of m line ≡ o
-    → journal_output m (line ∷ lines) ≡ line_output m o ++ option_map_or (λ entry. journal_output (apply m entry) lines) o []
-journal_output-line m line lines None is = rw is refl
-journal_output-line m line lines (Some entry) is =
-    rw is (ap joined (map-append output_text (output_at m entry) _) ∙ joined-append (map output_text (output_at m entry)) _)
-
--- a line that was played
-pub record Played (m : Meaning) (new : HostState) (line : List ℕ) (lines : List (List ℕ)) (before now : Option (List ℕ)) : Type 0 where
-  pub bytes : List ℕ
-  pub gained : now ≡ gains before bytes
-  pub output : journal_output m (line ∷ lines) ≡ bytes ++ journal_output new.meaning lines
-  pub refused : (number : ℕ) → refused number m (line ∷ lines) ≡ refused (number + 1) new.meaning lines
-  pub works : new.broken ≡ false
-
-pub played-line : (old new : HostState) (line : List ℕ) (lines : List (List ℕ)) (before now : Option (List ℕ)) (o : Option Entry)
-    → entry_of old.meaning line ≡ o → old.broken ≡ false → Plays o old new before now → Played old.meaning new line lines before now
-played-line old new line lines before now None is works plays = absurd plays
-played-line old new line lines before now (Some entry) is works plays = record {
-  bytes = output_bytes (output_at old.meaning entry);
-  gained = plays.1;
-  output = journal_output-line old.meaning line lines (Some entry) is ∙ ap (λ m. output_bytes (output_at old.meaning entry) ++ journal_output m lines) (sym (ap (λ h. h.meaning) plays.0));
-  refused = λ number. rw is (ap (λ m. refused (number + 1) m lines) (sym (ap (λ h. h.meaning) plays.0)));
-  works = ap (λ h. h.broken) plays.0 ∙ works;
-}
+journal_output-line : (scripts : List Script) (m : Meaning Program) (line : List ℕ) (lines : List (List ℕ)) (o : Option Entry) → entry_of scripts m line ≡ o
+    → journal_output scripts m (line ∷ lines) ≡ line_output scripts m o ++ option_map_or (λ entry. journal_output scripts (apply scripts m entry) lines) o []
+journal_output-line scripts m line lines None is = rw is refl
+journal_output-line scripts m line lines (Some entry) is =
+    rw is (ap joined (map-append output_text (output_at scripts m entry) _) ∙ joined-append (map output_text (output_at scripts m entry)) _)
 
 -- the lines that are left begin with the one that was cut off
-pub left-output : (m : Meaning) (rest : List (List ℕ)) (line : List ℕ) (lines : List (List ℕ)) → rest ≡ line ∷ lines
-    → journal_output m rest ≡ line_output m (entry_of m line) ++ option_map_or (λ entry. journal_output (apply m entry) lines) (entry_of m line) []
-left-output m rest line lines is = ap (λ all. journal_output m all) is ∙ journal_output-line m line lines (entry_of m line) refl
+left-output : (scripts : List Script) (m : Meaning Program) (rest : List (List ℕ)) (line : List ℕ) (lines : List (List ℕ)) → rest ≡ line ∷ lines
+    → journal_output scripts m rest ≡ line_output scripts m (entry_of scripts m line) ++ option_map_or (λ entry. journal_output scripts (apply scripts m entry) lines) (entry_of scripts m line) []
+left-output scripts m rest line lines is = ap (λ all. journal_output scripts m all) is ∙ journal_output-line scripts m line lines (entry_of scripts m line) refl
 
--- who gained a first part of nothing gained nothing
-gained-nothing : (old new : Option (List ℕ)) (part rest : List ℕ) → [] ≡ part ++ rest → new ≡ gains old part → new ≡ old
-gained-nothing old new [] rest is gained = gained ∙ gains-nil old
-gained-nothing old new (x ∷ part) rest is gained = cc
+-- ---- how far a replay came
 
--- where a line is refused, all is written
-pub refused-output : (m : Meaning) (rest : List (List ℕ)) (line : List ℕ) (lines : List (List ℕ)) (old now new : Option (List ℕ)) (all : List ℕ)
-    → rest ≡ line ∷ lines → entry_of m line ≡ None → Written old now all (journal_output m rest) → GainsPrefix now new (line_output m (entry_of m line))
-    → new ≡ gains old all
-refused-output m rest line lines old now new all is none before part =
-    let nothing : journal_output m rest ≡ [] = left-output m rest line lines is ∙ (rw none refl) in
-    let same : new ≡ now = gained-nothing now new part.0 part.1 (ap (λ o. line_output m o) (sym none) ∙ part.2) part.3 in
-    same ∙ Written-all old now all (journal_output m rest) before nothing
+-- A host stands for the history of the lines so far; what was written and what the lines that are left write make up all, and
+-- the first line that is refused is one of those that are left.
+pub record IsBehind (scripts : List Script) (input : List (List ℕ)) (all rest : List (List ℕ)) (number : ℕ) (host : HostState) (before now : Option (List ℕ)) : Type 0 where
+  pub history : List Entry
+  pub stands : Stands scripts input host history
+  pub works : host.broken ≡ false
+  pub refused : refused scripts number (whole scripts input history) rest ≡ refused scripts 1 (begin scripts input) all
+  pub written : Written before now (journal_output scripts (begin scripts input) all) (journal_output scripts (whole scripts input history) rest)
+
+pub behind-start : (scripts : List Script) (input : List (List ℕ)) (all : List (List ℕ)) (host : HostState) (before : Option (List ℕ))
+    → Stands scripts input host [] → host.broken ≡ false → IsBehind scripts input all all 1 host before before
+behind-start scripts input all host before stands works = record {
+  history = [];
+  stands = stands;
+  works = works;
+  refused = refl;
+  written = record { done = []; is = sym (gains-nil before); parts = refl };
+}
+
+behind-by : (scripts : List Script) (input : List (List ℕ)) (all rest : List (List ℕ)) (number : ℕ) (host new : HostState) (before now next : Option (List ℕ)) (line : List ℕ) (lines : List (List ℕ))
+    → rest ≡ line ∷ lines → (b : IsBehind scripts input all rest number host before now) → (o : Option Entry) → entry_of scripts (whole scripts input b.history) line ≡ o
+    → Plays scripts input b.history o new now next → IsBehind scripts input all lines (number + 1) new before next
+behind-by scripts input all rest number host new before now next line lines is b None none plays = absurd plays
+behind-by scripts input all rest number host new before now next line lines is b (Some entry) some plays =
+    let m : Meaning Program = whole scripts input b.history in
+    let more : whole scripts input (b.history ++ entry ∷ []) ≡ apply scripts m entry = whole-more scripts input b.history entry in
+    record {
+      history = b.history ++ entry ∷ [];
+      stands = plays.1.stands;
+      works = plays.1.works;
+      refused = ap (λ k. refused scripts (number + 1) k lines) more
+          ∙ ap (λ o. option_map_or (λ e. refused scripts (number + 1) (apply scripts m e) lines) o (Some number)) (sym some)
+          ∙ ap (λ xs. refused scripts number m xs) (sym is)
+          ∙ b.refused;
+      written = Written-next before now next _ _ (output_bytes (output_at scripts m entry)) (journal_output scripts (whole scripts input (b.history ++ entry ∷ [])) lines) b.written
+          (ap (λ xs. journal_output scripts m xs) is ∙ journal_output-line scripts m line lines (Some entry) some
+          ∙ ap (λ k. output_bytes (output_at scripts m entry) ++ journal_output scripts k lines) (sym more)) plays.0;
+    }
+
+-- a line was played
+pub behind-next : (scripts : List Script) (input : List (List ℕ)) (all rest : List (List ℕ)) (number : ℕ) (host new : HostState) (before now next : Option (List ℕ)) (line : List ℕ) (lines : List (List ℕ))
+    → rest ≡ line ∷ lines → IsBehind scripts input all rest number host before now
+    → ((s : List Script) (i : List (List ℕ)) (h : List Entry) → Stands s i host h → Plays s i h (entry_of s (whole s i h) line) new now next)
+    → IsBehind scripts input all lines (number + 1) new before next
+behind-next scripts input all rest number host new before now next line lines is b plays =
+    behind-by scripts input all rest number host new before now next line lines is b (entry_of scripts (whole scripts input b.history) line) refl (plays scripts input b.history b.stands)
+
+-- a first part of what the line writes was written
+pub behind-part : (scripts : List Script) (input : List (List ℕ)) (all rest : List (List ℕ)) (number : ℕ) (host : HostState) (before now next : Option (List ℕ)) (line : List ℕ) (lines : List (List ℕ))
+    → rest ≡ line ∷ lines → IsBehind scripts input all rest number host before now
+    → ((s : List Script) (i : List (List ℕ)) (h : List Entry) → Stands s i host h → GainsPrefix now next (line_output s (whole s i h) (entry_of s (whole s i h) line)))
+    → GainsPrefix before next (journal_output scripts (begin scripts input) all)
+behind-part scripts input all rest number host before now next line lines is b part =
+    Written-part before now next _ _ _ _ b.written (left-output scripts (whole scripts input b.history) rest line lines is) (part scripts input b.history b.stands)
+
+pub behind-less : (scripts : List Script) (input : List (List ℕ)) (all rest : List (List ℕ)) (number : ℕ) (host : HostState) (before now next : Option (List ℕ)) (line : List ℕ) (lines : List (List ℕ))
+    → rest ≡ line ∷ lines → IsBehind scripts input all rest number host before now
+    → ((s : List Script) (i : List (List ℕ)) (h : List Entry) → Stands s i host h → GainsLess now next (line_output s (whole s i h) (entry_of s (whole s i h) line)))
+    → GainsLess before next (journal_output scripts (begin scripts input) all)
+behind-less scripts input all rest number host before now next line lines is b less =
+    Written-less before now next _ _ _ _ b.written (left-output scripts (whole scripts input b.history) rest line lines is) (less scripts input b.history b.stands)
+
+-- the line is refused
+pub behind-refused : (scripts : List Script) (input : List (List ℕ)) (all rest : List (List ℕ)) (number : ℕ) (host : HostState) (before now : Option (List ℕ)) (line : List ℕ) (lines : List (List ℕ))
+    → rest ≡ line ∷ lines → IsBehind scripts input all rest number host before now
+    → ((s : List Script) (i : List (List ℕ)) (h : List Entry) → Stands s i host h → entry_of s (whole s i h) line ≡ None)
+    → refused scripts 1 (begin scripts input) all ≡ Some number
+behind-refused scripts input all rest number host before now line lines is b none =
+    let m : Meaning Program = whole scripts input b.history in
+    sym b.refused ∙ ap (λ xs. refused scripts number m xs) is
+    ∙ ap (λ o. option_map_or (λ e. refused scripts (number + 1) (apply scripts m e) lines) o (Some number)) (none scripts input b.history b.stands)
+
+-- and then all is written
+pub behind-refused-whole : (scripts : List Script) (input : List (List ℕ)) (all rest : List (List ℕ)) (number : ℕ) (host : HostState) (before now : Option (List ℕ)) (line : List ℕ) (lines : List (List ℕ))
+    → rest ≡ line ∷ lines → IsBehind scripts input all rest number host before now
+    → ((s : List Script) (i : List (List ℕ)) (h : List Entry) → Stands s i host h → entry_of s (whole s i h) line ≡ None)
+    → now ≡ gains before (journal_output scripts (begin scripts input) all)
+behind-refused-whole scripts input all rest number host before now line lines is b none =
+    let m : Meaning Program = whole scripts input b.history in
+    Written-all before now _ (journal_output scripts m rest) b.written
+    (left-output scripts m rest line lines is ∙ ap (λ o. line_output scripts m o ++ option_map_or (λ e. journal_output scripts (apply scripts m e) lines) o []) (none scripts input b.history b.stands))
+
+-- no line is left
+pub behind-done : (scripts : List Script) (input : List (List ℕ)) (all rest : List (List ℕ)) (number : ℕ) (host : HostState) (before now : Option (List ℕ))
+    → rest ≡ [] → IsBehind scripts input all rest number host before now → refused scripts 1 (begin scripts input) all ≡ None
+behind-done scripts input all rest number host before now is b =
+    sym b.refused ∙ ap (λ xs. refused scripts number (whole scripts input b.history) xs) is
+
+pub behind-done-whole : (scripts : List Script) (input : List (List ℕ)) (all rest : List (List ℕ)) (number : ℕ) (host : HostState) (before now : Option (List ℕ))
+    → rest ≡ [] → IsBehind scripts input all rest number host before now → now ≡ gains before (journal_output scripts (begin scripts input) all)
+behind-done-whole scripts input all rest number host before now is b =
+    Written-all before now _ _ b.written (ap (λ xs. journal_output scripts (whole scripts input b.history) xs) is)
+
+-- what was written is a first part of all
+pub behind-first : (scripts : List Script) (input : List (List ℕ)) (all rest : List (List ℕ)) (number : ℕ) (host : HostState) (before now : Option (List ℕ))
+    → IsBehind scripts input all rest number host before now → GainsPrefix before now (journal_output scripts (begin scripts input) all)
+behind-first scripts input all rest number host before now b =
+    (b.written.done, journal_output scripts (whole scripts input b.history) rest, b.written.parts, b.written.is)

@@ -1,4 +1,277 @@
--- Where nothing was written.
+-- What each end of a replay says of the files, and of what was written.
+use Rattle.std.proofs.Common.{◌≡◌, ◌⊎◌, ℕ, List, Option, Some, None, refl, sym, subst, ◌∙◌, inl, inr}
+use Rattle.cdp_edge.specs.Outside.{Named, Told, Rose, content_of, gains, GainsPrefix, GainsLess}
+use Rattle.cdp_edge.specs.Blame.{Faults, Blames, Read}
 use Rattle.cdp_edge.proofs.Gains.{gains-nil, GainsPrefix-refl, Told-GainsPrefix}
+use Rattle.cdp_text.specs.Lines.{lines_of}
+use Rattle.js_tree.specs.declared.script.Script.{Script}
+use Rattle.cdp_host.specs.Meaning.{begin}
+use Rattle.script_files.specs.declared.fault.Refusal.{Refusal}
+use Rattle.command_line.specs.Files.{HoldsReplay, HoldsSources, IsReachedBy, IsReachedIn, IsRefusedBehind, IsRefusedIn}
+use Rattle.command_line.specs.Journal.{entries, refused}
+use Rattle.command_line.specs.Played.{IsCut, end_of, journal_output}
+use Rattle.command_line.specs.ReplayCauses.{AppliesUpTo, Replays, ReplaysWhole, ReplaysInPart, ReplaysShort, BecauseJournal, BecauseReplay, outcome_of_play}
+use Rattle.command_line.specs.RunCauses.{BecauseSources}
+use Rattle.command_line.specs.Status.{GivenReplay, status_of}
+use Rattle.command_line.specs.Words.{Command, Replay, Request}
+use Rattle.command_line.specs.declared.outcome.Outcome.{Outcome}
+use Rattle.command_line.specs.declared.outcome.Outcome.TheVariants as ends
+use Rattle.command_line.specs.declared.play.ReplayEnd.{ReplayEnd}
+use Rattle.command_line.specs.declared.play.ReplayEnd.TheVariants as plays
+use Rattle.command_line.proofs.AppliedLemmas.{applied-all, refused-one}
+use Rattle.command_line.proofs.HeadlineLemmas.{headline-of}
+use Rattle.command_line.proofs.RunLemmas.{run_stands, told_always, told_map}
 
 pub ruleset untouched = (gains-nil, GainsPrefix-refl, Told-GainsPrefix)
+
+-- ---- a replay that the files hold
+
+applies : (scripts : List Script) (input : List (List ℕ)) (texts : List (List ℕ)) (line : Option ℕ) → refused scripts 1 (begin scripts input) texts ≡ line
+    → AppliesUpTo line scripts input texts (entries scripts (begin scripts input) texts)
+applies scripts input texts None is = applied-all 1 scripts (begin scripts input) texts is
+applies scripts input texts (Some number) is = refused-one 1 number scripts (begin scripts input) texts is
+
+replays : (files : List Named) (request : Request) (journal : List ℕ) (scripts : List Script) (input : List (List ℕ)) (line : Option ℕ) → HoldsReplay files request journal scripts input
+    → refused scripts 1 (begin scripts input) (lines_of journal) ≡ line → Replays files request line (journal_output scripts (begin scripts input) (lines_of journal))
+replays files request journal scripts input line holds is = record {
+  journal = journal;
+  scripts = scripts;
+  input = input;
+  history = entries scripts (begin scripts input) (lines_of journal);
+  holds = holds;
+  applied = applies scripts input (lines_of journal) line is;
+  writes = refl;
+  headline = headline-of (lines_of journal) scripts input;
+}
+
+pub replays-whole : (files : List Named) (request : Request) (journal : List ℕ) (scripts : List Script) (input : List (List ℕ)) (line : Option ℕ) (old new : Option (List ℕ))
+    → HoldsReplay files request journal scripts input → refused scripts 1 (begin scripts input) (lines_of journal) ≡ line
+    → new ≡ gains old (journal_output scripts (begin scripts input) (lines_of journal)) → ReplaysWhole files request line old new
+replays-whole files request journal scripts input line old new holds is whole = record {
+  output = journal_output scripts (begin scripts input) (lines_of journal);
+  replays = replays files request journal scripts input line holds is;
+  whole = whole;
+}
+
+pub replays-part : (files : List Named) (request : Request) (journal : List ℕ) (scripts : List Script) (input : List (List ℕ)) (old new : Option (List ℕ)) → HoldsReplay files request journal scripts input
+    → GainsPrefix old new (journal_output scripts (begin scripts input) (lines_of journal)) → ReplaysInPart files request old new
+replays-part files request journal scripts input old new holds part = record {
+  line = refused scripts 1 (begin scripts input) (lines_of journal);
+  output = journal_output scripts (begin scripts input) (lines_of journal);
+  replays = replays files request journal scripts input (refused scripts 1 (begin scripts input) (lines_of journal)) holds refl;
+  part = part;
+}
+
+pub replays-short : (files : List Named) (request : Request) (journal : List ℕ) (scripts : List Script) (input : List (List ℕ)) (old new : Option (List ℕ)) → HoldsReplay files request journal scripts input
+    → GainsLess old new (journal_output scripts (begin scripts input) (lines_of journal)) → ReplaysShort files request old new
+replays-short files request journal scripts input old new holds less = record {
+  line = refused scripts 1 (begin scripts input) (lines_of journal);
+  output = journal_output scripts (begin scripts input) (lines_of journal);
+  replays = replays files request journal scripts input (refused scripts 1 (begin scripts input) (lines_of journal)) holds refl;
+  less = less;
+}
+
+-- ---- causes
+
+told_both : (told : Option (List Named)) (P Q R : List Named → Type 0) → ((files : List Named) → P files → Q files → R files) → Told told P → Told told Q → Told told R
+told_both None P Q R f p q = tt
+told_both (Some files) P Q R f p q = f files p q
+
+-- why a replay ended so whose journal wasn't read
+pub unread-journal : (end : Outcome) (request : Request) (told : Option (List Named)) (before after : Faults) (was : ℕ) (old : Option (List ℕ)) → BecauseJournal end request.journal before after
+    → BecauseReplay end request told before after was was old old
+unread-journal ends.Done request told before after was old h = absurd h
+unread-journal (ends.Threw text) request told before after was old h = absurd h
+unread-journal ends.OutOfMemory request told before after was old h = (h, refl, told_always told (λ files. (old ≡ old) ⊎ ReplaysInPart files request old old) (λ files. inl refl))
+unread-journal ends.Usage request told before after was old h = absurd h
+unread-journal (ends.Refused name r) request told before after was old h = absurd h
+unread-journal (ends.CannotRead name) request told before after was old h =
+    (h.0, refl, inl h.1, told_always told (λ files. IsReachedBy files request name.now) (λ files. inl h.1))
+unread-journal ends.CannotWrite request told before after was old h = absurd h
+unread-journal (ends.LineRefused n) request told before after was old h = absurd h
+
+abbrev HasJournal : Option (List Named) → Request → List ℕ → Type 0
+HasJournal told request journal = Told told (λ files. content_of request.journal files ≡ Some journal)
+
+-- why a replay ended so whose program wasn't taken
+pub unread : (end : Outcome) (request : Request) (told : Option (List Named)) (before mid after : Faults) (was : ℕ) (old : Option (List ℕ)) (journal : List ℕ) → HasJournal told request journal → mid ≡ before
+    → BecauseSources end request.sources told mid after → BecauseReplay end request told before after was was old old
+unread ends.Done request told before mid after was old journal there quiet h = absurd h
+unread (ends.Threw text) request told before mid after was old journal there quiet h = absurd h
+unread ends.OutOfMemory request told before mid after was old journal there quiet h = (h ∙ quiet, refl, told_always told (λ files. (old ≡ old) ⊎ ReplaysInPart files request old old) (λ files. inl refl))
+unread ends.Usage request told before mid after was old journal there quiet h = absurd h
+unread (ends.Refused name r) request told before mid after was old journal there quiet h = (
+  h.0 ∙ quiet,
+  refl,
+  told_both told (λ files. content_of request.journal files ≡ Some journal) (λ files. IsRefusedIn files request.sources name.now r) (λ files. IsRefusedBehind files request name.now r)
+      (λ files t i. record { journal = journal; there = t; refused = i }) there h.1,
+)
+unread (ends.CannotRead name) request told before mid after was old journal there quiet h = (
+  subst (λ (f : Faults). Blames (Read name.now) f after) quiet h.0,
+  refl,
+  inr h.1,
+  told_both told (λ files. content_of request.journal files ≡ Some journal) (λ files. IsReachedIn files request.sources name.now) (λ files. IsReachedBy files request name.now)
+      (λ files t i. inr (record { journal = journal; there = t; reached = i })) there h.2,
+)
+unread ends.CannotWrite request told before mid after was old journal there quiet h = absurd h
+unread (ends.LineRefused n) request told before mid after was old journal there quiet h = absurd h
+
+-- what is known of the lines' replay
+pub record HasPlayed (e : ReplayEnd) (scripts : List Script) (input : List (List ℕ)) (journal : List ℕ) (was now : ℕ) (old new : Option (List ℕ)) : Type 0 where
+  pub end : IsCut e ⊎ (e ≡ end_of (refused scripts 1 (begin scripts input) (lines_of journal)))
+  pub whole : IsCut e ⊎ (new ≡ gains old (journal_output scripts (begin scripts input) (lines_of journal)))
+  pub part : GainsPrefix old new (journal_output scripts (begin scripts input) (lines_of journal))
+  pub less : e ≡ plays.CannotWrite → GainsLess old new (journal_output scripts (begin scripts input) (lines_of journal))
+  pub quiet : (e ≡ plays.CannotWrite) ⊎ (now ≡ was)
+  pub failed : e ≡ plays.CannotWrite → Rose was now
+
+-- the files hold the replay
+abbrev HasHeld : Option (List Named) → Request → List ℕ → List Script → List (List ℕ) → Type 0
+HasHeld told request journal scripts input = Told told (λ files. HoldsReplay files request journal scripts input)
+
+pub held : (told : Option (List Named)) (request : Request) (journal : List ℕ) (scripts : List Script) (input : List (List ℕ)) → HasJournal told request journal
+    → Told told (λ files. HoldsSources files request.sources scripts input) → HasHeld told request journal scripts input
+held told request journal scripts input there sources =
+    told_both told (λ files. content_of request.journal files ≡ Some journal) (λ files. HoldsSources files request.sources scripts input) (λ files. HoldsReplay files request journal scripts input)
+    (λ files t s. record { there = t; sources = s }) there sources
+
+ended_by : (e : ReplayEnd) (o : Option ℕ) → ¬ (IsCut e) → IsCut e ⊎ (e ≡ end_of o) → e ≡ end_of o
+ended_by e o uncut (inl cut) = absurd (uncut cut)
+ended_by e o uncut (inr is) = is
+
+wrote_by : (e : ReplayEnd) (old new : Option (List ℕ)) (bytes : List ℕ) → ¬ (IsCut e) → IsCut e ⊎ (new ≡ gains old bytes) → new ≡ gains old bytes
+wrote_by e old new bytes uncut (inl cut) = absurd (uncut cut)
+wrote_by e old new bytes uncut (inr is) = is
+
+quiet_by : (e : ReplayEnd) (was now : ℕ) → ¬ (e ≡ plays.CannotWrite) → (e ≡ plays.CannotWrite) ⊎ (now ≡ was) → now ≡ was
+quiet_by e was now other (inl is) = absurd (other is)
+quiet_by e was now other (inr is) = is
+
+none_of : (o : Option ℕ) → plays.Done ≡ end_of o → o ≡ None
+none_of None is = refl
+none_of (Some n) is = cc
+
+some_of : (o : Option ℕ) (number : ℕ) → plays.Refused number ≡ end_of o → o ≡ Some number
+some_of None number is = cc
+some_of (Some n) number is = cc
+
+uncut-done : ¬ (IsCut plays.Done)
+uncut-done (inl is) = cc
+uncut-done (inr is) = cc
+
+uncut-refused : (number : ℕ) → ¬ (IsCut (plays.Refused number))
+uncut-refused number (inl is) = cc
+uncut-refused number (inr is) = cc
+
+-- why a replay ended so whose lines were played
+pub because : (e : ReplayEnd) (request : Request) (told : Option (List Named)) (before after : Faults) (was now : ℕ) (old new : Option (List ℕ)) (journal : List ℕ) (scripts : List Script) (input : List (List ℕ))
+    → HasHeld told request journal scripts input → after ≡ before → HasPlayed e scripts input journal was now old new
+    → BecauseReplay (outcome_of_play e) request told before after was now old new
+because plays.Done request told before after was now old new journal scripts input holds same h =
+    let o = refused scripts 1 (begin scripts input) (lines_of journal) in (
+      same,
+      quiet_by plays.Done was now (λ is. cc) h.quiet,
+      told_map told (λ files. HoldsReplay files request journal scripts input) (λ files. ReplaysWhole files request None old new)
+          (λ files i. replays-whole files request journal scripts input None old new i (none_of o (ended_by plays.Done o uncut-done h.end)) (wrote_by plays.Done old new _ uncut-done h.whole)) holds,
+    )
+because (plays.Refused number) request told before after was now old new journal scripts input holds same h =
+    let o = refused scripts 1 (begin scripts input) (lines_of journal) in (
+      same,
+      quiet_by (plays.Refused number) was now (λ is. cc) h.quiet,
+      told_map told (λ files. HoldsReplay files request journal scripts input) (λ files. ReplaysWhole files request (Some number) old new)
+          (λ files i. replays-whole files request journal scripts input (Some number) old new i (some_of o number (ended_by (plays.Refused number) o (uncut-refused number) h.end))
+          (wrote_by (plays.Refused number) old new _ (uncut-refused number) h.whole)) holds,
+    )
+because plays.CannotWrite request told before after was now old new journal scripts input holds same h = (
+  same,
+  h.failed refl,
+  told_map told (λ files. HoldsReplay files request journal scripts input) (λ files. ReplaysShort files request old new)
+      (λ files i. replays-short files request journal scripts input old new i (h.less refl)) holds,
+)
+because plays.Memory request told before after was now old new journal scripts input holds same h = (
+  same,
+  quiet_by plays.Memory was now (λ is. cc) h.quiet,
+  told_map told (λ files. HoldsReplay files request journal scripts input) (λ files. (new ≡ old) ⊎ ReplaysInPart files request old new)
+      (λ files i. inr (replays-part files request journal scripts input old new i h.part)) holds,
+)
+
+pub in-part : (told : Option (List Named)) (request : Request) (old new : Option (List ℕ)) (journal : List ℕ) (scripts : List Script) (input : List (List ℕ)) → HasHeld told request journal scripts input
+    → GainsPrefix old new (journal_output scripts (begin scripts input) (lines_of journal)) → Told told (λ files. (new ≡ old) ⊎ ReplaysInPart files request old new)
+in-part told request old new journal scripts input holds part =
+    told_map told (λ files. HoldsReplay files request journal scripts input) (λ files. (new ≡ old) ⊎ ReplaysInPart files request old new)
+    (λ files i. inr (replays-part files request journal scripts input old new i part)) holds
+
+-- the same, as the calls before the lines' replay tell of their shelves and bytes
+pub played : (e : ReplayEnd) (request : Request) (told mid_told : Option (List Named)) (before mid after : Faults) (was now : ℕ) (old new : Option (List ℕ)) (bytes journal : List ℕ) (scripts : List Script) (input : List (List ℕ))
+    → HasJournal told request bytes → mid ≡ before → mid_told ≡ told → Told mid_told (λ files. HoldsSources files request.sources scripts input) → after ≡ mid → journal ≡ bytes
+    → HasPlayed e scripts input journal was now old new → BecauseReplay (outcome_of_play e) request told before after was now old new
+played e request told mid_told before mid after was now old new bytes journal scripts input there quiet same sources still is h =
+    let held_all : HasHeld told request bytes scripts input =
+    held told request bytes scripts input there (subst (λ (t : Option (List Named)). Told t (λ files. HoldsSources files request.sources scripts input)) same sources) in
+    because e request told before after was now old new bytes scripts input held_all (still ∙ quiet) (subst (λ (j : List ℕ). HasPlayed e scripts input j was now old new) is h)
+
+pub played-part : (request : Request) (told mid_told : Option (List Named)) (old new : Option (List ℕ)) (bytes journal : List ℕ) (scripts : List Script) (input : List (List ℕ))
+    → HasJournal told request bytes → mid_told ≡ told → Told mid_told (λ files. HoldsSources files request.sources scripts input) → journal ≡ bytes
+    → GainsPrefix old new (journal_output scripts (begin scripts input) (lines_of journal)) → Told told (λ files. (new ≡ old) ⊎ ReplaysInPart files request old new)
+played-part request told mid_told old new bytes journal scripts input there same sources is part =
+    let held_all : HasHeld told request bytes scripts input =
+    held told request bytes scripts input there (subst (λ (t : Option (List Named)). Told t (λ files. HoldsSources files request.sources scripts input)) same sources) in
+    in-part told request old new bytes scripts input held_all (subst (λ (j : List ℕ). GainsPrefix old new (journal_output scripts (begin scripts input) (lines_of j))) is part)
+
+-- ---- the status that the files decide
+
+replay_stands : (files : List Named) (request : Request) (journal : List ℕ) (scripts : List Script) (input : List (List ℕ)) (name : List ℕ) (r : Refusal) → HoldsReplay files request journal scripts input
+    → IsRefusedBehind files request name r → ⊥
+replay_stands files request journal scripts input name r h i = run_stands files request.sources scripts input name r h.sources i.refused
+
+-- one of these, where the files hold journal, scripts and input
+abbrev IsTaken : ℕ → Request → List Named → Type 0
+IsTaken n request files =
+    (journal : List ℕ) (scripts : List Script) (input : List (List ℕ)) → HoldsReplay files request journal scripts input → (n ≡ 0) ⊎ (n ≡ 6) ⊎ (n ≡ 1) ⊎ (n ≡ 4) ⊎ (n ≡ 5)
+
+taken_of : (end : Outcome) (request : Request) (told : Option (List Named)) (before after : Faults) (was now : ℕ) (old new : Option (List ℕ)) → BecauseReplay end request told before after was now old new
+    → Told told (IsTaken (status_of end) request)
+taken_of ends.Done request told before after was now old new h = told_always told (IsTaken 0 request) (λ files journal scripts input holds. inl refl)
+taken_of (ends.LineRefused n) request told before after was now old new h = told_always told (IsTaken 6 request) (λ files journal scripts input holds. inr (inl refl))
+taken_of ends.OutOfMemory request told before after was now old new h = told_always told (IsTaken 1 request) (λ files journal scripts input holds. inr (inr (inl refl)))
+taken_of (ends.Refused name r) request told before after was now old new h =
+    told_map told (λ files. IsRefusedBehind files request name.now r) (IsTaken 3 request) (λ files i. λ journal scripts input holds. absurd (replay_stands files request journal scripts input name.now r holds i)) h.2
+taken_of (ends.CannotRead name) request told before after was now old new h = told_always told (IsTaken 4 request) (λ files journal scripts input holds. inr (inr (inr (inl refl))))
+taken_of ends.CannotWrite request told before after was now old new h = told_always told (IsTaken 5 request) (λ files journal scripts input holds. inr (inr (inr (inr refl))))
+taken_of ends.Usage request told before after was now old new h = absurd h
+taken_of (ends.Threw text) request told before after was now old new h = absurd h
+
+-- one of these, where a file is refused
+abbrev IsLeft : ℕ → Request → List Named → Type 0
+IsLeft n request files = (name : List ℕ) (refusal : Refusal) → IsRefusedBehind files request name refusal → (n ≡ 3) ⊎ (n ≡ 1) ⊎ (n ≡ 4)
+
+not_left : (told : Option (List Named)) (request : Request) (n : ℕ) (line : Option ℕ) (output : List ℕ) (files : List Named) → Replays files request line output → IsLeft n request files
+not_left told request n line output files i name r refused = absurd (replay_stands files request i.journal i.scripts i.input name r i.holds refused)
+
+left_of : (end : Outcome) (request : Request) (told : Option (List Named)) (before after : Faults) (was now : ℕ) (old new : Option (List ℕ)) → BecauseReplay end request told before after was now old new
+    → Told told (IsLeft (status_of end) request)
+left_of ends.Done request told before after was now old new h =
+    told_map told (λ files. ReplaysWhole files request None old new) (IsLeft 0 request) (λ files i. not_left told request 0 None i.output files i.replays) h.2
+left_of (ends.LineRefused n) request told before after was now old new h =
+    told_map told (λ files. ReplaysWhole files request (Some n) old new) (IsLeft 6 request) (λ files i. not_left told request 6 (Some n) i.output files i.replays) h.2
+left_of ends.OutOfMemory request told before after was now old new h = told_always told (IsLeft 1 request) (λ files name r refused. inr (inl refl))
+left_of (ends.Refused name r) request told before after was now old new h = told_always told (IsLeft 3 request) (λ files name q refused. inl refl)
+left_of (ends.CannotRead name) request told before after was now old new h = told_always told (IsLeft 4 request) (λ files name r refused. inr (inr refl))
+left_of ends.CannotWrite request told before after was now old new h =
+    told_map told (λ files. ReplaysShort files request old new) (IsLeft 5 request) (λ files i. not_left told request 5 i.line i.output files i.replays) h.2
+left_of ends.Usage request told before after was now old new h = absurd h
+left_of (ends.Threw text) request told before after was now old new h = absurd h
+
+-- of the words that ask for the replay
+given_replay : (o : Option Command) (request : Request) (told : Option (List Named)) (P : Request → List Named → Type 0) → o ≡ Some (Replay request) → Told told (P request) → GivenReplay o told P
+given_replay o request told P is h = rw is h
+
+pub taken_given : (o : Option Command) (request : Request) (told : Option (List Named)) (end : Outcome) (before after : Faults) (was now : ℕ) (old new : Option (List ℕ)) (status : ℕ)
+    → o ≡ Some (Replay request) → status ≡ status_of end → BecauseReplay end request told before after was now old new → GivenReplay o told (IsTaken status)
+taken_given o request told end before after was now old new status is e h =
+    given_replay o request told (IsTaken status) is (subst (λ (n : ℕ). Told told (IsTaken n request)) (sym e) (taken_of end request told before after was now old new h))
+
+pub left_given : (o : Option Command) (request : Request) (told : Option (List Named)) (end : Outcome) (before after : Faults) (was now : ℕ) (old new : Option (List ℕ)) (status : ℕ)
+    → o ≡ Some (Replay request) → status ≡ status_of end → BecauseReplay end request told before after was now old new → GivenReplay o told (IsLeft status)
+left_given o request told end before after was now old new status is e h =
+    given_replay o request told (IsLeft status) is (subst (λ (n : ℕ). Told told (IsLeft n request)) (sym e) (left_of end request told before after was now old new h))

@@ -7,25 +7,26 @@ use Rattle.js_tree.specs.declared.script.Script.{Script}
 use Rattle.script_files.specs.declared.fault.Refusal.{Refusal}
 use Rattle.script_files.specs.Input.{HoldsInput, HoldsNoText}
 use Rattle.script_files.proofs.ScriptLemmas.{none_refused}
-use Rattle.command_line.specs.Words.{RunRequest, Command, Run}
-use Rattle.command_line.specs.RunCauses.{HoldsLines, HoldsRun, IsRefusedIn, RunsToEnd, RunsToThrow, RunsShort, BecauseRun}
-use Rattle.command_line.specs.RunStatus.{GivenRun, run_status}
-use Rattle.command_line.specs.declared.outcome.RunOutcome.{RunOutcome}
-use Rattle.command_line.specs.declared.outcome.RunOutcome.TheVariants as ends
+use Rattle.command_line.specs.Files.{HoldsLines, HoldsSources, IsRefusedIn}
+use Rattle.command_line.specs.RunCauses.{RunsToEnd, RunsToThrow, RunsShort, RunsInPart, BecauseSources, BecauseRun}
+use Rattle.command_line.specs.Status.{GivenRun, status_of}
+use Rattle.command_line.specs.Words.{Sources, Command, Run}
+use Rattle.command_line.specs.declared.outcome.Outcome.{Outcome}
+use Rattle.command_line.specs.declared.outcome.Outcome.TheVariants as ends
 
 -- ---- what is told
 
-told_always : (told : Option (List Named)) (P : List Named → Type 0) → ((files : List Named) → P files) → Told told P
+pub told_always : (told : Option (List Named)) (P : List Named → Type 0) → ((files : List Named) → P files) → Told told P
 told_always None P all = tt
 told_always (Some files) P all = all files
 
-told_map : (told : Option (List Named)) (P Q : List Named → Type 0) → ((files : List Named) → P files → Q files) → Told told P → Told told Q
+pub told_map : (told : Option (List Named)) (P Q : List Named → Type 0) → ((files : List Named) → P files → Q files) → Told told P → Told told Q
 told_map None P Q f p = tt
 told_map (Some files) P Q f p = f files p
 
 -- files that are taken aren't refused
 
-same_bytes : (o : Option (List ℕ)) (x y : List ℕ) → o ≡ Some x → o ≡ Some y → x ≡ y
+pub same_bytes : (o : Option (List ℕ)) (x y : List ℕ) → o ≡ Some x → o ≡ Some y → x ≡ y
 same_bytes o x y p q = cc
 
 text_stands : (files : List Named) (name : List ℕ) (lines : List (List ℕ)) (r : Refusal) → HoldsInput files name lines → HoldsNoText files name r → ⊥
@@ -38,52 +39,70 @@ text_stands files name lines r h n =
 input_stands : (files : List Named) (o : Option (List ℕ)) (name : List ℕ) (lines : List (List ℕ)) (r : Refusal) → o ≡ Some name → HoldsLines files o lines → HoldsNoText files name r → ⊥
 input_stands files o name lines r is h n = text_stands files name lines r (subst (λ (x : Option (List ℕ)). HoldsLines files x lines) is h) n
 
-pub run_stands : (files : List Named) (request : RunRequest) (scripts : List Script) (input : List (List ℕ)) (name : List ℕ) (r : Refusal) → HoldsRun files request scripts input → IsRefusedIn files request name r → ⊥
-run_stands files request scripts input name r h (inl i) = input_stands files request.input name input r i.named h.lines i.refused
-run_stands files request scripts input name r h (inr i) = none_refused files request.scripts scripts name r h.are i.refused
+pub run_stands : (files : List Named) (sources : Sources) (scripts : List Script) (input : List (List ℕ)) (name : List ℕ) (r : Refusal) → HoldsSources files sources scripts input → IsRefusedIn files sources name r → ⊥
+run_stands files sources scripts input name r h (inl i) = input_stands files sources.input name input r i.named h.lines i.refused
+run_stands files sources scripts input name r h (inr i) = none_refused files sources.scripts scripts name r h.are i.refused
 
 -- ---- the status that the files decide
 
 -- one of these, where the files hold scripts and input
-abbrev IsTaken : ℕ → RunRequest → List Named → Type 0
-IsTaken n request files = (scripts : List Script) (input : List (List ℕ)) → HoldsRun files request scripts input → (n ≡ 0) ⊎ (n ≡ 8) ⊎ (n ≡ 1) ⊎ (n ≡ 4) ⊎ (n ≡ 5)
+abbrev IsTaken : ℕ → Sources → List Named → Type 0
+IsTaken n sources files = (scripts : List Script) (input : List (List ℕ)) → HoldsSources files sources scripts input → (n ≡ 0) ⊎ (n ≡ 8) ⊎ (n ≡ 1) ⊎ (n ≡ 4) ⊎ (n ≡ 5)
 
-taken_of : (end : RunOutcome) (request : RunRequest) (told : Option (List Named)) (before after : Faults) (was now : ℕ) (old new : Option (List ℕ)) → BecauseRun end request told before after was now old new
-    → Told told (IsTaken (run_status end) request)
-taken_of ends.Ended request told before after was now old new h = told_always told (IsTaken 0 request) (λ files scripts input holds. inl refl)
-taken_of (ends.Threw text) request told before after was now old new h = told_always told (IsTaken 8 request) (λ files scripts input holds. inr (inl refl))
-taken_of ends.OutOfMemory request told before after was now old new h = told_always told (IsTaken 1 request) (λ files scripts input holds. inr (inr (inl refl)))
-taken_of (ends.Refused name r) request told before after was now old new h =
-    told_map told (λ files. IsRefusedIn files request name.now r) (IsTaken 3 request) (λ files i. λ scripts input holds. absurd (run_stands files request scripts input name.now r holds i)) h.2
-taken_of (ends.CannotRead name) request told before after was now old new h = told_always told (IsTaken 4 request) (λ files scripts input holds. inr (inr (inr (inl refl))))
-taken_of ends.CannotWrite request told before after was now old new h = told_always told (IsTaken 5 request) (λ files scripts input holds. inr (inr (inr (inr refl))))
+taken_of : (end : Outcome) (sources : Sources) (told : Option (List Named)) (before after : Faults) (was now : ℕ) (old new : Option (List ℕ)) → BecauseRun end sources told before after was now old new
+    → Told told (IsTaken (status_of end) sources)
+taken_of ends.Done sources told before after was now old new h = told_always told (IsTaken 0 sources) (λ files scripts input holds. inl refl)
+taken_of (ends.Threw text) sources told before after was now old new h = told_always told (IsTaken 8 sources) (λ files scripts input holds. inr (inl refl))
+taken_of ends.OutOfMemory sources told before after was now old new h = told_always told (IsTaken 1 sources) (λ files scripts input holds. inr (inr (inl refl)))
+taken_of (ends.Refused name r) sources told before after was now old new h =
+    told_map told (λ files. IsRefusedIn files sources name.now r) (IsTaken 3 sources) (λ files i. λ scripts input holds. absurd (run_stands files sources scripts input name.now r holds i)) h.2
+taken_of (ends.CannotRead name) sources told before after was now old new h = told_always told (IsTaken 4 sources) (λ files scripts input holds. inr (inr (inr (inl refl))))
+taken_of ends.CannotWrite sources told before after was now old new h = told_always told (IsTaken 5 sources) (λ files scripts input holds. inr (inr (inr (inr refl))))
+taken_of ends.Usage sources told before after was now old new h = absurd h
+taken_of (ends.LineRefused n) sources told before after was now old new h = absurd h
 
 -- one of these, where a file is refused
-abbrev IsLeft : ℕ → RunRequest → List Named → Type 0
-IsLeft n request files = (name : List ℕ) (refusal : Refusal) → IsRefusedIn files request name refusal → (n ≡ 3) ⊎ (n ≡ 1) ⊎ (n ≡ 4)
+abbrev IsLeft : ℕ → Sources → List Named → Type 0
+IsLeft n sources files = (name : List ℕ) (refusal : Refusal) → IsRefusedIn files sources name refusal → (n ≡ 3) ⊎ (n ≡ 1) ⊎ (n ≡ 4)
 
-left_of : (end : RunOutcome) (request : RunRequest) (told : Option (List Named)) (before after : Faults) (was now : ℕ) (old new : Option (List ℕ)) → BecauseRun end request told before after was now old new
-    → Told told (IsLeft (run_status end) request)
-left_of ends.Ended request told before after was now old new h =
-    told_map told (λ files. RunsToEnd files request old new) (IsLeft 0 request) (λ files i. λ name r refused. absurd (run_stands files request i.scripts i.input name r i.holds refused)) h.2
-left_of (ends.Threw text) request told before after was now old new h =
-    told_map told (λ files. RunsToThrow files request (string_bytes text) old new) (IsLeft 8 request) (λ files i. λ name r refused. absurd (run_stands files request i.scripts i.input name r i.holds refused)) h.2
-left_of ends.OutOfMemory request told before after was now old new h = told_always told (IsLeft 1 request) (λ files name r refused. inr (inl refl))
-left_of (ends.Refused name r) request told before after was now old new h = told_always told (IsLeft 3 request) (λ files name q refused. inl refl)
-left_of (ends.CannotRead name) request told before after was now old new h = told_always told (IsLeft 4 request) (λ files name r refused. inr (inr refl))
-left_of ends.CannotWrite request told before after was now old new h =
-    told_map told (λ files. RunsShort files request old new) (IsLeft 5 request) (λ files i. λ name r refused. absurd (run_stands files request i.scripts i.input name r i.holds refused)) h.2
+left_of : (end : Outcome) (sources : Sources) (told : Option (List Named)) (before after : Faults) (was now : ℕ) (old new : Option (List ℕ)) → BecauseRun end sources told before after was now old new
+    → Told told (IsLeft (status_of end) sources)
+left_of ends.Done sources told before after was now old new h =
+    told_map told (λ files. RunsToEnd files sources old new) (IsLeft 0 sources) (λ files i. λ name r refused. absurd (run_stands files sources i.scripts i.input name r i.holds refused)) h.2
+left_of (ends.Threw text) sources told before after was now old new h =
+    told_map told (λ files. RunsToThrow files sources (string_bytes text) old new) (IsLeft 8 sources) (λ files i. λ name r refused. absurd (run_stands files sources i.scripts i.input name r i.holds refused)) h.2
+left_of ends.OutOfMemory sources told before after was now old new h = told_always told (IsLeft 1 sources) (λ files name r refused. inr (inl refl))
+left_of (ends.Refused name r) sources told before after was now old new h = told_always told (IsLeft 3 sources) (λ files name q refused. inl refl)
+left_of (ends.CannotRead name) sources told before after was now old new h = told_always told (IsLeft 4 sources) (λ files name r refused. inr (inr refl))
+left_of ends.CannotWrite sources told before after was now old new h =
+    told_map told (λ files. RunsShort files sources old new) (IsLeft 5 sources) (λ files i. λ name r refused. absurd (run_stands files sources i.scripts i.input name r i.holds refused)) h.2
+left_of ends.Usage sources told before after was now old new h = absurd h
+left_of (ends.LineRefused n) sources told before after was now old new h = absurd h
 
 -- of the words that ask for the run
-given_run : (o : Option Command) (request : RunRequest) (told : Option (List Named)) (P : RunRequest → List Named → Type 0) → o ≡ Some (Run request) → Told told (P request) → GivenRun o told P
-given_run o request told P is h = rw is h
+given_run : (o : Option Command) (sources : Sources) (told : Option (List Named)) (P : Sources → List Named → Type 0) → o ≡ Some (Run sources) → Told told (P sources) → GivenRun o told P
+given_run o sources told P is h = rw is h
 
-pub taken_given : (o : Option Command) (request : RunRequest) (told : Option (List Named)) (end : RunOutcome) (before after : Faults) (was now : ℕ) (old new : Option (List ℕ)) (status : ℕ)
-    → o ≡ Some (Run request) → status ≡ run_status end → BecauseRun end request told before after was now old new → GivenRun o told (IsTaken status)
-taken_given o request told end before after was now old new status is e h =
-    given_run o request told (IsTaken status) is (subst (λ (n : ℕ). Told told (IsTaken n request)) (sym e) (taken_of end request told before after was now old new h))
+pub taken_given : (o : Option Command) (sources : Sources) (told : Option (List Named)) (end : Outcome) (before after : Faults) (was now : ℕ) (old new : Option (List ℕ)) (status : ℕ)
+    → o ≡ Some (Run sources) → status ≡ status_of end → BecauseRun end sources told before after was now old new → GivenRun o told (IsTaken status)
+taken_given o sources told end before after was now old new status is e h =
+    given_run o sources told (IsTaken status) is (subst (λ (n : ℕ). Told told (IsTaken n sources)) (sym e) (taken_of end sources told before after was now old new h))
 
-pub left_given : (o : Option Command) (request : RunRequest) (told : Option (List Named)) (end : RunOutcome) (before after : Faults) (was now : ℕ) (old new : Option (List ℕ)) (status : ℕ)
-    → o ≡ Some (Run request) → status ≡ run_status end → BecauseRun end request told before after was now old new → GivenRun o told (IsLeft status)
-left_given o request told end before after was now old new status is e h =
-    given_run o request told (IsLeft status) is (subst (λ (n : ℕ). Told told (IsLeft n request)) (sym e) (left_of end request told before after was now old new h))
+pub left_given : (o : Option Command) (sources : Sources) (told : Option (List Named)) (end : Outcome) (before after : Faults) (was now : ℕ) (old new : Option (List ℕ)) (status : ℕ)
+    → o ≡ Some (Run sources) → status ≡ status_of end → BecauseRun end sources told before after was now old new → GivenRun o told (IsLeft status)
+left_given o sources told end before after was now old new status is e h =
+    given_run o sources told (IsLeft status) is (subst (λ (n : ℕ). Told told (IsLeft n sources)) (sym e) (left_of end sources told before after was now old new h))
+
+-- ---- before a step is made
+
+-- why a run ended so whose files weren't all taken
+pub unread : (end : Outcome) (sources : Sources) (told : Option (List Named)) (before after : Faults) (was : ℕ) (old : Option (List ℕ)) → BecauseSources end sources told before after
+    → BecauseRun end sources told before after was was old old
+unread ends.Done sources told before after was old h = absurd h
+unread (ends.Threw text) sources told before after was old h = absurd h
+unread ends.OutOfMemory sources told before after was old h = (h, refl, told_always told (λ files. (old ≡ old) ⊎ RunsInPart files sources old old) (λ files. inl refl))
+unread ends.Usage sources told before after was old h = absurd h
+unread (ends.Refused name r) sources told before after was old h = (h.0, refl, h.1)
+unread (ends.CannotRead name) sources told before after was old h = (h.0, refl, h.1, h.2)
+unread ends.CannotWrite sources told before after was old h = absurd h
+unread (ends.LineRefused n) sources told before after was old h = absurd h

@@ -6,8 +6,10 @@ use Rattle.std.proofs.lemmas.Option.{same_Some}
 use Rattle.cdp_text.specs.Lines.{lines_of}
 use Rattle.cdp_text.specs.Parts.{behind, halves}
 use Rattle.cdp_text.proofs.PartsLemmas.{behind-append, behind-some, halves-decimal}
-use Rattle.early_host.specs.declared.state.State.TheVariants.{Broken, Ended, Paused, Ready}
-use Rattle.cdp_session.proofs.OneLineLemmas.{is_other, is_one_line, are_one_line, one-append, decimal-one}
+use Rattle.cdp_host.specs.declared.state.State.TheVariants.{Broken, Threw, Ended, Paused, Ready}
+use Rattle.command_line.specs.Escapes.{escaped, printed_escaped}
+use Rattle.cdp_text.specs.Units.{utf8_of}
+use Rattle.command_line.proofs.OneLineLemmas.{is_other, is_one_line, are_one_line, one-append, decimal-one, escaped-one}
 use Rattle.command_line.specs.Headline.{behind_each, to_front}
 use Rattle.command_line.specs.Output.{Output, Attached, To, Out, RanTo, state_name, output_text, output_bytes}
 
@@ -16,13 +18,13 @@ use Rattle.command_line.specs.Output.{Output, Attached, To, Out, RanTo, state_na
 -- a line without its LF
 abbrev pub output_line : Output → List ℕ
 output_line (Attached s) = codes "attached " ++ decimal s
-output_line (To s text) = codes "to " ++ (decimal s ++ 32 ∷ text)
-output_line (Out n) = codes "out " ++ decimal n
+output_line (To s text) = codes "to " ++ (decimal s ++ 32 ∷ escaped text)
+output_line (Out units) = codes "out " ++ printed_escaped units
 output_line (RanTo steps state) = codes "ran " ++ (decimal steps ++ 32 ∷ state_name state)
 
 text-line : (line : Output) → output_text line ≡ output_line line ++ 10 ∷ []
 text-line (Attached s) = refl
-text-line (To s text) = ap (λ xs. codes "to " ++ xs) (sym (append_assoc (decimal s) (32 ∷ text) (10 ∷ [])))
+text-line (To s text) = ap (λ xs. codes "to " ++ xs) (sym (append_assoc (decimal s) (32 ∷ escaped text) (10 ∷ [])))
 text-line (Out n) = refl
 text-line (RanTo steps state) = ap (λ xs. codes "ran " ++ xs) (sym (append_assoc (decimal steps) (32 ∷ state_name state) (10 ∷ [])))
 
@@ -43,45 +45,37 @@ shown (line ∷ lines) one =
     ∙ cut (output_line line) (output_bytes lines) parts.0
     ∙ ap (λ others. output_line line ∷ others) (shown lines parts.1)
 
--- the texts that the lines send
-abbrev pub to_texts : List Output → List (List ℕ)
-to_texts [] = []
-to_texts (Attached s ∷ lines) = to_texts lines
-to_texts (To s text ∷ lines) = text ∷ to_texts lines
-to_texts (Out n ∷ lines) = to_texts lines
-to_texts (RanTo steps state ∷ lines) = to_texts lines
-
 ran-one : (n : ℕ) (word : List ℕ) → is_one_line word ≡ true → is_one_line (codes "ran " ++ (decimal n ++ 32 ∷ word)) ≡ true
 ran-one n word one = one-append (codes "ran ") (decimal n ++ 32 ∷ word) refl (one-append (decimal n) (32 ∷ word) (decimal-one n) one)
 
--- where the texts hold no LF, the lines hold none
-pub lines-one : (lines : List Output) → are_one_line (to_texts lines) ≡ true → are_one_line (map output_line lines) ≡ true
-lines-one [] one = refl
-lines-one (Attached s ∷ lines) one = rw (one-append (codes "attached ") (decimal s) refl (decimal-one s), lines-one lines one) refl
-lines-one (To s text ∷ lines) one =
-    let parts = and_parts (is_one_line text) (are_one_line (to_texts lines)) one in
-    rw (one-append (codes "to ") (decimal s ++ 32 ∷ text) refl (one-append (decimal s) (32 ∷ text) (decimal-one s) parts.0), lines-one lines parts.1) refl
-lines-one (Out n ∷ lines) one = rw (one-append (codes "out ") (decimal n) refl (decimal-one n), lines-one lines one) refl
-lines-one (RanTo n Broken ∷ lines) one = rw (ran-one n (codes "broken") refl, lines-one lines one) refl
-lines-one (RanTo n Ended ∷ lines) one = rw (ran-one n (codes "ended") refl, lines-one lines one) refl
-lines-one (RanTo n Paused ∷ lines) one = rw (ran-one n (codes "paused") refl, lines-one lines one) refl
-lines-one (RanTo n Ready ∷ lines) one = rw (ran-one n (codes "ready") refl, lines-one lines one) refl
+-- no line holds LF
+pub lines-one : (lines : List Output) → are_one_line (map output_line lines) ≡ true
+lines-one [] = refl
+lines-one (Attached s ∷ lines) = rw (one-append (codes "attached ") (decimal s) refl (decimal-one s), lines-one lines) refl
+lines-one (To s text ∷ lines) =
+    rw (one-append (codes "to ") (decimal s ++ 32 ∷ escaped text) refl (one-append (decimal s) (32 ∷ escaped text) (decimal-one s) (escaped-one text)), lines-one lines) refl
+lines-one (Out units ∷ lines) = rw (one-append (codes "out ") (printed_escaped units) refl (escaped-one (utf8_of units)), lines-one lines) refl
+lines-one (RanTo n Broken ∷ lines) = rw (ran-one n (codes "broken") refl, lines-one lines) refl
+lines-one (RanTo n Threw ∷ lines) = rw (ran-one n (codes "threw") refl, lines-one lines) refl
+lines-one (RanTo n Ended ∷ lines) = rw (ran-one n (codes "ended") refl, lines-one lines) refl
+lines-one (RanTo n Paused ∷ lines) = rw (ran-one n (codes "paused") refl, lines-one lines) refl
+lines-one (RanTo n Ready ∷ lines) = rw (ran-one n (codes "ready") refl, lines-one lines) refl
 
 -- ---- what stands behind the fronts
 
--- the integers that the lines print
-abbrev pub out_integers : List Output → List ℕ
-out_integers [] = []
-out_integers (Attached s ∷ lines) = out_integers lines
-out_integers (To s text ∷ lines) = out_integers lines
-out_integers (Out n ∷ lines) = n ∷ out_integers lines
-out_integers (RanTo steps state ∷ lines) = out_integers lines
+-- the texts that the lines print
+abbrev pub out_texts : List Output → List (List ℕ)
+out_texts [] = []
+out_texts (Attached s ∷ lines) = out_texts lines
+out_texts (To s text ∷ lines) = out_texts lines
+out_texts (Out n ∷ lines) = n ∷ out_texts lines
+out_texts (RanTo steps state ∷ lines) = out_texts lines
 
-pub out-each : (lines : List Output) → behind_each (codes "out ") (map output_line lines) ≡ map decimal (out_integers lines)
+pub out-each : (lines : List Output) → behind_each (codes "out ") (map output_line lines) ≡ map printed_escaped (out_texts lines)
 out-each [] = refl
 out-each (Attached s ∷ lines) = out-each lines
 out-each (To s text ∷ lines) = out-each lines
-out-each (Out n ∷ lines) = ap (λ rest. decimal n ∷ rest) (out-each lines)
+out-each (Out n ∷ lines) = ap (λ rest. printed_escaped n ∷ rest) (out-each lines)
 out-each (RanTo steps state ∷ lines) = out-each lines
 
 -- what the lines tell of runs
@@ -103,14 +97,14 @@ ran-each (RanTo steps state ∷ lines) = ap (λ rest. (decimal steps ++ 32 ∷ s
 abbrev pub to_of : ℕ → List Output → List (List ℕ)
 to_of s [] = []
 to_of s (Attached n ∷ lines) = to_of s lines
-to_of s (To n text ∷ lines) = option_to_list (behind (decimal s ++ 32 ∷ []) (decimal n ++ 32 ∷ text)) ++ to_of s lines
+to_of s (To n text ∷ lines) = option_to_list (behind (decimal s ++ 32 ∷ []) (decimal n ++ 32 ∷ escaped text)) ++ to_of s lines
 to_of s (Out n ∷ lines) = to_of s lines
 to_of s (RanTo steps state ∷ lines) = to_of s lines
 
 pub to-each : (s : ℕ) (lines : List Output) → behind_each (to_front s) (map output_line lines) ≡ to_of s lines
 to-each s [] = refl
 to-each s (Attached n ∷ lines) = to-each s lines
-to-each s (To n text ∷ lines) = ap (λ rest. option_to_list (behind (decimal s ++ 32 ∷ []) (decimal n ++ 32 ∷ text)) ++ rest) (to-each s lines)
+to-each s (To n text ∷ lines) = ap (λ rest. option_to_list (behind (decimal s ++ 32 ∷ []) (decimal n ++ 32 ∷ escaped text)) ++ rest) (to-each s lines)
 to-each s (Out n ∷ lines) = to-each s lines
 to-each s (RanTo steps state ∷ lines) = to-each s lines
 
@@ -132,27 +126,27 @@ others-text s n text (Some rest) s_small n_small differ is =
     absurd (differ (number-told s n text rest s_small n_small
     (behind-some (decimal s ++ 32 ∷ []) (decimal n ++ 32 ∷ text) rest is ∙ append_assoc (decimal s) (32 ∷ []) rest)))
 
-pub to-own : (s : ℕ) (texts : List (List ℕ)) → to_of s (map (To s) texts) ≡ texts
+pub to-own : (s : ℕ) (texts : List (List ℕ)) → to_of s (map (To s) texts) ≡ map escaped texts
 to-own s [] = refl
-to-own s (text ∷ texts) = rw (own-text s text) (ap (λ rest. text ∷ rest) (to-own s texts))
+to-own s (text ∷ texts) = rw (own-text s (escaped text)) (ap (λ rest. escaped text ∷ rest) (to-own s texts))
 
 pub to-others : (s n : ℕ) (texts : List (List ℕ)) → s < 2 ^ 64 → n < 2 ^ 64 → n ≢ s → to_of s (map (To n) texts) ≡ []
 to-others s n [] s_small n_small differ = refl
 to-others s n (text ∷ texts) s_small n_small differ =
-    rw (others-text s n text (behind (decimal s ++ 32 ∷ []) (decimal n ++ 32 ∷ text)) s_small n_small differ refl) (to-others s n texts s_small n_small differ)
+    rw (others-text s n (escaped text) (behind (decimal s ++ 32 ∷ []) (decimal n ++ 32 ∷ escaped text)) s_small n_small differ refl) (to-others s n texts s_small n_small differ)
 
 pub to_of-append : (s : ℕ) (xs ys : List Output) → to_of s (xs ++ ys) ≡ to_of s xs ++ to_of s ys
 to_of-append s [] ys = refl
 to_of-append s (Attached n ∷ xs) ys = to_of-append s xs ys
 to_of-append s (To n text ∷ xs) ys =
-    let first = option_to_list (behind (decimal s ++ 32 ∷ []) (decimal n ++ 32 ∷ text)) in
+    let first = option_to_list (behind (decimal s ++ 32 ∷ []) (decimal n ++ 32 ∷ escaped text)) in
     ap (λ rest. first ++ rest) (to_of-append s xs ys) ∙ sym (append_assoc first (to_of s xs) (to_of s ys))
 to_of-append s (Out n ∷ xs) ys = to_of-append s xs ys
 to_of-append s (RanTo steps state ∷ xs) ys = to_of-append s xs ys
 
-pub to-integers_of : (s : ℕ) (xs : List ℕ) → to_of s (map Out xs) ≡ []
-to-integers_of s [] = refl
-to-integers_of s (x ∷ xs) = to-integers_of s xs
+pub to-printed : (s : ℕ) (xs : List (List ℕ)) → to_of s (map Out xs) ≡ []
+to-printed s [] = refl
+to-printed s (x ∷ xs) = to-printed s xs
 
 pub ran-append : (xs ys : List Output) → ran_of (xs ++ ys) ≡ ran_of xs ++ ran_of ys
 ran-append [] ys = refl
@@ -161,9 +155,9 @@ ran-append (To s text ∷ xs) ys = ran-append xs ys
 ran-append (Out n ∷ xs) ys = ran-append xs ys
 ran-append (RanTo steps state ∷ xs) ys = ap (λ rest. (decimal steps ++ 32 ∷ state_name state) ∷ rest) (ran-append xs ys)
 
-pub ran-integers : (xs : List ℕ) → ran_of (map Out xs) ≡ []
-ran-integers [] = refl
-ran-integers (x ∷ xs) = ran-integers xs
+pub ran-printed : (xs : List (List ℕ)) → ran_of (map Out xs) ≡ []
+ran-printed [] = refl
+ran-printed (x ∷ xs) = ran-printed xs
 
 pub ran-sent : (s : ℕ) (texts : List (List ℕ)) → ran_of (map (To s) texts) ≡ []
 ran-sent s [] = refl

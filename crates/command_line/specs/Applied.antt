@@ -1,36 +1,38 @@
 -- Which lines of a journal are applied, and which one is refused.
 use Rattle.std.specs.Prelude.{◌≡◌, ℕ, ◌+◌, List, [], ◌∷◌, ◌++◌, length, fold, true}
-use Rattle.early_host.specs.Meaning.{Meaning, is_attached, IsLongest}
-use Rattle.early_host.specs.Histories.{Entry, apply, Attach as Attached, Tell as Told, Take as Taken, Ran}
+use Rattle.js_tree.specs.declared.script.Script.{Script}
+use Rattle.js_semantics.specs.Run.{Run as Program}
+use Rattle.cdp_host.specs.Meaning.{Meaning, is_attached, IsLongest}
+use Rattle.cdp_host.specs.Histories.{Entry, apply, Attach as Attached, Tell as Told, Take as Taken, Ran}
 use Rattle.command_line.specs.Lines.{Line, Attach, Tell, Take, Run, IsLine}
 
 -- a line may stand there, and this is its entry: one that attaches where no session was attached so far, one that tells or takes where its session is attached,
 -- and one that runs at any place, for the longest run of at most its steps
-abbrev pub MayStand : Meaning → Line → Entry → Type 0
-MayStand m Attach entry = (m.attached ≡ 0) × (entry ≡ Attached)
-MayStand m (Tell s text) entry = (is_attached m s ≡ true) × (entry ≡ Told s text)
-MayStand m (Take s) entry = (is_attached m s ≡ true) × (entry ≡ Taken s)
-MayStand m (Run most moment) entry = (n : ℕ) × IsLongest most m n × (entry ≡ Ran n)
+abbrev pub MayStand : List Script → Meaning Program → Line → Entry → Type 0
+MayStand scripts m Attach entry = (m.attached ≡ 0) × (entry ≡ Attached)
+MayStand scripts m (Tell s text) entry = (is_attached m s ≡ true) × (entry ≡ Told s text)
+MayStand scripts m (Take s) entry = (is_attached m s ≡ true) × (entry ≡ Taken s)
+MayStand scripts m (Run most moment) entry = (n : ℕ) × IsLongest scripts most m n × (entry ≡ Ran n)
 
 -- the text is a line of its form, which may stand there and has this entry
-pub record IsEntry (m : Meaning) (text : List ℕ) (entry : Entry) : Type 0 where
+pub record IsEntry (scripts : List Script) (m : Meaning Program) (text : List ℕ) (entry : Entry) : Type 0 where
   pub line : Line
   pub is : IsLine text line
-  pub stands : MayStand m line entry
+  pub stands : MayStand scripts m line entry
 
 -- each text is a line that may stand there, and these are their entries
-abbrev pub AreEntries : Meaning → List (List ℕ) → List Entry → Type 0
-AreEntries m [] [] = Unit {0}
-AreEntries m [] (entry ∷ entries) = ⊥
-AreEntries m (text ∷ texts) [] = ⊥
-AreEntries m (text ∷ texts) (entry ∷ entries) = IsEntry m text entry × AreEntries (apply m entry) texts entries
+abbrev pub AreEntries : List Script → Meaning Program → List (List ℕ) → List Entry → Type 0
+AreEntries scripts m [] [] = Unit {0}
+AreEntries scripts m [] (entry ∷ entries) = ⊥
+AreEntries scripts m (text ∷ texts) [] = ⊥
+AreEntries scripts m (text ∷ texts) (entry ∷ entries) = IsEntry scripts m text entry × AreEntries scripts (apply scripts m entry) texts entries
 
 -- the text of this number, where the first has the first number, isn't of its form or may not stand behind these entries, which are those of the texts before it
-pub record RefusesAt (first : ℕ) (m : Meaning) (texts : List (List ℕ)) (entries : List Entry) (number : ℕ) : Type 0 where
+pub record RefusesAt (scripts : List Script) (first : ℕ) (m : Meaning Program) (texts : List (List ℕ)) (entries : List Entry) (number : ℕ) : Type 0 where
   pub before : List (List ℕ)
   pub text : List ℕ
   pub behind : List (List ℕ)
   pub parts : texts ≡ before ++ text ∷ behind
   pub numbered : number ≡ first + length before
-  pub applied : AreEntries m before entries
-  pub refused : (entry : Entry) → ¬ (IsEntry (fold apply m entries) text entry)
+  pub applied : AreEntries scripts m before entries
+  pub refused : (entry : Entry) → ¬ (IsEntry scripts (fold (apply scripts) m entries) text entry)

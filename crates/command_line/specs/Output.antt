@@ -1,11 +1,14 @@
 -- What is written of a journal's entries.
-use Rattle.std.specs.Prelude.{ℕ, List, [], ◌∷◌, ◌++◌, ◌+◌, map, drop, length, codes, decimal}
-use Rattle.early_host.specs.declared.state.State.{State}
-use Rattle.early_host.specs.declared.state.State.TheVariants.{Broken, Ended, Paused, Ready}
-use Rattle.early_host.specs.Meaning.{Meaning, after_steps}
-use Rattle.early_host.specs.Histories.{Entry, Attach, Tell, Take, Detach, Ran, apply}
-use Rattle.early_host.specs.States.{state_of}
-use Rattle.early_host.specs.Rules.{handed_at}
+use Rattle.std.specs.Prelude.{ℕ, List, [], ◌∷◌, ◌++◌, ◌+◌, map, codes, decimal}
+use Rattle.js_tree.specs.declared.script.Script.{Script}
+use Rattle.js_semantics.specs.Run.{Run as Program}
+use Rattle.cdp_host.specs.declared.state.State.{State}
+use Rattle.cdp_host.specs.declared.state.State.TheVariants.{Broken, Threw, Ended, Paused, Ready}
+use Rattle.cdp_host.specs.Meaning.{Meaning, after_steps}
+use Rattle.cdp_host.specs.Histories.{Entry, Attach, Tell, Take, Detach, Ran, apply}
+use Rattle.cdp_host.specs.States.{state_of}
+use Rattle.cdp_host.specs.Rules.{handed_at, printed_in}
+use Rattle.command_line.specs.Escapes.{escaped, printed_escaped}
 
 -- a line of output
 pub data Output : Type 0 where
@@ -13,14 +16,15 @@ pub data Output : Type 0 where
   Attached : ℕ → Output
   -- the session of this number was sent this text
   To : ℕ → List ℕ → Output
-  -- the program printed this integer
-  Out : ℕ → Output
+  -- the program printed this text of UTF-16 units
+  Out : List ℕ → Output
   -- a run made so many steps and ended in this state
   RanTo : ℕ → State → Output
 
 -- a state's name
 abbrev pub state_name : State → List ℕ
 state_name Broken = codes "broken"
+state_name Threw = codes "threw"
 state_name Ended = codes "ended"
 state_name Paused = codes "paused"
 state_name Ready = codes "ready"
@@ -28,26 +32,22 @@ state_name Ready = codes "ready"
 -- the text of a line of output, ended by LF
 abbrev pub output_text : Output → List ℕ
 output_text (Attached s) = codes "attached " ++ (decimal s ++ 10 ∷ [])
-output_text (To s text) = codes "to " ++ (decimal s ++ 32 ∷ (text ++ 10 ∷ []))
-output_text (Out n) = codes "out " ++ (decimal n ++ 10 ∷ [])
+output_text (To s text) = codes "to " ++ (decimal s ++ 32 ∷ (escaped text ++ 10 ∷ []))
+output_text (Out units) = codes "out " ++ (printed_escaped units ++ 10 ∷ [])
 output_text (RanTo steps state) = codes "ran " ++ (decimal steps ++ 32 ∷ (state_name state ++ 10 ∷ []))
 
--- the integers that so many steps print
-abbrev pub printed_in : Meaning → ℕ → List ℕ
-printed_in m n = drop (length m.program.printed) (after_steps n m).program.printed
-
 -- the lines of output of an entry
-abbrev pub output_at : Meaning → Entry → List Output
-output_at m Attach = Attached (m.attached + 1) ∷ []
-output_at m (Tell s text) = []
-output_at m (Take s) = map (To s) (handed_at m (Take s))
-output_at m (Detach s) = []
-output_at m (Ran n) = map Out (printed_in m n) ++ RanTo n (state_of (after_steps n m)) ∷ []
+abbrev pub output_at : List Script → Meaning Program → Entry → List Output
+output_at scripts m Attach = Attached (m.attached + 1) ∷ []
+output_at scripts m (Tell s text) = []
+output_at scripts m (Take s) = map (To s) (handed_at m (Take s))
+output_at scripts m (Detach s) = []
+output_at scripts m (Ran n) = map Out (printed_in scripts n m) ++ RanTo n (state_of (after_steps scripts n m)) ∷ []
 
 -- the lines of output of a history
-abbrev pub output_of : Meaning → List Entry → List Output
-output_of m [] = []
-output_of m (entry ∷ history) = output_at m entry ++ output_of (apply m entry) history
+abbrev pub output_of : List Script → Meaning Program → List Entry → List Output
+output_of scripts m [] = []
+output_of scripts m (entry ∷ history) = output_at scripts m entry ++ output_of scripts (apply scripts m entry) history
 
 -- texts, one behind another
 abbrev pub joined : List (List ℕ) → List ℕ

@@ -2,6 +2,7 @@
 #![tactic(auto)]
 
 mod act;
+mod escape;
 mod line;
 mod outcome;
 mod output;
@@ -10,7 +11,7 @@ mod program;
 mod replay;
 mod report;
 mod run;
-mod run_report;
+mod sources;
 mod words;
 
 pub use program::debug_main;

@@ -5,9 +5,9 @@ ghost use Rattle.cdp_text.specs.Parts.{Halves};
 ghost use Rattle.command_line.specs.Lines.{Line as Meant, IsLine, IsInForm, line_text, line_of, line_of_text, tell_rest, take_rest, run_rest};
 ghost use Rattle.command_line.specs.LineRead.{line_held};
 
+use cdp_session::command::is_early;
 use cdp_text::decimal::read_decimal;
 use cdp_text::parts::{behind, halves};
-use early_host::is_early;
 
 /// The first number of steps that a line doesn't hold.
 const STEPS_LIMIT: u64 = 1 << 32;

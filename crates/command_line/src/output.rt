@@ -1,9 +1,11 @@
 // The lines of output.
-ghost use Rattle.std.specs.Prelude.{◌≡◌, ◌++◌, IfOk, map, string_bytes};
-ghost use Rattle.early_host.specs.declared.state.State.{State};
+ghost use Rattle.std.specs.Prelude.{◌≡◌, IfOk, map, string_bytes};
+ghost use Rattle.cdp_host.specs.declared.state.State.{State};
 ghost use Rattle.command_line.specs.Output.{Attached, To, Out, RanTo, output_text, state_name};
 
-use early_host::State;
+use crate::escape::escape;
+use cdp_host::state::State;
+use cdp_text::units::{Units, text_of};
 use std::alloc::{AllocError, Global};
 
 /// The line of a session that was attached.
@@ -17,14 +19,17 @@ pub(crate) fn attached_line(alloc: Global, session: u64) -> Result<String, Alloc
 fn sent_line(alloc: Global, session: u64, text: &str) -> Result<String, AllocError>
     ensures { IfOk result (λ line. string_bytes line ≡ output_text (To session text.now)) }
 {
-    Ok(format!(in alloc; "to {session} {text}\n")?)
+    let written = escape(alloc, text)?;
+    Ok(format!(in alloc; "to {session} {written}\n")?)
 }
 
-/// The line of an integer that the program printed.
-fn printed_line(alloc: Global, integer: u64) -> Result<String, AllocError>
-    ensures { IfOk result (λ line. string_bytes line ≡ output_text (Out integer)) }
+/// The line of a text that the program printed.
+fn printed_line(alloc: Global, units: &[u16]) -> Result<String, AllocError>
+    ensures { IfOk result (λ line. string_bytes line ≡ output_text (Out units.now)) }
 {
-    Ok(format!(in alloc; "out {integer}\n")?)
+    let text = text_of(alloc, units)?;
+    let written = escape(alloc, &text)?;
+    Ok(format!(in alloc; "out {written}\n")?)
 }
 
 /// The line of a run's steps and the state in which it ended.
@@ -41,6 +46,7 @@ fn state_name(state: State) -> &'static str
 {
     match state {
         State::Broken => "broken",
+        State::Threw => "threw",
         State::Ended => "ended",
         State::Paused => "paused",
         State::Ready => "ready",
@@ -62,13 +68,13 @@ pub(crate) fn sent_lines(
     Ok(lines)
 }
 
-/// The lines of the integers that the program printed, in order.
-pub(crate) fn printed_lines(alloc: Global, integers: &[u64]) -> Result<Vec<String>, AllocError>
-    ensures { IfOk result (λ lines. map string_bytes lines.items ≡ map output_text (map Out integers.now)) }
+/// The lines of the texts that the program printed, in order.
+pub(crate) fn printed_lines(alloc: Global, texts: &[Units]) -> Result<Vec<String>, AllocError>
+    ensures { IfOk result (λ lines. map string_bytes lines.items ≡ map output_text (map Out texts.now)) }
 {
     let mut lines = Vec::new(alloc);
-    for integer in integers {
-        lines.push(printed_line(alloc, *integer)?)?;
+    for text in texts {
+        lines.push(printed_line(alloc, text.as_slice())?)?;
     }
     Ok(lines)
 }

@@ -1,20 +1,35 @@
 // A journal's lines over a host, and what is written of them.
-ghost use Rattle.std.specs.Prelude.{◌≡◌, ◌⊎◌, false, None, OnOk, OnErr, IsErrOf, map, string_bytes};
-ghost use Rattle.std.specs.Option.{option_map_or};
+ghost use Rattle.std.specs.Prelude.{◌≡◌, ◌⊎◌, ℕ, List, [], false, None, OnOk, OnErr, IsErrOf, map, string_bytes};
 ghost use Rattle.cdp_edge.specs.Outside.{Rose, gains, GainsPrefix, GainsLess};
 ghost use Rattle.cdp_text.specs.Lines.{lines_of};
-ghost use Rattle.command_line.specs.Ends.{end_of, IsCut, Plays};
-ghost use Rattle.command_line.specs.Journal.{entry_of, entries, refused};
-ghost use Rattle.command_line.specs.Output.{joined, output_at, output_of, output_bytes};
-ghost use Rattle.command_line.specs.Ends.{line_output, journal_output, of_sink};
+ghost use Rattle.js_tree.specs.declared.script.Script.{Script as AnyScript};
+ghost use Rattle.cdp_host.specs.Histories.{Entry, whole};
+ghost use Rattle.cdp_host.specs.Hosts.{Stands};
+ghost use Rattle.cdp_host.specs.Meaning.{begin};
+ghost use Rattle.command_line.specs.Journal.{entry_of, refused};
+ghost use Rattle.command_line.specs.Output.{joined};
+ghost use Rattle.command_line.specs.Played.{IsCut, Plays, end_of, journal_output, line_output, of_sink};
 
 use crate::act::act;
 use crate::line::read_line;
-use crate::outcome::Outcome;
 use cdp_edge::{Sink, SinkFault, put};
+use cdp_host::host::Host;
 use cdp_text::lines::cut_line;
-use early_host::Host;
-use std::alloc::Global;
+use cdp_text::units::Units;
+use js_tree::script::Script;
+use std::alloc::{AllocError, Global};
+use std::collections::VecDeque;
+
+/// How the replay of a journal ends.
+#[derive(Clone, Copy, Debug, PartialEq, Eq)]
+pub(crate) enum ReplayEnd {
+    /// With its last line.
+    Done,
+    /// The line of this number, from 1, is refused.
+    Refused(u64),
+    CannotWrite,
+    Memory,
+}
 
 /// Why a line wasn't played.
 #[derive(Clone, Copy, Debug, PartialEq, Eq)]
@@ -57,10 +72,15 @@ fn play_line<O: Sink>(
     out: &mut O,
 ) -> Result<(), LineFault>
     requires { host.old.broken ≡ false }
-    ensures ok { OnOk result (Plays (entry_of host.old.meaning text.now) host.old host.new (O.content out.old) (O.content out.new)) }
-    ensures refused { IsErrOf result LineFault.Refused → (entry_of host.old.meaning text.now ≡ None) × (out.new ≡ out.old) }
-    ensures part { OnErr result (GainsPrefix (O.content out.old) (O.content out.new) (line_output host.old.meaning (entry_of host.old.meaning text.now))) }
-    ensures less { IsErrOf result LineFault.CannotWrite → GainsLess (O.content out.old) (O.content out.new) (line_output host.old.meaning (entry_of host.old.meaning text.now)) }
+    ensures ok { OnOk result ((scripts : List AnyScript) (input : List (List ℕ)) (history : List Entry) → Stands scripts input host.old history
+        → Plays scripts input history (entry_of scripts (whole scripts input history) text.now) host.new (O.content out.old) (O.content out.new)) }
+    ensures works { OnOk result (host.new.broken ≡ false) }
+    ensures refused { IsErrOf result LineFault.Refused → (out.new ≡ out.old) × ((scripts : List AnyScript) (input : List (List ℕ)) (history : List Entry) → Stands scripts input host.old history
+        → entry_of scripts (whole scripts input history) text.now ≡ None) }
+    ensures part { OnErr result ((scripts : List AnyScript) (input : List (List ℕ)) (history : List Entry) → Stands scripts input host.old history
+        → GainsPrefix (O.content out.old) (O.content out.new) (line_output scripts (whole scripts input history) (entry_of scripts (whole scripts input history) text.now))) }
+    ensures less { IsErrOf result LineFault.CannotWrite → (scripts : List AnyScript) (input : List (List ℕ)) (history : List Entry) → Stands scripts input host.old history
+        → GainsLess (O.content out.old) (O.content out.new) (line_output scripts (whole scripts input history) (entry_of scripts (whole scripts input history) text.now)) }
     ensures quiet { OnOk result (O.faults out.new ≡ O.faults out.old) }
     ensures memory { IsErrOf result LineFault.Memory → O.faults out.new ≡ O.faults out.old }
     ensures failed { IsErrOf result LineFault.CannotWrite → Rose (O.faults out.old) (O.faults out.new) }
@@ -77,27 +97,52 @@ fn play_line<O: Sink>(
     Ok(())
 }
 
-/// Replays a journal's lines up to the first that is refused.
-pub(crate) fn play<O: Sink>(alloc: Global, mut host: Host, journal: &[u8], out: &mut O) -> Outcome
-    requires { host.broken ≡ false }
-    ensures end { IsCut result ⊎ (result ≡ end_of (refused 1 host.meaning (lines_of journal.now))) }
-    ensures whole { IsCut result ⊎ (O.content out.new ≡ gains (O.content out.old) (journal_output host.meaning (lines_of journal.now))) }
-    ensures part { GainsPrefix (O.content out.old) (O.content out.new) (journal_output host.meaning (lines_of journal.now)) }
-    ensures less { result ≡ Outcome.CannotWrite → GainsLess (O.content out.old) (O.content out.new) (journal_output host.meaning (lines_of journal.now)) }
-    ensures quiet { (result ≡ Outcome.CannotWrite) ⊎ (O.faults out.new ≡ O.faults out.old) }
-    ensures failed { result ≡ Outcome.CannotWrite → Rose (O.faults out.old) (O.faults out.new) }
+/// Replays a journal's lines over a host before its first entry, up to the first line that is refused.
+fn play_lines<O: Sink>(alloc: Global, host: &mut Host, journal: &[u8], out: &mut O) -> ReplayEnd
+    requires { host.old.broken ≡ false }
+    ensures end { (scripts : List AnyScript) (input : List (List ℕ)) → Stands scripts input host.old []
+        → IsCut result ⊎ (result ≡ end_of (refused scripts 1 (begin scripts input) (lines_of journal.now))) }
+    ensures whole { (scripts : List AnyScript) (input : List (List ℕ)) → Stands scripts input host.old []
+        → IsCut result ⊎ (O.content out.new ≡ gains (O.content out.old) (journal_output scripts (begin scripts input) (lines_of journal.now))) }
+    ensures part { (scripts : List AnyScript) (input : List (List ℕ)) → Stands scripts input host.old []
+        → GainsPrefix (O.content out.old) (O.content out.new) (journal_output scripts (begin scripts input) (lines_of journal.now)) }
+    ensures less { result ≡ ReplayEnd.CannotWrite → (scripts : List AnyScript) (input : List (List ℕ)) → Stands scripts input host.old []
+        → GainsLess (O.content out.old) (O.content out.new) (journal_output scripts (begin scripts input) (lines_of journal.now)) }
+    ensures quiet { (result ≡ ReplayEnd.CannotWrite) ⊎ (O.faults out.new ≡ O.faults out.old) }
+    ensures failed { result ≡ ReplayEnd.CannotWrite → Rose (O.faults out.old) (O.faults out.new) }
 {
     let mut rest = journal;
     let mut number: u64 = 1;
     while let Some((line, after)) = cut_line(rest) {
-        match play_line(alloc, &mut host, line, out) {
+        match play_line(alloc, host, line, out) {
             Ok(()) => {}
-            Err(LineFault::Refused) => return Outcome::LineRefused(number),
-            Err(LineFault::Memory) => return Outcome::OutOfMemory,
-            Err(LineFault::CannotWrite) => return Outcome::CannotWrite,
+            Err(LineFault::Refused) => return ReplayEnd::Refused(number),
+            Err(LineFault::Memory) => return ReplayEnd::Memory,
+            Err(LineFault::CannotWrite) => return ReplayEnd::CannotWrite,
         }
         rest = after;
         number += 1;
     }
-    Outcome::Done
+    ReplayEnd::Done
+}
+
+/// Replays a journal's lines over these scripts with these lines of input, up to the first line that is refused.
+pub(crate) fn play<O: Sink>(
+    alloc: Global,
+    scripts: Vec<Script>,
+    input: VecDeque<Units>,
+    journal: &[u8],
+    out: &mut O,
+) -> ReplayEnd
+    ensures end { IsCut result ⊎ (result ≡ end_of (refused scripts.items 1 (begin scripts.items input.items) (lines_of journal.now))) }
+    ensures whole { IsCut result ⊎ (O.content out.new ≡ gains (O.content out.old) (journal_output scripts.items (begin scripts.items input.items) (lines_of journal.now))) }
+    ensures part { GainsPrefix (O.content out.old) (O.content out.new) (journal_output scripts.items (begin scripts.items input.items) (lines_of journal.now)) }
+    ensures less { result ≡ ReplayEnd.CannotWrite → GainsLess (O.content out.old) (O.content out.new) (journal_output scripts.items (begin scripts.items input.items) (lines_of journal.now)) }
+    ensures quiet { (result ≡ ReplayEnd.CannotWrite) ⊎ (O.faults out.new ≡ O.faults out.old) }
+    ensures failed { result ≡ ReplayEnd.CannotWrite → Rose (O.faults out.old) (O.faults out.new) }
+{
+    match Host::start(alloc, scripts, input) {
+        Ok(mut host) => play_lines(alloc, &mut host, journal, out),
+        Err(AllocError) => ReplayEnd::Memory,
+    }
 }

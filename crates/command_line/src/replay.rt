@@ -1,61 +1,66 @@
 // The command `replay`, from its files to its end.
-ghost use Rattle.std.specs.Prelude.{◌≡◌, ◌⊎◌};
-ghost use Rattle.cdp_edge.specs.Outside.{Rose, Told, gains, GainsPrefix, GainsLess};
-ghost use Rattle.early_machine.specs.Early.{early_of};
-ghost use Rattle.command_line.specs.Ends.{IsCut};
+ghost use Rattle.std.specs.Prelude.{◌≡◌, ◌⊎◌, IfOk, IfErr, Some};
+ghost use Rattle.cdp_edge.specs.Outside.{Told, content_of};
 ghost use Rattle.command_line.specs.RequestHeld.{request_held};
-ghost use Rattle.command_line.specs.Status.{Because, IsUnplayed, IsWhole, end_over, output_over, output_in};
+ghost use Rattle.command_line.specs.ReplayCauses.{BecauseJournal, BecauseReplay, ReplaysInPart, outcome_of_play};
+ghost use Rattle.command_line.specs.RunCauses.{IsUnbegun};
 
-use crate::outcome::{File, Outcome};
-use crate::play::play;
+use crate::outcome::Outcome;
+use crate::play::{ReplayEnd, play};
+use crate::sources::read_sources;
 use crate::words::Request;
 use cdp_edge::{Shelf, ShelfFault, Sink};
-use early_host::Host;
-use early_machine::early::{EarlyFault, read_early};
 use std::alloc::Global;
 
-/// Replays the journal over the script that a request names: the journal is read first.
-#[tactic(auto, using(crate::proofs::ReplayLemmas::untouched))]
-pub(crate) fn replay<F: Shelf, O: Sink>(
-    alloc: Global,
-    request: Request<'_>,
-    shelf: &mut F,
-    out: &mut O,
-) -> Outcome
-    ensures cause { Because result (request_held request.entry) (F.files shelf.old) (F.faults shelf.old) (F.faults shelf.new) (O.faults out.old) (O.faults out.new) }
-    ensures part { Told (F.files shelf.old) (λ files. GainsPrefix (O.content out.old) (O.content out.new) (output_in (request_held request.entry) files)) }
-    ensures whole { Told (F.files shelf.old) (λ files. IsWhole result → O.content out.new ≡ gains (O.content out.old) (output_in (request_held request.entry) files)) }
-    ensures less { result ≡ Outcome.CannotWrite → Told (F.files shelf.old) (λ files. GainsLess (O.content out.old) (O.content out.new) (output_in (request_held request.entry) files)) }
-    ensures unplayed { IsUnplayed result → out.new ≡ out.old }
+/// The end that the replay of a journal's lines has.
+fn outcome_of_play(end: ReplayEnd) -> Outcome<'static>
+    ensures { result ≡ outcome_of_play end }
 {
-    let journal = match shelf.read(alloc, request.journal) {
-        Ok(bytes) => bytes,
-        Err(ShelfFault::Memory) => return Outcome::OutOfMemory,
-        Err(ShelfFault::NotThere | ShelfFault::Failed) => return Outcome::CannotRead(File::Journal),
-    };
-    let script = match shelf.read(alloc, request.script) {
-        Ok(bytes) => bytes,
-        Err(ShelfFault::Memory) => return Outcome::OutOfMemory,
-        Err(ShelfFault::NotThere | ShelfFault::Failed) => return Outcome::CannotRead(File::Script),
-    };
-    replay_bytes(alloc, &journal, &script, out)
+    match end {
+        ReplayEnd::Done => Outcome::Done,
+        ReplayEnd::Refused(number) => Outcome::LineRefused(number),
+        ReplayEnd::CannotWrite => Outcome::CannotWrite,
+        ReplayEnd::Memory => Outcome::OutOfMemory,
+    }
 }
 
-/// Replays a journal over a script.
-#[tactic(auto, using(crate::proofs::ReplayLemmas::untouched))]
-fn replay_bytes<O: Sink>(alloc: Global, journal: &[u8], script: &[u8], out: &mut O) -> Outcome
-    ensures end { IsCut result ⊎ (result ≡ end_over journal.now (early_of script.now)) }
-    ensures whole { IsCut result ⊎ (O.content out.new ≡ gains (O.content out.old) (output_over journal.now (early_of script.now))) }
-    ensures part { GainsPrefix (O.content out.old) (O.content out.new) (output_over journal.now (early_of script.now)) }
-    ensures less { result ≡ Outcome.CannotWrite → GainsLess (O.content out.old) (O.content out.new) (output_over journal.now (early_of script.now)) }
-    ensures quiet { (result ≡ Outcome.CannotWrite) ⊎ (O.faults out.new ≡ O.faults out.old) }
-    ensures failed { result ≡ Outcome.CannotWrite → Rose (O.faults out.old) (O.faults out.new) }
-    ensures played { result ≡ Outcome.CannotWrite → IsWhole (end_over journal.now (early_of script.now)) }
-    ensures unplayed { result ≡ Outcome.FormNotBuilt → out.new ≡ out.old }
+/// The bytes of the journal of this name.
+fn read_journal<'w, F: Shelf>(
+    alloc: Global,
+    name: &'w str,
+    shelf: &mut F,
+) -> Result<Vec<u8>, Outcome<'w>>
+    ensures content { IfOk result (λ bytes. Told (F.files shelf.old) (λ files. content_of name.now files ≡ Some bytes.items)) }
+    ensures quiet { IfOk result (λ bytes. F.faults shelf.new ≡ F.faults shelf.old) }
+    ensures fault { IfErr result (λ end. BecauseJournal end name.now (F.faults shelf.old) (F.faults shelf.new)) }
+    ensures files { F.files shelf.new ≡ F.files shelf.old }
 {
-    match read_early(alloc, script) {
-        Err(EarlyFault::Memory) => Outcome::OutOfMemory,
-        Err(EarlyFault::Form) => Outcome::FormNotBuilt,
-        Ok(script) => play(alloc, Host::start_early(alloc, script), journal, out),
+    match shelf.read(alloc, name) {
+        Ok(bytes) => Ok(bytes),
+        Err(ShelfFault::Memory) => Err(Outcome::OutOfMemory),
+        Err(ShelfFault::NotThere | ShelfFault::Failed) => Err(Outcome::CannotRead(name)),
+    }
+}
+
+/// Replays the journal over the program that a request names: the journal is read first, then the input, and then the
+/// scripts in order.
+#[tactic(auto, using(crate::proofs::ReplayLemmas::unread))]
+pub(crate) fn replay<'w, F: Shelf, O: Sink>(
+    alloc: Global,
+    request: Request<'w>,
+    shelf: &mut F,
+    out: &mut O,
+) -> Outcome<'w>
+    ensures cause { BecauseReplay result (request_held request.entry) (F.files shelf.old) (F.faults shelf.old) (F.faults shelf.new) (O.faults out.old) (O.faults out.new) (O.content out.old) (O.content out.new) }
+    ensures part { Told (F.files shelf.old) (λ files. (O.content out.new ≡ O.content out.old) ⊎ ReplaysInPart files (request_held request.entry) (O.content out.old) (O.content out.new)) }
+    ensures unbegun { IsUnbegun result → out.new ≡ out.old }
+{
+    let journal = match read_journal(alloc, request.journal, shelf) {
+        Ok(bytes) => bytes,
+        Err(end) => return end,
+    };
+    match read_sources(alloc, request.sources, shelf) {
+        Ok(program) => outcome_of_play(play(alloc, program.scripts, program.input, &journal, out)),
+        Err(end) => end,
     }
 }

@@ -1,43 +1,42 @@
 // The words of the command line.
 ghost use Rattle.std.specs.Prelude.{◌≡◌, map, string_bytes};
 ghost use Rattle.std.specs.List.{list_any};
-ghost use Rattle.std.specs.Option.{option_map};
-ghost use Rattle.command_line.specs.Words.{asked, input_form, is_option, replay_form, run_form, scripts_form};
-ghost use Rattle.command_line.specs.RequestHeld.{command_held, name_held};
+ghost use Rattle.std.specs.Option.{option_and_then, option_map};
+ghost use Rattle.command_line.specs.Words.{asked, is_option, names_behind_input, names_of, replay_of, run_of};
+ghost use Rattle.command_line.specs.RequestHeld.{command_held, names_held};
 
 use cdp_text::parts::behind;
+
+/// The files of a program, by their names: the input, if there is one, and the scripts.
+#[derive(Clone, Copy)]
+pub(crate) struct Sources<'w> {
+    pub(crate) input: Option<&'w str>,
+    pub(crate) scripts: &'w [String],
+}
 
 /// The files of a replay, by their names.
 #[derive(Clone, Copy)]
 pub(crate) struct Request<'w> {
     pub(crate) journal: &'w str,
-    pub(crate) script: &'w str,
-}
-
-impl Request<'_> {
-    /// No files.
-    pub(crate) const NONE: Request<'static> = Request {
-        journal: "",
-        script: "",
-    };
-}
-
-/// The files of a run, by their names: the input, if there is one, and the scripts.
-#[derive(Clone, Copy)]
-pub(crate) struct RunRequest<'w> {
-    pub(crate) input: Option<&'w str>,
-    pub(crate) scripts: &'w [String],
+    pub(crate) sources: Sources<'w>,
 }
 
 /// What words ask for.
 #[derive(Clone, Copy)]
 pub(crate) enum Command<'w> {
-    Run(RunRequest<'w>),
+    Run(Sources<'w>),
     Replay(Request<'w>),
 }
 
-/// What the words after the program's name ask for: `run SCRIPT...`, with `--input FILE` or `--input=FILE` behind `run`,
-/// or `replay JOURNAL SCRIPT`. No name begins with `-`, but for one behind `--input=`. None for all other words.
+/// The names behind a command, behind that of an input, if there is one.
+#[derive(Clone, Copy)]
+struct Names<'w> {
+    input: Option<&'w str>,
+    names: &'w [String],
+}
+
+/// What the words after the program's name ask for: `run SCRIPT...` or `replay JOURNAL SCRIPT...`, with `--input FILE` or
+/// `--input=FILE` behind the first word. No name begins with `-`, but for one behind `--input=`. None for all other words.
 pub(crate) fn read_words(words: &[String]) -> Option<Command<'_>>
     ensures { option_map command_held result ≡ asked words.now }
 {
@@ -45,9 +44,9 @@ pub(crate) fn read_words(words: &[String]) -> Option<Command<'_>>
         [] => None,
         [command, rest @ ..] => {
             if command.as_str() == "run" {
-                read_run(rest)
+                run_of(read_names(rest)?)
             } else if command.as_str() == "replay" {
-                read_replay(rest)
+                replay_of(read_names(rest)?)
             } else {
                 None
             }
@@ -55,26 +54,9 @@ pub(crate) fn read_words(words: &[String]) -> Option<Command<'_>>
     }
 }
 
-/// What the words behind `replay` ask for.
-fn read_replay(words: &[String]) -> Option<Command<'_>>
-    ensures { option_map command_held result ≡ replay_form (map string_bytes words.now) }
-{
-    match words {
-        [journal, script] => {
-            let (journal, script) = (journal.as_str(), script.as_str());
-            if !is_option(journal) && !is_option(script) {
-                Some(Command::Replay(Request { journal, script }))
-            } else {
-                None
-            }
-        }
-        _ => None,
-    }
-}
-
-/// What the words behind `run` ask for.
-fn read_run(words: &[String]) -> Option<Command<'_>>
-    ensures { option_map command_held result ≡ run_form (map string_bytes words.now) }
+/// The names behind a command.
+fn read_names(words: &[String]) -> Option<Names<'_>>
+    ensures { option_map names_held result ≡ names_of (map string_bytes words.now) }
 {
     match words {
         [] => None,
@@ -82,17 +64,23 @@ fn read_run(words: &[String]) -> Option<Command<'_>>
             if word.as_str() == "--input" {
                 read_input(rest)
             } else if let Some(file) = behind(word.as_str(), "--input=") {
-                read_scripts(Some(file), rest)
+                Some(Names {
+                    input: Some(file),
+                    names: rest,
+                })
             } else {
-                read_scripts(None, words)
+                Some(Names {
+                    input: None,
+                    names: words,
+                })
             }
         }
     }
 }
 
-/// What the words behind `run --input` ask for.
-fn read_input(words: &[String]) -> Option<Command<'_>>
-    ensures { option_map command_held result ≡ input_form (map string_bytes words.now) }
+/// The names behind `--input`, the first of which is that of the input.
+fn read_input(words: &[String]) -> Option<Names<'_>>
+    ensures { option_map names_held result ≡ names_behind_input (map string_bytes words.now) }
 {
     match words {
         [] => None,
@@ -100,23 +88,47 @@ fn read_input(words: &[String]) -> Option<Command<'_>>
             if is_option(file.as_str()) {
                 None
             } else {
-                read_scripts(Some(file.as_str()), rest)
+                Some(Names {
+                    input: Some(file.as_str()),
+                    names: rest,
+                })
             }
         }
     }
 }
 
-/// A run of the scripts that these words name, with an input.
-fn read_scripts<'w>(input: Option<&'w str>, words: &'w [String]) -> Option<Command<'w>>
-    ensures { option_map command_held result ≡ scripts_form (name_held input.entry) (map string_bytes words.now) }
+/// A run of the scripts of these names.
+fn run_of(names: Names<'_>) -> Option<Command<'_>>
+    ensures { option_map command_held result ≡ run_of (names_held names.entry) }
 {
-    if words.is_empty() || has_option(words) {
+    let Names { input, names } = names;
+    if names.is_empty() || has_option(names) {
         None
     } else {
-        Some(Command::Run(RunRequest {
+        Some(Command::Run(Sources {
             input,
-            scripts: words,
+            scripts: names,
         }))
+    }
+}
+
+/// A replay of the journal of the first of these names over the scripts of the others.
+fn replay_of(names: Names<'_>) -> Option<Command<'_>>
+    ensures { option_map command_held result ≡ replay_of (names_held names.entry) }
+{
+    let Names { input, names } = names;
+    match names {
+        [] => None,
+        [journal, scripts @ ..] => {
+            if scripts.is_empty() || has_option(names) {
+                None
+            } else {
+                Some(Command::Replay(Request {
+                    journal: journal.as_str(),
+                    sources: Sources { input, scripts },
+                }))
+            }
+        }
     }
 }
 

@@ -70,6 +70,16 @@ to 1 {"id":6,"result":{}}
 to 1 {"method":"Debugger.resumed","params":{}}
 "#;
 
+// A pause is asked for between two scripts: the first step of the second is no arrival.
+const SECOND: &[u8] = br#"attach
+tell 1 {"id":1,"method":"Debugger.enable"}
+run 8 0
+tell 1 {"id":2,"method":"Debugger.pause"}
+run 100 0
+tell 1 {"id":3,"method":"Debugger.resume"}
+run 100 0
+"#;
+
 // Each refusal of a command.
 const REFUSALS: &[u8] = br#"attach
 tell 1 {"id":0,"method":"X.y"}
@@ -112,7 +122,7 @@ const RUNS_OUTPUT: &str = "ran 4 ready\nout 1\nran 1 ended\nran 0 ended\n";
 const UNWRITTEN: &str = "debug_host: cannot write\n";
 
 // The files that every call has.
-const FILES: [(&str, &[u8]); 23] = [
+const FILES: [(&str, &[u8]); 34] = [
     ("j", b"attach\nrun 1 0\n"),
     ("none", b""),
     ("take", b"take 1\n"),
@@ -144,12 +154,23 @@ const FILES: [(&str, &[u8]); 23] = [
     ),
     ("blank.js", b"console.log(1);\n\n"),
     ("cr.js", b"console.log(1);\r\n"),
+    ("all", b"run 4294967295 0\nrun 5 0\n"),
+    ("five", b"run 5 0"),
+    ("second", SECOND),
+    ("lf", b"a\n\nb"),
+    ("text.js", b"console.log(\"a%b\\n\\rc\\uD800\");"),
+    ("throw.js", b"console.log(1);\nthrow 2;\n"),
+    ("read.js", b"console.log(readline());"),
+    ("let.js", b"let x = 1;\nconsole.log(x);\n"),
+    ("use.js", b"console.log(x);\n"),
+    ("endless.js", b"while (true) console.log(1);\n"),
+    ("latin.js", b"1;\xff"),
     ("late.js", b""),
 ];
 
 // The words, with a space between them (`~` for no words), the numbers of the writes of output, of the writes of errors
 // and of the reads that fail, as digits, and then the status, the output and what is said of errors.
-const CALLS: [(&str, &str, &str, &str, u8, &str, &str); 58] = [
+const CALLS: [(&str, &str, &str, &str, u8, &str, &str); 80] = [
     (
         "replay silent a.js",
         "",
@@ -207,7 +228,15 @@ const CALLS: [(&str, &str, &str, &str, u8, &str, &str); 58] = [
     ("", "", "", "", 2, "", USAGE),
     ("replay", "", "", "", 2, "", USAGE),
     ("replay j", "", "", "", 2, "", USAGE),
-    ("replay j a.js a.js", "", "", "", 2, "", USAGE),
+    (
+        "replay j a.js a.js",
+        "",
+        "",
+        "",
+        0,
+        "attached 1\nran 1 ready\n",
+        "",
+    ),
     ("replay -x a.js", "", "", "", 2, "", USAGE),
     ("replay j -", "", "", "", 2, "", USAGE),
     ("replay - a.js", "", "", "", 2, "", USAGE),
@@ -276,37 +305,21 @@ const CALLS: [(&str, &str, &str, &str, u8, &str, &str); 58] = [
         "",
         "",
         "",
-        3,
+        0,
+        "attached 1\nran 1 ready\n",
         "",
-        "debug_host: b.js: form not built\n",
     ),
     (
         "replay take b.js",
         "",
         "",
         "",
-        3,
+        6,
         "",
-        "debug_host: b.js: form not built\n",
+        "debug_host: line 1 refused\n",
     ),
-    (
-        "replay none blank.js",
-        "",
-        "",
-        "",
-        3,
-        "",
-        "debug_host: blank.js: form not built\n",
-    ),
-    (
-        "replay none cr.js",
-        "",
-        "",
-        "",
-        3,
-        "",
-        "debug_host: cr.js: form not built\n",
-    ),
+    ("replay none blank.js", "", "", "", 0, "", ""),
+    ("replay none cr.js", "", "", "", 0, "", ""),
     (
         "replay none wide.js",
         "",
@@ -314,7 +327,7 @@ const CALLS: [(&str, &str, &str, &str, u8, &str, &str); 58] = [
         "",
         3,
         "",
-        "debug_host: wide.js: form not built\n",
+        "debug_host: wide.js:0:12: unexpected token\n",
     ),
     (
         "replay b.js j",
@@ -323,7 +336,7 @@ const CALLS: [(&str, &str, &str, &str, u8, &str, &str); 58] = [
         "",
         3,
         "",
-        "debug_host: j: form not built\n",
+        "debug_host: j:1:4: unexpected token\n",
     ),
     (
         "replay take a.js",
@@ -430,8 +443,158 @@ const CALLS: [(&str, &str, &str, &str, u8, &str, &str); 58] = [
         "debug_host: line 1 refused\n",
     ),
     ("replay take one.js", "", "1", "", 6, "", ""),
-    ("replay runs b.js", "1", "1", "", 3, "", ""),
+    ("replay runs b.js", "1", "1", "", 5, "", ""),
     ("replay", "1", "1", "1", 2, "", ""),
+    (
+        "replay all text.js",
+        "",
+        "",
+        "",
+        0,
+        "out a%25b%0A%0Dc\u{FFFD}\nran 5 ended\nran 0 ended\n",
+        "",
+    ),
+    (
+        "replay all throw.js",
+        "",
+        "",
+        "",
+        0,
+        "out 1\nran 8 threw\nran 0 threw\n",
+        "",
+    ),
+    (
+        "replay all read.js",
+        "",
+        "",
+        "",
+        0,
+        "out null\nran 7 ended\nran 0 ended\n",
+        "",
+    ),
+    (
+        "replay --input lf all read.js",
+        "",
+        "",
+        "",
+        0,
+        "out a\nran 7 ended\nran 0 ended\n",
+        "",
+    ),
+    (
+        "replay --input=lf all read.js read.js read.js read.js",
+        "",
+        "",
+        "",
+        0,
+        "out a\nout \nout b\nout null\nran 28 ended\nran 0 ended\n",
+        "",
+    ),
+    (
+        "replay all let.js use.js",
+        "",
+        "",
+        "",
+        0,
+        "out 1\nout 1\nran 14 ended\nran 0 ended\n",
+        "",
+    ),
+    (
+        "replay second let.js use.js",
+        "",
+        "",
+        "",
+        0,
+        "attached 1\nout 1\nran 8 ready\nran 1 paused\nout 1\nran 5 ended\n",
+        "",
+    ),
+    ("replay five endless.js", "", "", "", 0, "ran 5 ready\n", ""),
+    (
+        "replay none let.js let.js",
+        "",
+        "",
+        "",
+        3,
+        "",
+        "debug_host: let.js:0:4: unexpected token\n",
+    ),
+    (
+        "replay take latin.js",
+        "",
+        "",
+        "",
+        3,
+        "",
+        "debug_host: latin.js: not UTF-8\n",
+    ),
+    (
+        "replay --input latin.js take b.js",
+        "",
+        "",
+        "",
+        3,
+        "",
+        "debug_host: latin.js: not UTF-8\n",
+    ),
+    (
+        "replay --input in x a.js",
+        "",
+        "",
+        "",
+        4,
+        "",
+        "debug_host: cannot read x\n",
+    ),
+    (
+        "replay --input in j y",
+        "",
+        "",
+        "",
+        4,
+        "",
+        "debug_host: cannot read in\n",
+    ),
+    (
+        "replay --input lf j y",
+        "",
+        "",
+        "",
+        4,
+        "",
+        "debug_host: cannot read y\n",
+    ),
+    (
+        "replay --input lf j a.js",
+        "",
+        "",
+        "2",
+        4,
+        "",
+        "debug_host: cannot read lf\n",
+    ),
+    (
+        "replay --input lf j a.js",
+        "",
+        "",
+        "3",
+        4,
+        "",
+        "debug_host: cannot read a.js\n",
+    ),
+    ("replay --input lf", "", "", "", 2, "", USAGE),
+    ("replay --input lf j", "", "", "", 2, "", USAGE),
+    ("replay j --input lf a.js", "", "", "", 2, "", USAGE),
+    ("replay --input - j a.js", "", "", "", 2, "", USAGE),
+    (
+        "replay --input lf --input lf j a.js",
+        "",
+        "",
+        "",
+        2,
+        "",
+        USAGE,
+    ),
+    ("replay j a.js -", "", "", "", 2, "", USAGE),
 ];
 
 // The words of a text.

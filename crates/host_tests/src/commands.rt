@@ -1,6 +1,10 @@
 // Each command in each state of its session.
-use early_host::{Host, Told, is_early};
-use early_machine::early::read_early;
+use cdp_host::host::{Host, Told};
+use cdp_session::command::is_early;
+use cdp_text::units::units_of;
+use js_parser::parse::parse_script;
+use std::alloc::Global;
+use std::collections::VecDeque;
 use std::process::Abort;
 use std::test::Fail;
 
@@ -60,11 +64,20 @@ fn command(letter: u8) -> &'static str {
     }
 }
 
+// A host of a script that prints twice.
+fn two_lines(alloc: Global) -> Result<Host, Fail> {
+    let source = units_of(alloc, "console.log(7);\nconsole.log(8);\n")?;
+    let Ok(script) = parse_script(alloc, source.as_slice(), "a.js", 1, &[]) else {
+        return Err("no script".into());
+    };
+    Ok(Host::start(alloc, vec![in alloc; script]?, VecDeque::new(alloc))?)
+}
+
 // Does what the letters say.
 fn bring(rt: &impl Abort, host: &mut Host, letters: &str) -> Result<(), Fail> {
     for letter in letters.bytes() {
         if letter == b'.' {
-            host.run_early(100)?;
+            host.run(100)?;
         } else {
             let text = command(letter);
             assert!(rt; is_early(text) && host.attached(1));
@@ -76,8 +89,7 @@ fn bring(rt: &impl Abort, host: &mut Host, letters: &str) -> Result<(), Fail> {
 
 fn each_row(rt: &(impl Abort + AllocGlobal), rows: &[(&str, &str, &str, u64)]) -> Result<(), Fail> {
     for (before, letter, texts, steps) in rows {
-        let script = read_early(rt.alloc(), b"console.log(7);\nconsole.log(8);\n")?;
-        let mut host = Host::start_early(rt.alloc(), script);
+        let mut host = two_lines(rt.alloc())?;
         assert_eq!(rt; host.sessions(), 0);
         assert_eq!(rt; host.attach()?, 1);
         bring(rt, &mut host, before)?;
@@ -91,11 +103,7 @@ fn each_row(rt: &(impl Abort + AllocGlobal), rows: &[(&str, &str, &str, u64)]) -
             made.push('|')?;
         }
         assert_eq!(rt; made.as_str(), *texts, "{letter} behind {before}");
-        assert_eq!(rt;
-            host.run_early(100)?.steps,
-            *steps,
-            "{letter} behind {before}"
-        );
+        assert_eq!(rt; host.run(100)?.steps, *steps, "{letter} behind {before}");
     }
     Ok(())
 }

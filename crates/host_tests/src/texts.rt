@@ -1,12 +1,10 @@
-// Texts and scripts: what their clauses say exactly is called once, with ample memory.
+// Texts: what their clauses say exactly is called once, with ample memory.
 use cdp_text::decimal::{read_decimal, read_decimal_bytes};
 use cdp_text::line_table::LineTable;
 use cdp_text::lines::cut_line;
 use cdp_text::parts::{behind, halves};
 use cdp_text::position::{Place, Pos, offset_at, pos_at};
 use cdp_text::units::{Units, text_of, units_of};
-use early_machine::early::{EarlyFault, read_early};
-use early_machine::machine::Machine;
 use std::test::Fail;
 
 #[test]
@@ -44,30 +42,5 @@ fn units_and_positions(rt: HostRuntime) -> Result<(), Fail> {
     assert_eq!(rt; table.offset_at(units.as_slice(), pos), Some(5));
     assert!(rt; Pos { line: 0, col: 9 } < pos && place < Place { script: 2, pos });
     assert_eq!(rt; Units::from_vec(lone.into_vec()).len(), 2);
-    Ok(())
-}
-
-#[test]
-fn early_scripts(rt: HostRuntime) -> Result<(), Fail> {
-    let none = read_early(rt.alloc(), b"console.log(1);\r\n");
-    assert_eq!(rt; none.err(), Some(EarlyFault::Form));
-    let script = read_early(rt.alloc(), b"console.log(7);\nconsole.log(8);")?;
-    let mut machine = Machine::start_early(script);
-    // what each step printed, as a digit where it did, and whether the run then arrives
-    let mut marks = Vec::new(rt.alloc());
-    for _ in 0..9 {
-        assert!(rt; !machine.ended());
-        let printed = machine.step_early();
-        marks.push(if printed == Some(7) {
-            b'7'
-        } else if printed == Some(8) {
-            b'8'
-        } else {
-            b'-'
-        })?;
-        marks.push(if machine.arrives() { b'!' } else { b'.' })?;
-    }
-    assert!(rt; machine.ended());
-    assert_eq!(rt; marks.as_slice(), b"-!-.-.-!7!-.-.-!8.".as_slice());
     Ok(())
 }

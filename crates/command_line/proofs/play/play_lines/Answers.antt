@@ -1,0 +1,58 @@
+use Rattle.std.proofs.Common.{◌∙◌, refl, sym, ap, inr, Err, arith}
+use Rattle.cdp_text.specs.Lines.{lines_of}
+use Rattle.command_line.specs.Played.{end_of}
+use Rattle.command_line.proofs.PlayLemmas.{behind-start, behind-next, behind-part, behind-less, behind-refused, behind-refused-whole}
+use Rattle.command_line.proofs.play.play_lines.Goals as goal
+
+pub loop-line-init : goal.loop-line-init
+loop-line-init g c = record {
+  number = omega arith;
+  works = c.requires;
+  behind = λ scripts input stood. behind-start scripts input (lines_of c.args.journal.now) c.args.host.now _ stood c.requires;
+  quiet = refl;
+}
+
+-- ---- a line that is refused
+
+pub returns-in-Err-Refused-clause-end : goal.returns-in-Err-Refused-clause-end
+returns-in-Err-Refused-clause-end g c = λ scripts input stood.
+    inr (sym (ap end_of (behind-refused scripts input _ _ c.loop-line.number _ _ _ c.in-Some.line.now (lines_of c.in-Some.after.now) c.in-Some.ensures.lines
+    (c.loop-line.invariant.behind scripts input stood) (c.in-Err-Refused.ensures.refused (ap (λ fault. Err fault) c.in-Err-Refused.field-0-is)).1)))
+
+pub returns-in-Err-Refused-clause-whole : goal.returns-in-Err-Refused-clause-whole
+returns-in-Err-Refused-clause-whole g c = λ scripts input stood.
+    let none = c.in-Err-Refused.ensures.refused (ap (λ fault. Err fault) c.in-Err-Refused.field-0-is) in
+    inr (ap (λ o. g.O.Sink.content o) none.0 ∙ behind-refused-whole scripts input _ _ c.loop-line.number _ _ _ c.in-Some.line.now (lines_of c.in-Some.after.now) c.in-Some.ensures.lines
+    (c.loop-line.invariant.behind scripts input stood) none.1)
+
+pub returns-in-Err-Refused-clause-part : goal.returns-in-Err-Refused-clause-part
+returns-in-Err-Refused-clause-part g c = λ scripts input stood.
+    behind-part scripts input _ _ _ _ _ _ _ c.in-Some.line.now (lines_of c.in-Some.after.now) c.in-Some.ensures.lines (c.loop-line.invariant.behind scripts input stood) c.in-Err-Refused.ensures.part
+
+-- ---- no memory, or a write that failed
+
+pub returns-in-Err-Memory-clause-part : goal.returns-in-Err-Memory-clause-part
+returns-in-Err-Memory-clause-part g c = λ scripts input stood.
+    behind-part scripts input _ _ _ _ _ _ _ c.in-Some.line.now (lines_of c.in-Some.after.now) c.in-Some.ensures.lines (c.loop-line.invariant.behind scripts input stood) c.in-Err-Memory.ensures.part
+
+pub returns-in-Err-CannotWrite-clause-part : goal.returns-in-Err-CannotWrite-clause-part
+returns-in-Err-CannotWrite-clause-part g c = λ scripts input stood.
+    behind-part scripts input _ _ _ _ _ _ _ c.in-Some.line.now (lines_of c.in-Some.after.now) c.in-Some.ensures.lines (c.loop-line.invariant.behind scripts input stood) c.in-Err-CannotWrite.ensures.part
+
+pub returns-in-Err-CannotWrite-clause-less : goal.returns-in-Err-CannotWrite-clause-less
+returns-in-Err-CannotWrite-clause-less g c is = λ scripts input stood.
+    behind-less scripts input _ _ _ _ _ _ _ c.in-Some.line.now (lines_of c.in-Some.after.now) c.in-Some.ensures.lines (c.loop-line.invariant.behind scripts input stood)
+    (c.in-Err-CannotWrite.ensures.less (ap (λ fault. Err fault) c.in-Err-CannotWrite.field-0-is))
+
+-- ---- the loop
+
+pub loop-line-preserved : goal.loop-line-preserved
+loop-line-preserved g c =
+    let before = c.loop-line.invariant in
+    record {
+      number = omega (arith, c.in-Some.ensures.shorter);
+      works = c.in-Ok.ensures.works;
+      behind = λ scripts input stood.
+          behind-next scripts input _ _ c.loop-line.number _ _ _ _ _ c.in-Some.line.now (lines_of c.in-Some.after.now) c.in-Some.ensures.lines (before.behind scripts input stood) c.in-Ok.ensures.ok;
+      quiet = c.in-Ok.ensures.quiet ∙ before.quiet;
+    }

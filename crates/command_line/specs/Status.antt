@@ -1,0 +1,91 @@
+-- The status of each end, and its line.
+use Rattle.std.specs.Prelude.{◌≡◌, ◌<◌, ℕ, List, [], ◌∷◌, ◌++◌, codes, decimal, string_bytes, Option, Some, None}
+use Rattle.cdp_edge.specs.Outside.{Named, Told}
+use Rattle.cdp_edge.specs.Blame.{Faults}
+use Rattle.script_files.specs.declared.fault.Refusal.{Refusal}
+use Rattle.script_files.specs.declared.fault.Refusal.TheVariants as refusals
+use Rattle.command_line.specs.Words.{Command, Request, Sources, Run, Replay}
+use Rattle.command_line.specs.declared.outcome.Outcome.{Outcome}
+use Rattle.command_line.specs.declared.outcome.Outcome.TheVariants as ends
+
+-- the status of an end
+abbrev pub status_of : Outcome → ℕ
+status_of ends.Done = 0
+status_of ends.OutOfMemory = 1
+status_of ends.Usage = 2
+status_of (ends.Refused name r) = 3
+status_of (ends.CannotRead name) = 4
+status_of ends.CannotWrite = 5
+status_of (ends.LineRefused number) = 6
+status_of (ends.Threw text) = 8
+
+-- ---- the line on the second sink, ended by LF
+
+-- of words that aren't of a form
+abbrev pub usage_said : List ℕ
+usage_said = codes "usage: debug_host run/replay/serve/send/drill" ++ 10 ∷ []
+
+-- of a refused file of this name: lines and columns count from 0
+abbrev pub refusal_said : List ℕ → Refusal → List ℕ
+refusal_said name refusals.NotUtf8 = codes "debug_host: " ++ name ++ (codes ": not UTF-8" ++ 10 ∷ [])
+refusal_said name (refusals.UnexpectedToken pos) =
+    codes "debug_host: " ++ (name ++ 58 ∷ (decimal pos.line ++ 58 ∷ (decimal pos.col ++ (codes ": unexpected token" ++ 10 ∷ []))))
+refusal_said name (refusals.TooLong units) = codes "debug_host: " ++ (name ++ (codes ": too long: " ++ (decimal units ++ (codes " units" ++ 10 ∷ []))))
+refusal_said name refusals.TooDeep = codes "debug_host: " ++ name ++ (codes ": too deep" ++ 10 ∷ [])
+refusal_said name refusals.TooManyTokens = codes "debug_host: " ++ name ++ (codes ": too many tokens" ++ 10 ∷ [])
+
+-- of a file that can't be read
+abbrev pub unread_said : List ℕ → List ℕ
+unread_said name = codes "debug_host: cannot read " ++ name ++ 10 ∷ []
+
+-- of a journal's line that is refused
+abbrev pub line_said : ℕ → List ℕ
+line_said number = codes "debug_host: line " ++ decimal number ++ (codes " refused" ++ 10 ∷ [])
+
+-- of an uncaught throw of a value that is shown so
+abbrev pub uncaught_said : List ℕ → List ℕ
+uncaught_said text = codes "Uncaught " ++ text ++ 10 ∷ []
+
+-- of each end
+abbrev pub said : Outcome → List ℕ
+said ends.Done = []
+said ends.OutOfMemory = codes "debug_host: out of memory" ++ 10 ∷ []
+said ends.Usage = usage_said
+said (ends.Refused name r) = refusal_said name.now r
+said (ends.CannotRead name) = unread_said name.now
+said ends.CannotWrite = codes "debug_host: cannot write" ++ 10 ∷ []
+said (ends.LineRefused number) = line_said number
+said (ends.Threw text) = uncaught_said (string_bytes text)
+
+-- ---- what is said where words ask for something
+
+-- what holds of a run, where the words ask for one
+abbrev pub ForRun : Option Command → (Sources → Type 0) → Type 0
+ForRun None P = Unit {0}
+ForRun (Some (Run sources)) P = P sources
+ForRun (Some (Replay request)) P = Unit {0}
+
+-- what holds of a run and the files, where the words ask for one and the files are told
+abbrev pub GivenRun : Option Command → Option (List Named) → (Sources → List Named → Type 0) → Type 0
+GivenRun None files P = Unit {0}
+GivenRun (Some (Run sources)) files P = Told files (P sources)
+GivenRun (Some (Replay request)) files P = Unit {0}
+
+-- what holds of a replay, where the words ask for one
+abbrev pub ForReplay : Option Command → (Request → Type 0) → Type 0
+ForReplay None P = Unit {0}
+ForReplay (Some (Run sources)) P = Unit {0}
+ForReplay (Some (Replay request)) P = P request
+
+-- what holds of a replay and the files, where the words ask for one and the files are told
+abbrev pub GivenReplay : Option Command → Option (List Named) → (Request → List Named → Type 0) → Type 0
+GivenReplay None files P = Unit {0}
+GivenReplay (Some (Run sources)) files P = Unit {0}
+GivenReplay (Some (Replay request)) files P = Told files (P request)
+
+-- neither a read nor a write failed, as the counts tell
+pub record Unfailed (before after : Faults) (writes_before writes_after : ℕ) : Type 0 where
+  pub reads : after.count ≡ before.count
+  pub reads_told : before.count < 0xffff_ffff_ffff_ffff
+  pub writes : writes_after ≡ writes_before
+  pub writes_told : writes_before < 0xffff_ffff_ffff_ffff

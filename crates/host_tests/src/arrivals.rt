@@ -1,0 +1,109 @@
+// Where a machine stands behind each step of a run.
+ghost use Rattle.std.specs.Prelude.{false};
+
+use cdp_text::units::units_of;
+use js_code::table::NodeTable;
+use js_frames::spans::offset_in;
+use js_machine::machine::{Machine, Started};
+use js_operations::context::Context;
+use js_parser::parse::parse_script;
+use js_semantics::form::Source;
+use js_steps::run::Asks;
+use js_steps::stack::Stack;
+use js_steps::task::Point;
+use js_tree::script::Script;
+use std::alloc::{AllocError, Global};
+use std::collections::VecDeque;
+use std::process::Abort;
+use std::test::Fail;
+
+// A script, and where it stands behind each step: the offset of an arrival and how many calls are active, with `!` before a
+// `debugger` statement; `c` or `u` where a throw stands that a `catch` will take or none; else `.`.
+const ROWS: [(&str, &str); 7] = [
+    ("1; 2;", "0/0 3/0 end"),
+    ("console.log(1);", "0/0 . . 8/0 end"),
+    ("f(); function f() { }", "0/0 . . 20/1 end"),
+    ("debugger; (() => 1)();", "!0/0 10/0 . 19/0 17/1 . end"),
+    (
+        "try { throw 1; } catch { } throw 2;",
+        "0/0 . 6/0 . c . 27/0 . u end",
+    ),
+    (
+        "try { try { throw 1; } finally { } } catch (e) { }",
+        "0/0 . 6/0 . 12/0 . c . . . end",
+    ),
+    (
+        "function f(n) { if (n) f(n - 1); } f(1);",
+        "35/0 . . 16/1 . . 23/1 . . . . 16/2 . . 33/2 33/1 end",
+    ),
+];
+
+// Asks for no stop.
+#[derive(Clone, Copy)]
+struct Nobody;
+
+impl Asks for Nobody {
+    ghost stops = { λ host term frames. false };
+
+    fn asks(&self, _table: &NodeTable, _context: &Context, _stack: &Stack, _point: Point) -> bool {
+        false
+    }
+}
+
+// What is told of where a machine stands.
+fn told(alloc: Global, machine: &Machine, scripts: &[Script]) -> Result<String, AllocError> {
+    if machine.finished().is_some() {
+        return String::from_str(alloc, "end");
+    }
+    if let Some(thrown) = machine.thrown() {
+        return String::from_str(alloc, if thrown.uncaught { "u " } else { "c " });
+    }
+    let Some(mark) = machine.at(scripts) else {
+        return String::from_str(alloc, ". ");
+    };
+    let offset = offset_in(scripts, Source::Script(1), mark);
+    let depth = machine.depth();
+    if machine.at_debugger() {
+        format!(in alloc; "!{offset}/{depth} ")
+    } else {
+        format!(in alloc; "{offset}/{depth} ")
+    }
+}
+
+// The same behind each step of a script.
+fn stands_of(alloc: Global, source: &str) -> Result<String, Fail> {
+    let units = units_of(alloc, source)?;
+    let Ok(script) = parse_script(alloc, units.as_slice(), "", 1, &[]) else {
+        return Err("no script".into());
+    };
+    let scripts = [script];
+    let Started {
+        mut machine,
+        mut heap,
+    } = Machine::start(alloc, &scripts, VecDeque::new(alloc))?;
+    let mut text = String::new(alloc);
+    for _ in 0..100 {
+        if machine.end().is_some() || machine.finished().is_some() {
+            break;
+        }
+        let _ = machine.run(&mut heap, 1, &Nobody);
+        text.push_str(&told(alloc, &machine, &scripts)?)?;
+    }
+    Ok(text)
+}
+
+fn each_stands(rt: &(impl Abort + AllocGlobal), rows: &[(&str, &str)]) -> Result<(), Fail> {
+    for (source, stands) in rows {
+        assert_eq!(rt;
+            stands_of(rt.alloc(), source)?.as_str(),
+            *stands,
+            "of {source}"
+        );
+    }
+    Ok(())
+}
+
+#[test]
+fn a_machine_tells_where_it_stands(rt: HostRuntime) -> Result<(), Fail> {
+    each_stands(&rt, &ROWS)
+}
