@@ -1,0 +1,4 @@
+pub mod NumberLemmas
+pub mod TableLemmas
+pub mod GroupLemmas
+pub mod IndexLemmas

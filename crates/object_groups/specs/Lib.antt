@@ -1,0 +1,5 @@
+pub mod Handles
+pub mod Numbers
+pub mod Table
+pub mod Groups
+pub mod Index
