@@ -1,0 +1,12 @@
+-- What a session asks for.
+use Rattle.std.specs.Prelude.{false, None}
+use Rattle.stepping.specs.declared.rules.Rules.{Rules}
+use Rattle.stepping.specs.declared.rules.Exceptions.TheVariants as throws
+
+-- nothing at all
+abbrev pub no_rules : Rules
+no_rules = record { enabled = false; skip = false; exceptions = throws.Never; pause = false; step = None; to = None }
+
+-- the same with no request
+abbrev pub without_requests : Rules → Rules
+without_requests r = record r { pause = false; step = None; to = None }

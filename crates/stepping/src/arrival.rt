@@ -1,0 +1,17 @@
+//! Where a step leaves the program.
+
+use cdp_text::position::Place;
+
+/// Where a step leaves the program, as far as rules ask for it.
+#[derive(Clone, Copy, Debug, PartialEq, Eq)]
+pub struct Arrival {
+    /// The break location that the next step enters, if it enters one: then the program has arrived there.
+    pub place: Option<Place>,
+    /// How many calls are active.
+    pub depth: u32,
+    /// Whether the next step enters a `debugger` statement.
+    pub debugger: bool,
+    /// Where the step raised a throw that hadn't been travelling before it: whether no `try` with a `catch`, in any call, has
+    /// the raise within its block.
+    pub raised: Option<bool>,
+}

@@ -1,0 +1,12 @@
+//! By which rule a session stops the program after a step: exceptions, breakpoints, `debugger` statements, pausing,
+//! stepping, and running on to a place (Chrome DevTools Protocol 1.3, domain Debugger).
+//!
+//! Where a step leaves the program is an [`Arrival`](arrival::Arrival), what a session asks for are its
+//! [`Rules`](rules::Rules). Nothing here takes memory.
+#![tactic(auto)]
+
+pub mod arrival;
+pub mod cause;
+pub mod laws;
+pub mod names;
+pub mod rules;
