@@ -1,0 +1,6 @@
+-- What a view of a frame shows.
+use Rattle.frames_scopes.specs.declared.frames.FrameView.{FrameView}
+use Rattle.frames_scopes.specs.Frames.{ShownFrame}
+
+abbrev pub frame_shown : FrameView → ShownFrame
+frame_shown v = record { name = v.name; place = v.place; function_place = v.function_place; receiver = v.this; scopes = v.scopes }

@@ -1,0 +1,9 @@
+pub mod Places
+pub mod Names
+pub mod Scopes
+pub mod ScopeViews
+pub mod Frames
+pub mod FrameViews
+pub mod Cells
+pub mod Standings
+pub mod Chains

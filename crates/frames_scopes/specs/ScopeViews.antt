@@ -1,0 +1,6 @@
+-- What a view of a scope shows.
+use Rattle.frames_scopes.specs.declared.scopes.ScopeView.{ScopeView}
+use Rattle.frames_scopes.specs.Scopes.{ShownScope}
+
+abbrev pub scope_shown : ScopeView → ShownScope
+scope_shown v = record { kind = v.kind; name = v.name; bindings = v.bindings }

@@ -1,0 +1,11 @@
+//! The active frames of a machine from the top down, each with its scopes from the innermost one outward. They are lent from
+//! where they are kept: nothing is copied, and nothing takes memory.
+#![tactic(auto)]
+
+mod cells;
+pub mod frames;
+pub mod laws;
+pub mod name;
+mod places;
+pub mod scopes;
+pub mod standing;
