@@ -1,15 +1,17 @@
 -- The number of cells never ends a chain of scopes.
-use Rattle.std.proofs.Common.{◌≡◌, ℕ, zero, suc, ◌+◌, ◌<◌, Bool, true, List, length, Option, None, Some, refl, ap, subst, arith}
+use Rattle.std.proofs.Common.{◌≡◌, ℕ, zero, suc, ◌+◌, ◌<◌, Bool, true, false, List, [], ◌∷◌, length, Option, None, Some, refl, sym, ap, subst, arith}
 use Rattle.js_heap.specs.declared.value.Addr.{Addr}
 use Rattle.js_heap.specs.declared.value.Addr.TheVariants.{Base, Scratch}
 use Rattle.js_heap.specs.declared.cell.Cell.{Cell}
 use Rattle.js_heap.specs.declared.cell.Cell.TheVariants as cells
+use Rattle.js_heap.specs.declared.cell.ScopeKind.{ScopeKind}
+use Rattle.js_heap.specs.declared.cell.ScopeKind.TheVariants as kinds
 use Rattle.js_heap.specs.World.{World, read_cell}
 use Rattle.js_heap.specs.Worlds.{Leads, IsScopeKind, SoundScope, SoundCell, IsSound}
 use Rattle.js_heap.proofs.SoundLemmas.{read-sound}
-use Rattle.js_semantics.specs.Frames.{still_inside, outward, scope_listed, listed_within}
+use Rattle.js_semantics.specs.Frames.{as_local, ListedScope, listed_as, still_inside, outward, scope_listed, listed_within, scope_chain}
 use Rattle.frames_scopes.specs.Scopes.{scope_parts}
-use Rattle.frames_scopes.specs.Chains.{IsChain, HasWholeChain, IsOlder, IsWithinOlder, IsNested}
+use Rattle.frames_scopes.specs.Chains.{HasNoLocal, HasOneLocal, IsChain, HasWholeChain, IsOlder, IsWithinOlder, IsNested}
 use Rattle.frames_scopes.proofs.NestLemmas.{live-below}
 
 -- how many cells came before an address
@@ -68,3 +70,74 @@ chain-within (suc n) w inside a s d h l =
 
 pub whole-chain : (w : World) (a : Addr) → IsSound w → IsNested w → SoundScope w (Some a) → HasWholeChain w a
 whole-chain w a s d h = chain-within (length w.base + length w.scratch) w true a s d h (live-age w a h)
+
+-- ---- the scope of the frame's own call
+
+none-local : (kind : ScopeKind) → listed_as kind false ≡ as_local → ⊥
+none-local kinds.Block e = cc
+none-local kinds.Catch e = cc
+none-local kinds.Function e = cc
+none-local kinds.Named e = cc
+none-local kinds.Script e = cc
+none-local kinds.Global e = cc
+
+still-beyond : (kind : ScopeKind) → still_inside kind false ≡ false
+still-beyond kinds.Block = refl
+still-beyond kinds.Catch = refl
+still-beyond kinds.Function = refl
+still-beyond kinds.Named = refl
+still-beyond kinds.Script = refl
+still-beyond kinds.Global = refl
+
+outward-holds : (P : List ListedScope → Type 0) (o : Option Addr) (further : Addr → List ListedScope) → P [] → ((a : Addr) → P (further a)) → P (outward o further)
+outward-holds P None further h k = h
+outward-holds P (Some a) further h k = k a
+
+no-local-at : (a : Addr) (c : Option Cell) (further : Bool → Addr → List ListedScope) → ((b : Addr) → HasNoLocal (further false b)) → HasNoLocal (scope_listed false a c further)
+no-local-at a (Some (cells.Bindings kind name outer names)) further h =
+    (none-local kind, outward-holds HasNoLocal outer (further (still_inside kind false)) tt (λ b. subst (λ i. HasNoLocal (further i b)) (sym (still-beyond kind)) (h b)))
+no-local-at a None further h = tt
+no-local-at a (Some (cells.Object ps)) further h = tt
+no-local-at a (Some (cells.Error class ps)) further h = tt
+no-local-at a (Some (cells.Array vs)) further h = tt
+no-local-at a (Some (cells.Text us)) further h = tt
+no-local-at a (Some (cells.Function code m l s t)) further h = tt
+
+no-local : (n : ℕ) (w : World) (a : Addr) → HasNoLocal (listed_within n w false a)
+no-local zero w a = tt
+no-local (suc n) w a = no-local-at a (read_cell w a) (listed_within n w) (no-local n w)
+
+one-local-behind : (kind : ScopeKind) (o : Option Addr) (further : Bool → Addr → List ListedScope) → ((b : Addr) → HasNoLocal (further false b)) → listed_as kind true ≡ as_local → HasNoLocal (outward o (further (still_inside kind true)))
+one-local-behind kinds.Function o further h e = outward-holds HasNoLocal o (further false) tt h
+one-local-behind kinds.Block o further h e = cc
+one-local-behind kinds.Catch o further h e = cc
+one-local-behind kinds.Named o further h e = cc
+one-local-behind kinds.Script o further h e = cc
+one-local-behind kinds.Global o further h e = cc
+
+either-inside : (P : Bool → Type 0) → P true → P false → (b : Bool) → P b
+either-inside P h k true = h
+either-inside P h k false = k
+
+weaker : (ls : List ListedScope) → HasNoLocal ls → HasOneLocal ls
+weaker [] h = tt
+weaker (l ∷ ls) h = (λ e. absurd (h.0 e), weaker ls h.1)
+
+one-local-at : (a : Addr) (c : Option Cell) (further : Bool → Addr → List ListedScope) → ((b : Addr) → HasNoLocal (further false b)) → ((b : Addr) → HasOneLocal (further true b)) → HasOneLocal (scope_listed true a c further)
+one-local-at a (Some (cells.Bindings kind name outer names)) further h k = (
+  one-local-behind kind outer further h,
+  outward-holds HasOneLocal outer (further (still_inside kind true)) tt (λ b. either-inside (λ i. HasOneLocal (further i b)) (k b) (weaker (further false b) (h b)) (still_inside kind true)),
+)
+one-local-at a None further h k = tt
+one-local-at a (Some (cells.Object ps)) further h k = tt
+one-local-at a (Some (cells.Error class ps)) further h k = tt
+one-local-at a (Some (cells.Array vs)) further h k = tt
+one-local-at a (Some (cells.Text us)) further h k = tt
+one-local-at a (Some (cells.Function code m l s t)) further h k = tt
+
+one-local-within : (n : ℕ) (w : World) (a : Addr) → HasOneLocal (listed_within n w true a)
+one-local-within zero w a = tt
+one-local-within (suc n) w a = one-local-at a (read_cell w a) (listed_within n w) (no-local n w) (one-local-within n w)
+
+pub one-local : (w : World) (a : Addr) → HasOneLocal (scope_chain w a)
+one-local w a = one-local-within (length w.base + length w.scratch) w a

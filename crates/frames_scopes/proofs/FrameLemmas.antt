@@ -68,6 +68,17 @@ with-length (f ∷ fs) (a ∷ scopes) = ap suc (with-length fs scopes)
 frames-length : (root : Addr) (t : Term) (s : State) → length (frames root t s) ≡ length s.frames
 frames-length root t s = with-length (shown_frames (active t) s.frames) (reversed_onto (scopes_at root t) []) ∙ shown-length (active t) s.frames
 
+map-length : {A B : Type 0} (g : A → B) (xs : List A) → length (map g xs) ≡ length xs
+map-length g [] = refl
+map-length g (x ∷ xs) = ap suc (map-length g xs)
+
+listed-length : (scripts : List Script) (w : World) (m : Option Mark) (fs : List Frame) → length (listed_frames scripts w m fs) ≡ length fs
+listed-length scripts w m [] = refl
+listed-length scripts w m (f ∷ fs) = ap suc (map-length (shown_frame scripts w) fs)
+
+pub walk-length : (scripts : List Script) (root : Addr) (t : Term) (s : State) → length (walk scripts root t s) ≡ length s.frames
+walk-length scripts root t s = listed-length scripts s.world (at (spans_in scripts (spot_of s).source) t) (frames root t s) ∙ frames-length root t s
+
 -- ---- the walk
 
 pub walk-some : (scripts : List Script) (root : Addr) (t : Term) (s : State) (d : ℕ) (f : Frame) → frame_at d root t s ≡ Some f → drop d (walk scripts root t s) ≡ shown_frame scripts s.world (record f { here = here_at (at (spans_in scripts (spot_of s).source) t) d f }) ∷ drop (d + 1) (walk scripts root t s)

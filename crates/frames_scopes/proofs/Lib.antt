@@ -3,3 +3,4 @@ pub mod ChainLemmas
 pub mod NestSteps
 pub mod NestRuns
 pub mod FrameLemmas
+pub mod LineLemmas

@@ -8,7 +8,7 @@ use Rattle.js_heap.specs.BuiltIns.{script_scope}
 use Rattle.js_heap.specs.World.{World, read_cell}
 use Rattle.js_semantics.specs.Terms.{Term}
 use Rattle.js_semantics.specs.State.{Frame, State, Move, goes, travels, has_effect, is_full}
-use Rattle.js_semantics.specs.Frames.{ListedScope, listed_as, still_inside, scope_chain, frame_at}
+use Rattle.js_semantics.specs.Frames.{as_local, ListedScope, listed_as, still_inside, scope_chain, frame_at}
 use Rattle.js_semantics.specs.Run.{Run, running, over}
 use Rattle.frames_scopes.specs.Scopes.{ScopeParts, scope_parts}
 
@@ -26,6 +26,16 @@ IsChain w inside (Some a) (l ∷ ls) = (s : ScopeParts) × (scope_parts (read_ce
 abbrev pub HasWholeChain : World → Addr → Type 0
 HasWholeChain w a = IsChain w true (Some a) (scope_chain w a)
 
+-- no scope of a list is listed as the frame's own call
+abbrev pub HasNoLocal : List ListedScope → Type 0
+HasNoLocal [] = Unit {0}
+HasNoLocal (l ∷ ls) = (l.kind ≡ as_local → ⊥) × HasNoLocal ls
+
+-- at most one is
+abbrev pub HasOneLocal : List ListedScope → Type 0
+HasOneLocal [] = Unit {0}
+HasOneLocal (l ∷ ls) = (l.kind ≡ as_local → HasNoLocal ls) × HasOneLocal ls
+
 -- ---- worlds whose scopes are within older ones
 
 -- an address was given before another; those of evaluations come behind the program's
@@ -35,6 +45,7 @@ IsOlder (Base i) (Scratch j) = Unit {0}
 IsOlder (Scratch i) (Base j) = ⊥
 IsOlder (Scratch i) (Scratch j) = i < j
 
+-- the scope around a cell at an address, where the cell is a scope and has one, is older than the address
 abbrev pub IsWithinOlder : Addr → Option Cell → Type 0
 IsWithinOlder a (Some (cells.Bindings kind name (Some outer) names)) = IsOlder outer a
 IsWithinOlder a c = Unit {0}
@@ -49,6 +60,7 @@ pub record IsNested (w : World) : Type 0 where
   pub outward : (a : Addr) → IsWithinOlder a (read_cell w a)
   pub own : HasOwnCells w.start w.scratch
 
+-- the same behind a step
 abbrev pub MoveNested : {T : Type 0} → Move T → Type 0
 MoveNested (goes t s told) = IsNested s.world
 MoveNested (travels c s) = IsNested s.world
@@ -61,6 +73,7 @@ MoveNested (is_full what s) = IsNested s.world
 abbrev pub HasWholeChains : Term → State → Type 0
 HasWholeChains t s = (d : ℕ) (f : Frame) → frame_at d script_scope t s ≡ Some f → HasWholeChain s.world f.scope
 
+-- in each configuration but the end
 abbrev pub RunHasWholeChains : Run → Type 0
 RunHasWholeChains (running t s) = HasWholeChains t s
 RunHasWholeChains (over f s) = Unit {0}

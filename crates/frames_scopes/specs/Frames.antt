@@ -34,6 +34,7 @@ pub record FunctionParts : Type 0 where
   pub code : Code
   pub name : List ℕ
 
+-- a cell as a function, if it is one
 abbrev pub function_parts : Option Cell → Option FunctionParts
 function_parts (Some (cells.Function code name len scope receiver)) = Some (record { code = code; name = name })
 function_parts c = None
@@ -53,6 +54,7 @@ abbrev pub code_place : List Script → Code → Option Place
 code_place scripts (code.Script number node) = Some (place_of scripts (script_source number) (start node))
 code_place scripts c = None
 
+-- that of a function, if there is one
 abbrev pub function_place : List Script → Option FunctionParts → Option Place
 function_place scripts None = None
 function_place scripts (Some f) = code_place scripts f.code
@@ -64,6 +66,7 @@ abbrev pub arrived : Option Mark → Frame → Frame
 arrived None f = f
 arrived (Some m) f = record f { here = m }
 
+-- a frame with what is shown of it
 abbrev pub shown_frame : List Script → World → Frame → ShownFrame
 shown_frame scripts w f = record {
   name = function_name (function_of w f.function);

@@ -15,6 +15,7 @@ pub record ShownScope : Type 0 where
   pub name : List ℕ
   pub bindings : Addr
 
+-- the code's word for it
 abbrev pub shown_kind : Listed → ListedKind
 shown_kind as_block = listed.Block
 shown_kind as_catch = listed.Catch
@@ -37,16 +38,19 @@ pub record ScopeParts : Type 0 where
   pub name : List ℕ
   pub outer : Option Addr
 
+-- a cell as a scope, if it is one
 abbrev pub scope_parts : Option Cell → Option ScopeParts
 scope_parts (Some (cells.Bindings kind name outer names)) = Some (record { kind = kind; name = name; outer = outer })
 scope_parts c = None
 
+-- the name of its function; what is no scope has none
 abbrev pub name_of_scope : Option ScopeParts → List ℕ
 name_of_scope None = []
 name_of_scope (Some s) = s.name
 
 -- ---- the scopes of a frame
 
+-- a listed scope with the name that it shows
 abbrev pub shown_scope : World → ListedScope → ShownScope
 shown_scope w l = record { kind = shown_kind l.kind; name = name_on (shown_kind l.kind) (name_of_scope (scope_parts (read_cell w l.scope))); bindings = l.scope }
 

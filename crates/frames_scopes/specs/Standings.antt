@@ -1,5 +1,5 @@
 -- Where frames may be walked over.
-use Rattle.std.specs.Prelude.{◌≡◌, ◌<◌, ◌^◌, List, length, map, All}
+use Rattle.std.specs.Prelude.{◌≡◌, ◌<◌, ◌^◌, ℕ, List, length, map, All}
 use Rattle.js_heap.specs.declared.value.Addr.{Addr}
 use Rattle.js_tree.specs.declared.script.Script.{Script}
 use Rattle.js_code.specs.declared.table.NodeTable.{NodeTable}
@@ -7,7 +7,6 @@ use Rattle.js_code.specs.Trees.{IsTable}
 use Rattle.js_steps.specs.declared.task.Point.{Point}
 use Rattle.js_steps.specs.Tasks.{Wide, InScopes}
 use Rattle.js_steps.specs.Points.{IsAt}
-use Rattle.std.specs.Prelude.{ℕ}
 use Rattle.frames_scopes.specs.Places.{lines_of}
 
 -- the tasks of a machine stand in its code, which is in order; the lines are those of the scripts, none of which is longer than

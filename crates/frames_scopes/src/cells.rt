@@ -1,10 +1,9 @@
 //! Scopes and functions in a heap.
 
-ghost use Rattle.std.specs.Prelude.{◌≡◌, ℕ, List};
+ghost use Rattle.std.specs.Prelude.{◌≡◌, ℕ, List, option_copied};
 ghost use Rattle.js_heap.specs.World.{read_cell};
 ghost use Rattle.js_world.specs.Heaps.{heap_world};
 ghost use Rattle.js_world.specs.Cells.{cell_at};
-ghost use Rattle.std.specs.Prelude.{option_copied};
 ghost use Rattle.frames_scopes.specs.Scopes.{scope_parts};
 ghost use Rattle.frames_scopes.specs.Frames.{function_parts};
 ghost use Rattle.frames_scopes.specs.Cells.{scope_seen, function_seen};
