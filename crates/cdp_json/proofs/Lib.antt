@@ -1,1 +1,3 @@
+pub mod OrderLemmas
+pub mod TextLemmas
 pub mod ViewLaws

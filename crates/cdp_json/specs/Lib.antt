@@ -1,2 +1,10 @@
+pub mod Commands
+pub mod Compact
 pub mod Json
+pub mod KeyOrder
+pub mod Members
+pub mod Messages
+pub mod Methods
+pub mod Parameters
+pub mod Refusals
 pub mod Views

@@ -1,4 +1,17 @@
 //! The texts of the debug protocol (JSON-RPC 2.0 over JSON, RFC 8259): JSON values, the texts that are sent, and commands as they are read.
 #![tactic(auto)]
 
+pub mod command;
+mod compact;
+mod key_order;
+mod members;
+mod message;
+pub mod method;
+mod parameters;
+pub mod params;
+pub mod refusal;
 pub mod value;
+
+pub use command::read_command;
+pub use compact::compact_text;
+pub use message::{event_text, refusal_text, result_text};

@@ -22,14 +22,14 @@ pub enum Json {
 #[derive(Debug, Drop)]
 #[cycle(value)]
 pub struct JsonList {
-    items: Vec<Json>,
+    pub(crate) items: Vec<Json>,
 }
 
 /// The members of an object, in the order in which they were given.
 #[derive(Debug, Drop)]
 #[cycle(value)]
 pub struct JsonObject {
-    members: Vec<Member>,
+    pub(crate) members: Vec<Member>,
 }
 
 /// A key with its value.

@@ -1,0 +1,94 @@
+-- The order of members, as places and as the members themselves.
+use Rattle.std.proofs.Common.{◌≡◌, ℕ, suc, ◌+◌, ◌<◌, List, [], ◌∷◌, ◌++◌, length, get_or, map, zero, refl, sym, ap, ◌∙◌, arith, Bor, Ordering, Less, Equal, Greater}
+use Rattle.std.specs.Prelude.{fold, All}
+use Rattle.std.specs.Ordering.{nat_cmp, match_ordering, ordering_then}
+use Rattle.std.specs.Cmp.{nat_cmp_is}
+use Rattle.std.specs.Cmp.Lexicographic.{slice_cmp}
+use Rattle.std.specs.List.{range_with_len}
+use Rattle.std.proofs.lemmas.List.Sums.{fold-append}
+use Rattle.std.proofs.lemmas.Map.Views.{All-insert_key}
+use Rattle.std.specs.BTreeSet.{insert_key}
+use Rattle.cdp_json.specs.KeyOrder.{insert_by, in_order, key_at, order_of}
+
+-- ---- the order of what a function gives
+
+match_map : {A B : Type 0} (f : A → B) (o : Ordering) (x : A) (y : A) (ys zs : List A) (ws : List B)
+    → ws ≡ map f zs
+    → match_ordering o (f x ∷ f y ∷ map f ys) (f y ∷ ws) (f y ∷ ws) ≡ map f (match_ordering o (x ∷ y ∷ ys) (y ∷ zs) (y ∷ zs))
+match_map f Less x y ys zs ws e = refl
+match_map f Equal x y ys zs ws e = ap (λ r. f y ∷ r) e
+match_map f Greater x y ys zs ws e = ap (λ r. f y ∷ r) e
+
+insert_by-map : {A B : Type 0} (f : A → B) (key : B → List ℕ) (x : A) (ys : List A) → insert_by key (f x) (map f ys) ≡ map f (insert_by (λ a. key (f a)) x ys)
+insert_by-map f key x [] = refl
+insert_by-map f key x (y ∷ ys) = match_map f (slice_cmp nat_cmp (key (f x)) (key (f y))) x y ys (insert_by (λ a. key (f a)) x ys) (insert_by key (f x) (map f ys)) (insert_by-map f key x ys)
+
+ordered_onto : {A B : Type 0} (f : A → B) (key : B → List ℕ) (done xs : List A)
+    → fold (λ ys y. insert_by key y ys) (map f done) (map f xs) ≡ map f (fold (λ ys y. insert_by (λ a. key (f a)) y ys) done xs)
+ordered_onto f key done [] = refl
+ordered_onto f key done (x ∷ xs) =
+    ap (λ ys. fold (λ ys y. insert_by key y ys) ys (map f xs)) (insert_by-map f key x done) ∙ ordered_onto f key (insert_by (λ a. key (f a)) x done) xs
+
+pub in_order-map : {A B : Type 0} (f : A → B) (key : B → List ℕ) (xs : List A) → in_order key (map f xs) ≡ map f (in_order (λ a. key (f a)) xs)
+in_order-map f key xs = ordered_onto f key [] xs
+
+-- ---- places
+
+-- what stands at the places is the list
+pub at_places : {A : Type 0} (f : ℕ → A) (xs : List A) (a : ℕ) (d : A) → ((i : ℕ) → i < length xs → f (a + i) ≡ get_or xs i d) → map f (range_with_len a (length xs)) ≡ xs
+at_places f [] a d h = refl
+at_places f (x ∷ xs) a d h =
+    ap (λ y. y ∷ map f (range_with_len (a + 1) (length xs))) (ap f (omega arith) ∙ h 0 (omega arith))
+    ∙ ap (λ ys. x ∷ ys) (at_places f xs (a + 1) d (λ i lt. ap f (omega arith) ∙ h (suc i) (omega (arith, lt))))
+
+-- ---- one place more
+
+abbrev pub Placed : List (List ℕ) → ℕ → List (Bor (List ℕ) × ℕ) → Type 0
+Placed keys n xs = All (λ x. (x.0.now ≡ key_at keys x.1) × (x.1 < n)) xs
+
+abbrev pub pair_cmp : Bor (List ℕ) × ℕ → Bor (List ℕ) × ℕ → Ordering
+pair_cmp x y = ordering_then (slice_cmp nat_cmp x.0.now y.0.now) (nat_cmp x.1 y.1)
+
+one_place : (o p : Ordering) (k x : Bor (List ℕ) × ℕ) (xs more : List (Bor (List ℕ) × ℕ)) (ws : List ℕ)
+    → p ≡ Greater
+    → map (λ y. y.1) more ≡ ws
+    → map (λ y. y.1) (match_ordering (ordering_then o p) (k ∷ x ∷ xs) (x ∷ xs) (x ∷ more))
+    ≡ match_ordering o (k.1 ∷ x.1 ∷ map (λ y. y.1) xs) (x.1 ∷ ws) (x.1 ∷ ws)
+one_place Less p k x xs more ws h e = refl
+one_place Equal p k x xs more ws h e = rw h (ap (λ r. x.1 ∷ r) e)
+one_place Greater p k x xs more ws h e = ap (λ r. x.1 ∷ r) e
+
+pub insert_place : (keys : List (List ℕ)) (k : Bor (List ℕ) × ℕ) (xs : List (Bor (List ℕ) × ℕ))
+    → k.0.now ≡ key_at keys k.1
+    → Placed keys k.1 xs
+    → map (λ x. x.1) (insert_key pair_cmp xs k) ≡ insert_by (key_at keys) k.1 (map (λ x. x.1) xs)
+insert_place keys k [] is all = refl
+insert_place keys k (x ∷ xs) is all =
+    one_place (slice_cmp nat_cmp k.0.now x.0.now) (nat_cmp k.1 x.1) k x xs (insert_key pair_cmp xs k) (insert_by (key_at keys) k.1 (map (λ y. y.1) xs)) (sym (nat_cmp_is k.1 x.1 Greater (all 0 x (omega arith)).1)) (insert_place keys k xs is (λ i d lt. all (suc i) d (omega (arith, lt))))
+    ∙ ap (λ o. match_ordering o (k.1 ∷ x.1 ∷ map (λ y. y.1) xs) (x.1 ∷ insert_by (key_at keys) k.1 (map (λ y. y.1) xs)) (x.1 ∷ insert_by (key_at keys) k.1 (map (λ y. y.1) xs)))
+    (ap (λ s. slice_cmp nat_cmp s x.0.now) is ∙ ap (slice_cmp nat_cmp (key_at keys k.1)) (all 0 x (omega arith)).0)
+
+pub still_placed : (keys : List (List ℕ)) (k : Bor (List ℕ) × ℕ) (xs : List (Bor (List ℕ) × ℕ))
+    → k.0.now ≡ key_at keys k.1
+    → Placed keys k.1 xs
+    → Placed keys (k.1 + 1) (insert_key pair_cmp xs k)
+still_placed keys k xs is all =
+    All-insert_key pair_cmp k (λ x. (x.0.now ≡ key_at keys x.1) × (x.1 < k.1 + 1)) xs (λ i d lt. let there = all i d lt in (there.0, omega (arith, there.1))) (is, omega arith)
+
+range-more : (a n : ℕ) → range_with_len a (suc n) ≡ range_with_len a n ++ (a + n) ∷ []
+range-more a zero = ap (λ i. i ∷ []) (omega arith)
+range-more a (suc n) = ap (λ is. a ∷ is) (range-more (a + 1) n ∙ ap (λ i. range_with_len (a + 1) n ++ i ∷ []) (omega arith))
+
+pub in_order-place : (key : ℕ → List ℕ) (n : ℕ) → in_order key (range_with_len 0 (n + 1)) ≡ insert_by key n (in_order key (range_with_len 0 n))
+in_order-place key n =
+    let next : n + 1 ≡ suc n = omega arith in
+    let last : 0 + n ≡ n = omega arith in
+    ap (λ m. in_order key (range_with_len 0 m)) next
+    ∙ ap (in_order key) (range-more 0 n)
+    ∙ fold-append (λ done x. insert_by key x done) [] (range_with_len 0 n) ((0 + n) ∷ [])
+    ∙ ap (λ i. insert_by key i (in_order key (range_with_len 0 n))) last
+
+pub places_below : (keys : List (List ℕ)) (n : ℕ) (xs : List (Bor (List ℕ) × ℕ)) → Placed keys n xs → All (λ place. place < n) (map (λ x. x.1) xs)
+places_below keys n [] all k d lt = omega (arith, lt)
+places_below keys n (x ∷ xs) all zero d lt = (all 0 x (omega arith)).1
+places_below keys n (x ∷ xs) all (suc k) d lt = places_below keys n xs (λ i e l. all (suc i) e (omega (arith, l))) k d (omega (arith, lt))
