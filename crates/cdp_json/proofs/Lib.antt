@@ -1,3 +1,4 @@
+pub mod CommandLemmas
 pub mod OrderLemmas
 pub mod TextLemmas
 pub mod ViewLaws

@@ -1,3 +1,4 @@
+pub mod CommandForm
 pub mod Commands
 pub mod Compact
 pub mod Json

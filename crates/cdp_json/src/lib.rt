@@ -4,6 +4,7 @@
 pub mod command;
 mod compact;
 mod key_order;
+pub mod laws;
 mod members;
 mod message;
 pub mod method;
