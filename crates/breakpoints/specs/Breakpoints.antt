@@ -1,5 +1,5 @@
 -- The breakpoints of a session.
-use Rattle.std.specs.Prelude.{◌≡◌, ℕ, Bool, true, false, not, List, [], ◌∷◌, ◌++◌, length, filter, nat_le, bytes_eq, if◌then◌else◌, Option, Some, None, Result, Ok, Err}
+use Rattle.std.specs.Prelude.{◌≡◌, ℕ, Bool, true, not, List, [], ◌∷◌, ◌++◌, length, filter, nat_le, bytes_eq, if◌then◌else◌, Option, Some, None, Result, Ok, Err}
 use Rattle.std.specs.List.{list_any}
 use Rattle.cdp_text.specs.declared.position.Place.{Place}
 use Rattle.js_tree.specs.declared.script.Script.{Script}
@@ -49,13 +49,9 @@ Answers fault (Err f) = fault ≡ Some f
 abbrev pub with_breakpoint : Breakpoint → State → State
 with_breakpoint b s = record s { set = s.set ++ b ∷ [] }
 
--- a state has one breakpoint more, of this id and condition, at these places
-pub record Adds (id : List ℕ) (condition : Option (List ℕ)) (places : List Place) (old new : State) : Type 0 where
-  pub breakpoint : Breakpoint
-  pub id_is : breakpoint.id ≡ id
-  pub condition_is : breakpoint.condition ≡ condition
-  pub places_are : breakpoint.places.items ≡ places
-  pub added : new ≡ with_breakpoint breakpoint old
+-- a breakpoint of this id and condition, which resolved to these places
+abbrev pub breakpoint_of : List ℕ → Option (List ℕ) → List Place → Breakpoint
+breakpoint_of id condition places = record { id = id; condition = condition; places = places }
 
 -- ---- removing
 

@@ -1,5 +1,5 @@
 -- The break locations of scripts, a list for each.
-use Rattle.std.specs.Prelude.{List, All}
+use Rattle.std.specs.Prelude.{List}
 use Rattle.std.specs.Global.{Vec}
 use Rattle.locations.specs.declared.spot.Spot.{Spot}
 use Rattle.locations.specs.Order.{IsAscending}

@@ -1,5 +1,5 @@
 -- Which breakpoints stand at a place.
-use Rattle.std.specs.Prelude.{ℕ, Bool, ◌&&◌, List, filter, nat_eq}
+use Rattle.std.specs.Prelude.{Bool, ◌&&◌, List, filter, nat_eq}
 use Rattle.std.specs.List.{list_any}
 use Rattle.cdp_text.specs.declared.position.Place.{Place}
 use Rattle.breakpoints.specs.declared.breakpoint.Breakpoint.{Breakpoint}
@@ -9,7 +9,7 @@ same_place p q = nat_eq p.script q.script && nat_eq p.pos.line q.pos.line && nat
 
 -- a breakpoint resolved to a place
 abbrev pub stands_at : Place → Breakpoint → Bool
-stands_at place b = list_any (λ p. same_place p place) b.places.items
+stands_at place b = list_any (λ p. same_place p place) b.places
 
 -- those of a list that did, in its order
 abbrev pub hits_in : Place → List Breakpoint → List Breakpoint

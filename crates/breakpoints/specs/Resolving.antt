@@ -1,5 +1,5 @@
 -- Where breakpoints resolve: at the first break location that isn't before the position that was asked for.
-use Rattle.std.specs.Prelude.{ℕ, List, [], ◌∷◌, Option, Some, None, nat_eq, bytes_eq, if◌then◌else◌, option_to_list, ◌++◌}
+use Rattle.std.specs.Prelude.{ℕ, List, [], ◌∷◌, Option, None, nat_eq, bytes_eq, if◌then◌else◌, option_to_list, ◌++◌}
 use Rattle.std.specs.Option.{option_map}
 use Rattle.cdp_text.specs.declared.position.Pos.{Pos}
 use Rattle.cdp_text.specs.declared.position.Place.{Place}

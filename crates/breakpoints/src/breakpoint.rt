@@ -5,6 +5,7 @@ ghost use Rattle.breakpoints.specs.Breakpoints.{has_id};
 ghost use Rattle.breakpoints.specs.Hits.{stands_at};
 
 use crate::ids::is_same;
+use crate::places::Places;
 use cdp_text::position::Place;
 use cdp_text::units::Units;
 
@@ -16,7 +17,7 @@ pub struct Breakpoint {
     /// The expression that is evaluated where the program arrives, if there is one.
     pub condition: Option<Units>,
     /// Where it resolved, in the order of the scripts.
-    pub places: Vec<Place>,
+    pub places: Places,
 }
 
 impl Breakpoint {
@@ -31,6 +32,6 @@ impl Breakpoint {
     pub fn stands_at(&self, place: Place) -> bool
         ensures { result ≡ stands_at place self.now }
     {
-        self.places.iter().any(|p| *p == place)
+        self.places.as_slice().iter().any(|p| *p == place)
     }
 }

@@ -3,7 +3,7 @@
 ghost use Rattle.std.specs.Prelude.{◌≡◌, ◌∷◌, [], map, filter, OnErr, OnOk, IfOk, Some};
 ghost use Rattle.std.specs.List.{list_any};
 ghost use Rattle.locations.specs.Locations.{break_locations};
-ghost use Rattle.breakpoints.specs.Breakpoints.{Adds, Answers, fault_at, fault_of, has_another_id, has_id, hits_at, none_set, without};
+ghost use Rattle.breakpoints.specs.Breakpoints.{Answers, breakpoint_of, fault_at, fault_of, has_another_id, has_id, hits_at, none_set, with_breakpoint, without};
 ghost use Rattle.breakpoints.specs.Hits.{hits_in};
 ghost use Rattle.breakpoints.specs.Ids.{place_id, url_id};
 ghost use Rattle.breakpoints.specs.Resolving.{resolved_at, resolved_by_url};
@@ -12,6 +12,7 @@ use crate::breakpoint::Breakpoint;
 use crate::fault::AddFault;
 use crate::hits::Hits;
 use crate::ids::{place_id, url_id};
+use crate::places::Places;
 use crate::resolving::{resolve_at, resolve_by_url};
 use crate::script_spots::ScriptSpots;
 use cdp_text::position::{Place, Pos};
@@ -66,14 +67,9 @@ impl Breakpoints {
     }
 
     /// Sets a breakpoint at these places.
-    fn add(
-        &mut self,
-        id: Units,
-        condition: Option<Units>,
-        places: Vec<Place>,
-    ) -> Result<(), AddFault>
+    fn add(&mut self, id: Units, condition: Option<Units>, places: Places) -> Result<(), AddFault>
         ensures answers { Answers (fault_of id self.old) result }
-        ensures added { OnOk result (Adds id condition places.items self.old self.new) }
+        ensures added { OnOk result (self.new ≡ with_breakpoint (breakpoint_of id condition places) self.old) }
         ensures kept { OnErr result (self.new ≡ self.old) }
     {
         if self.has(id.as_slice()) {
@@ -107,13 +103,13 @@ impl Breakpoints {
         requires { spots.now ≡ map break_locations scripts.now }
         ensures places { IfOk result (λ places. places.items ≡ resolved_by_url url.now pos scripts.now) }
         ensures answers { Answers (fault_of (url_id pos url.now) self.old) result }
-        ensures added { OnOk result (Adds (url_id pos url.now) condition (resolved_by_url url.now pos scripts.now) self.old self.new) }
+        ensures added { OnOk result (self.new ≡ with_breakpoint (breakpoint_of (url_id pos url.now) condition (resolved_by_url url.now pos scripts.now)) self.old) }
         ensures kept { OnErr result (self.new ≡ self.old) }
     {
         let places = resolve_by_url(self.alloc, scripts, spots, url, pos)?;
         let answer = places.clone()?;
         let id = url_id(self.alloc, pos, url)?;
-        self.add(id, condition, places)?;
+        self.add(id, condition, Places::from_vec(places))?;
         Ok(answer)
     }
 
@@ -134,7 +130,7 @@ impl Breakpoints {
         requires { spots.now ≡ map break_locations scripts.now }
         ensures place { IfOk result (λ p. resolved_at place scripts.now ≡ Some p) }
         ensures answers { Answers (fault_at place scripts.now self.old) result }
-        ensures added { IfOk result (λ p. Adds (place_id place) condition (p ∷ []) self.old self.new) }
+        ensures added { IfOk result (λ p. self.new ≡ with_breakpoint (breakpoint_of (place_id place) condition (p ∷ [])) self.old) }
         ensures kept { OnErr result (self.new ≡ self.old) }
     {
         let Some(resolved) = resolve_at(scripts, spots, place) else {
@@ -142,7 +138,7 @@ impl Breakpoints {
         };
         let places = vec![in self.alloc; resolved]?;
         let id = place_id(self.alloc, place)?;
-        self.add(id, condition, places)?;
+        self.add(id, condition, Places::from_vec(places))?;
         Ok(resolved)
     }
 

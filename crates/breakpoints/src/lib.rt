@@ -9,5 +9,6 @@ pub mod breakpoints;
 pub mod fault;
 pub mod hits;
 mod ids;
+pub mod places;
 mod resolving;
 pub mod script_spots;

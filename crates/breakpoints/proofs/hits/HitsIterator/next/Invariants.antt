@@ -1,4 +1,4 @@
-use Rattle.std.proofs.Common.{◌≡◌, ℕ, length}
+use Rattle.std.proofs.Common.{◌≡◌, length}
 use Rattle.breakpoints.specs.Hits.{hits_in}
 use Rattle.breakpoints.proofs.hits.HitsIterator.next.Given as goal
 
