@@ -7,8 +7,8 @@ use Rattle.serde_json.specs.Find.{get, as_number, as_str, as_u64, as_object}
 use Rattle.cdp_json.specs.Members.{required}
 use Rattle.cdp_json.specs.Methods.{method_of}
 use Rattle.cdp_json.specs.Parameters.{params_of}
-use Rattle.cdp_json.specs.Commands.{if_safe, id_of, given_of, with_params, with_given, with_method, with_name, with_id, value_reading}
-use Rattle.cdp_json.specs.CommandForm.{IsCommand, ReadIsCommand, CommandIsRead}
+use Rattle.cdp_json.specs.Commands.{if_safe, id_of, given_of, with_params, with_given, with_method, with_name, with_id}
+use Rattle.cdp_json.specs.CommandForm.{ReadIsCommand, CommandIsRead}
 use Rattle.cdp_json.specs.declared.command.Reading.{Reading}
 use Rattle.cdp_json.specs.declared.command.Reading.TheVariants.{Command, Refused}
 use Rattle.cdp_json.specs.declared.method.Method.{Method}

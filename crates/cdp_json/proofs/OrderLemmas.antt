@@ -8,7 +8,7 @@ use Rattle.std.specs.List.{range_with_len}
 use Rattle.std.proofs.lemmas.List.Sums.{fold-append}
 use Rattle.std.proofs.lemmas.Map.Views.{All-insert_key}
 use Rattle.std.specs.BTreeSet.{insert_key}
-use Rattle.cdp_json.specs.KeyOrder.{insert_by, in_order, key_at, order_of}
+use Rattle.cdp_json.specs.KeyOrder.{insert_by, in_order, key_at}
 
 -- ---- the order of what a function gives
 

@@ -6,9 +6,7 @@ use Rattle.std.proofs.lemmas.Simd.{map-map}
 use Rattle.std.proofs.Math.Seq.{take-suc}
 use Rattle.std.proofs.lemmas.List.{take_all}
 use Rattle.std.specs.List.{range_with_len}
-use Rattle.cdp_json.specs.Json as json
-use Rattle.cdp_json.specs.Json.{items_of, members_of}
-use Rattle.cdp_json.specs.Views.{json_view, list_view, object_view, member_view, items_view, members_view}
+use Rattle.cdp_json.specs.Views.{json_view, items_view, members_view}
 use Rattle.cdp_json.specs.KeyOrder.{in_order, key_at, order_of}
 use Rattle.cdp_json.specs.Compact.{compact_text, string_text, member_text, with_commas, behind_commas, comma_before, item_texts, member_texts, members_text}
 use Rattle.cdp_json.specs.declared.value.Json.{Json}

@@ -1,5 +1,5 @@
 -- What it means that a JSON value is a command (JSON-RPC 2.0, section 4).
-use Rattle.std.specs.Prelude.{◌≡◌, ℕ, ◌^◌, ◌<◌, List, codes, Option, Some}
+use Rattle.std.specs.Prelude.{◌≡◌, ℕ, ◌^◌, ◌<◌, List, codes, Some}
 use Rattle.serde_json.specs.Data.{Data, number, unsigned, string}
 use Rattle.serde_json.specs.Find.{get}
 use Rattle.cdp_json.specs.Commands.{given_of, value_reading}

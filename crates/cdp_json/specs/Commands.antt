@@ -1,7 +1,7 @@
 -- The reading of commands: JSON, an object, its `id`, its `method`, the method's name, its parameters. The first that fails refuses the text.
-use Rattle.std.specs.Prelude.{ℕ, ◌^◌, List, Bool, true, false, nat_lt, if◌then◌else◌, codes, Option, Some, None, is_some, option_and_then}
+use Rattle.std.specs.Prelude.{ℕ, ◌^◌, List, nat_lt, if◌then◌else◌, codes, Option, Some, None, is_some, option_and_then}
 use Rattle.cdp_text.specs.Units.{utf16_of}
-use Rattle.serde_json.specs.Data.{Data, null, boolean, number, string, array, object}
+use Rattle.serde_json.specs.Data.{Data, null}
 use Rattle.serde_json.specs.Find.{get, as_number, as_str, as_u64, as_object}
 use Rattle.cdp_json.specs.Members.{required}
 use Rattle.cdp_json.specs.Methods.{method_of}
@@ -10,7 +10,6 @@ use Rattle.cdp_json.specs.declared.command.Reading.{Reading}
 use Rattle.cdp_json.specs.declared.command.Reading.TheVariants.{Command, Refused}
 use Rattle.cdp_json.specs.declared.method.Method.{Method}
 use Rattle.cdp_json.specs.declared.params.Params.{Params}
-use Rattle.cdp_json.specs.declared.refusal.Refusal.{Refusal}
 use Rattle.cdp_json.specs.declared.refusal.Refusal.TheVariants as refusals
 
 -- an integer from 0 to 2^53-1, without fraction or exponent

@@ -1,4 +1,4 @@
-use Rattle.std.proofs.Common.{◌≡◌, ◌++◌, ◌∷◌, [], string_bytes, map, take}
+use Rattle.std.proofs.Common.{◌≡◌, ◌++◌, string_bytes, map, take}
 use Rattle.cdp_json.specs.Compact.{with_commas}
 use Rattle.cdp_json.specs.declared.value.Json.TheViews as views
 use Rattle.cdp_json.proofs.TextLemmas.{text_of_item, text_at}

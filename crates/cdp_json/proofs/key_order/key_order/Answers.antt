@@ -1,9 +1,8 @@
-use Rattle.std.proofs.Common.{rules, ◌≡◌, ◌∷◌, [], ◌++◌, ◌+◌, ◌<◌, List, ℕ, Bor, map, length, get_or, ap, sym, ◌∙◌, arith, append_assoc, append-nil, subst, ◌≤◌}
+use Rattle.std.proofs.Common.{rules, ◌≡◌, ◌∷◌, [], ◌++◌, ◌+◌, ◌<◌, List, ℕ, Bor, map, length, ap, sym, ◌∙◌, arith, append_assoc, append-nil, subst, ◌≤◌}
 use Rattle.std.specs.Prelude.{All}
-use Rattle.std.specs.List.{range_with_len}
-use Rattle.std.proofs.lemmas.List.{get_or-map, length-map, map-append}
-use Rattle.cdp_json.specs.KeyOrder.{insert_by, in_order, key_at, order_of}
-use Rattle.cdp_json.proofs.OrderLemmas.{Placed, pair_cmp, insert_place, still_placed, in_order-place, places_below}
+use Rattle.std.proofs.lemmas.List.{get_or-map, map-append}
+use Rattle.cdp_json.specs.KeyOrder.{insert_by, key_at}
+use Rattle.cdp_json.proofs.OrderLemmas.{Placed, insert_place, still_placed, in_order-place, places_below}
 use Rattle.cdp_json.proofs.key_order.key_order.Goals as goal
 
 pub loop-place-preserved : goal.loop-place-preserved

@@ -1,4 +1,4 @@
-use Rattle.std.proofs.Common.{◌≡◌, ◌++◌, List, Bor, ℕ, map, length}
+use Rattle.std.proofs.Common.{◌≡◌, ◌++◌, List, Bor, ℕ, map}
 use Rattle.std.specs.List.{range_with_len}
 use Rattle.cdp_json.specs.KeyOrder.{in_order, key_at}
 use Rattle.cdp_json.proofs.OrderLemmas.{Placed}
