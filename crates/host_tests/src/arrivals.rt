@@ -4,7 +4,7 @@ ghost use Rattle.std.specs.Prelude.{false};
 use cdp_text::units::units_of;
 use js_code::table::NodeTable;
 use js_frames::spans::offset_in;
-use js_machine::machine::{Machine, Started};
+use js_machine::machine::Machine;
 use js_operations::context::Context;
 use js_parser::parse::parse_script;
 use js_semantics::form::Source;
@@ -12,6 +12,7 @@ use js_steps::run::Asks;
 use js_steps::stack::Stack;
 use js_steps::task::Point;
 use js_tree::script::Script;
+use js_world::heap::BaseHeap;
 use std::alloc::{AllocError, Global};
 use std::collections::VecDeque;
 use std::process::Abort;
@@ -70,6 +71,24 @@ fn told(alloc: Global, machine: &Machine, scripts: &[Script]) -> Result<String, 
     }
 }
 
+// The same behind each step of a machine, at most a hundred.
+fn steps_told(
+    alloc: Global,
+    machine: &mut Machine,
+    heap: &mut BaseHeap,
+    scripts: &[Script],
+) -> Result<String, AllocError> {
+    let mut text = String::new(alloc);
+    for _ in 0..100 {
+        if machine.end().is_some() || machine.finished().is_some() {
+            break;
+        }
+        let _ = machine.run(heap, 1, &Nobody);
+        text.push_str(&told(alloc, machine, scripts)?)?;
+    }
+    Ok(text)
+}
+
 // The same behind each step of a script.
 fn stands_of(alloc: Global, source: &str) -> Result<String, Fail> {
     let units = units_of(alloc, source)?;
@@ -77,19 +96,9 @@ fn stands_of(alloc: Global, source: &str) -> Result<String, Fail> {
         return Err("no script".into());
     };
     let scripts = [script];
-    let Started {
-        mut machine,
-        mut heap,
-    } = Machine::start(alloc, &scripts, VecDeque::new(alloc))?;
-    let mut text = String::new(alloc);
-    for _ in 0..100 {
-        if machine.end().is_some() || machine.finished().is_some() {
-            break;
-        }
-        let _ = machine.run(&mut heap, 1, &Nobody);
-        text.push_str(&told(alloc, &machine, &scripts)?)?;
-    }
-    Ok(text)
+    let mut started = Machine::start(alloc, &scripts, VecDeque::new(alloc))?;
+    let told = steps_told(alloc, &mut started.machine, &mut started.heap, &scripts);
+    Ok(told?)
 }
 
 fn each_stands(rt: &(impl Abort + AllocGlobal), rows: &[(&str, &str)]) -> Result<(), Fail> {

@@ -87,23 +87,34 @@ fn bring(rt: &impl Abort, host: &mut Host, letters: &str) -> Result<(), Fail> {
     Ok(())
 }
 
+// A row holds of a host of two lines.
+fn holds(
+    rt: &(impl Abort + AllocGlobal),
+    host: &mut Host,
+    row: &(&str, &str, &str, u64),
+) -> Result<(), Fail> {
+    let (before, letter, texts, steps) = row;
+    assert_eq!(rt; host.sessions(), 0);
+    assert_eq!(rt; host.attach()?, 1);
+    bring(rt, host, before)?;
+    assert!(rt; host.attached(1));
+    host.take(1);
+    bring(rt, host, letter)?;
+    let mut made = String::new(rt.alloc());
+    assert!(rt; host.attached(1));
+    for text in &host.take(1) {
+        made.push_str(text)?;
+        made.push('|')?;
+    }
+    assert_eq!(rt; made.as_str(), *texts, "{letter} behind {before}");
+    assert_eq!(rt; host.run(100)?.steps, *steps, "{letter} behind {before}");
+    Ok(())
+}
+
 fn each_row(rt: &(impl Abort + AllocGlobal), rows: &[(&str, &str, &str, u64)]) -> Result<(), Fail> {
-    for (before, letter, texts, steps) in rows {
+    for row in rows {
         let mut host = two_lines(rt.alloc())?;
-        assert_eq!(rt; host.sessions(), 0);
-        assert_eq!(rt; host.attach()?, 1);
-        bring(rt, &mut host, before)?;
-        assert!(rt; host.attached(1));
-        host.take(1);
-        bring(rt, &mut host, letter)?;
-        let mut made = String::new(rt.alloc());
-        assert!(rt; host.attached(1));
-        for text in &host.take(1) {
-            made.push_str(text)?;
-            made.push('|')?;
-        }
-        assert_eq!(rt; made.as_str(), *texts, "{letter} behind {before}");
-        assert_eq!(rt; host.run(100)?.steps, *steps, "{letter} behind {before}");
+        holds(rt, &mut host, row)?;
     }
     Ok(())
 }
