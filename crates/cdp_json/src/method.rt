@@ -23,13 +23,6 @@ pub enum Method {
     SetAsyncCallStackDepth,
     GetPossibleBreakpoints,
     GetScriptSource,
-    RuntimeEnable,
-    RuntimeDisable,
-    GetProperties,
-    ReleaseObject,
-    ReleaseObjectGroup,
-    GlobalLexicalScopeNames,
-    RunIfWaitingForDebugger,
 }
 
 /// The method of this name, as `Debugger.enable`.
@@ -54,13 +47,6 @@ pub(crate) fn method_named(name: &str) -> Option<Method>
         "Debugger.setAsyncCallStackDepth" => Some(Method::SetAsyncCallStackDepth),
         "Debugger.getPossibleBreakpoints" => Some(Method::GetPossibleBreakpoints),
         "Debugger.getScriptSource" => Some(Method::GetScriptSource),
-        "Runtime.enable" => Some(Method::RuntimeEnable),
-        "Runtime.disable" => Some(Method::RuntimeDisable),
-        "Runtime.getProperties" => Some(Method::GetProperties),
-        "Runtime.releaseObject" => Some(Method::ReleaseObject),
-        "Runtime.releaseObjectGroup" => Some(Method::ReleaseObjectGroup),
-        "Runtime.globalLexicalScopeNames" => Some(Method::GlobalLexicalScopeNames),
-        "Runtime.runIfWaitingForDebugger" => Some(Method::RunIfWaitingForDebugger),
         _ => None,
     }
 }

@@ -62,19 +62,4 @@ pub enum Params {
     GetScriptSource {
         script_id: Units,
     },
-    RuntimeEnable,
-    RuntimeDisable,
-    GetProperties {
-        object_id: Units,
-        own_properties: Option<bool>,
-        generate_preview: Option<bool>,
-    },
-    ReleaseObject {
-        object_id: Units,
-    },
-    ReleaseObjectGroup {
-        object_group: Units,
-    },
-    GlobalLexicalScopeNames,
-    RunIfWaitingForDebugger,
 }

@@ -8,7 +8,7 @@ pub struct Arrival {
     /// The break location that the next step enters, if it enters one: then the program has arrived there.
     pub place: Option<Place>,
     /// How many calls are active.
-    pub depth: u32,
+    pub depth: usize,
     /// Whether the next step enters a `debugger` statement.
     pub debugger: bool,
     /// Where the step raised a throw that hadn't been travelling before it: whether no `try` with a `catch`, in any call, has

@@ -1,15 +1,17 @@
 //! Which rule stops the program.
 
-ghost use Rattle.std.specs.Prelude.{◌↔◌, IsTrue, IfNone, IfSome};
-ghost use Rattle.stepping.specs.Causes.{EndsAt, IsFirst, NoneHolds, StopsAtRaise};
+ghost use Rattle.std.specs.Prelude.{◌≡◌, ◌↔◌, IsTrue, IfNone, IfSome};
+ghost use Rattle.stepping.specs.Causes.{EndsAt, IsFirst, NoneHolds, StopsAtRaise, cause_there, ends_at, first_cause, is_place, step_ends, stops_at_raise};
 
 use crate::arrival::Arrival;
 use crate::cause::Cause;
 use crate::rules::{Exceptions, Rules, StepKind, StepRequest};
+use cdp_text::position::Place;
 
 /// Whether a step that raised a throw, or none, stops the program for it.
 fn stops_at_raise(exceptions: Exceptions, raised: Option<bool>) -> bool
-    ensures { IsTrue result ↔ StopsAtRaise exceptions raised }
+    ensures value { result ≡ stops_at_raise exceptions raised }
+    ensures holds { IsTrue result ↔ StopsAtRaise exceptions raised }
 {
     match exceptions {
         Exceptions::Never => false,
@@ -19,8 +21,9 @@ fn stops_at_raise(exceptions: Exceptions, raised: Option<bool>) -> bool
 }
 
 /// Whether the step that was asked for ends at an arrival at a depth.
-fn ends_at(step: StepRequest, depth: u32) -> bool
-    ensures { IsTrue result ↔ EndsAt step.kind step.depth depth }
+fn ends_at(step: StepRequest, depth: usize) -> bool
+    ensures value { result ≡ ends_at step.kind step.depth depth }
+    ensures holds { IsTrue result ↔ EndsAt step.kind step.depth depth }
 {
     match step.kind {
         StepKind::Into => true,
@@ -35,6 +38,7 @@ fn ends_at(step: StepRequest, depth: u32) -> bool
 ///
 /// A session that doesn't name a step may be stopped by it all the same, where another one does.
 pub fn names(rules: &Rules, arrival: &Arrival, hit: bool) -> Option<Cause>
+    ensures cause { result ≡ first_cause rules.now arrival.now hit }
     ensures first { IfSome result (IsFirst rules.now arrival.now hit) }
     ensures none { IfNone result (NoneHolds rules.now arrival.now hit) }
 {

@@ -32,7 +32,7 @@ pub enum StepKind {
 pub struct StepRequest {
     pub kind: StepKind,
     /// How many calls were active at the stop.
-    pub depth: u32,
+    pub depth: usize,
 }
 
 /// What a session asks for: its flags, which throws it stops at, and its requests, each of which ends with the next stop.
