@@ -52,10 +52,16 @@ abbrev ScriptRuns : Sources → Active → Type 0
 ScriptRuns R (reduces (script number names) vs) = R.runs (script_source number)
 ScriptRuns R a = Unit {0}
 
+-- what is known where a throw stands
+abbrev pub ThrowKnown : Sources → Active → Type 0
+ThrowKnown R (stands v place) = R.raises
+ThrowKnown R a = Unit {0}
+
 -- the sources of all frames run, and that of the top one has the place of what is about to be reduced
 pub record ActiveStands (R : Sources) (all : List Source) (a : Active) : Type 0 where
   pub all_run : AllRun R all
   pub script_runs : ScriptRuns R a
+  pub throw_known : ThrowKnown R a
   pub belongs : ActiveBelongs (top_marks R all) a
 
 abbrev LeftmostStands : Sources → List Source → List Source → Leftmost → Type 0
@@ -88,9 +94,9 @@ reduced-stands : (R : Sources) (outside : List Source) (f : Form) (now later : T
 reduced-stands R outside f now later parts all (inner a) e r i h = h
 reduced-stands R outside (frame node a) now later parts all (only_values vs) e r i h =
     let here : all ≡ i.0 ∷ outside = h ∙ i.1 in
-    record { all_run = runs-here R parts all h r; script_runs = tt; belongs = subst (λ (x : List Source). ActiveBelongs (top_marks R x) (reduces (frame node a) vs)) (sym here) (closing-mark (R.marks i.0) node now vs i.3 e) }
+    record { all_run = runs-here R parts all h r; script_runs = tt; throw_known = tt; belongs = subst (λ (x : List Source). ActiveBelongs (top_marks R x) (reduces (frame node a) vs)) (sym here) (closing-mark (R.marks i.0) node now vs i.3 e) }
 reduced-stands R outside f now later parts all (only_values vs) e r i h =
-    record { all_run = runs-here R parts all h r; script_runs = form-runs R (top_marks R outside) f vs later i.1; belongs = subst (λ (x : List Source). ActiveBelongs (top_marks R x) (reduces f vs)) (sym (h ∙ i.0)) (form-active (top_marks R outside) f vs later i.1) }
+    record { all_run = runs-here R parts all h r; script_runs = form-runs R (top_marks R outside) f vs later i.1; throw_known = tt; belongs = subst (λ (x : List Source). ActiveBelongs (top_marks R x) (reduces f vs)) (sym (h ∙ i.0)) (form-active (top_marks R outside) f vs later i.1) }
 
 inside-runs : (R : Sources) (outside : List Source) (f : Form) (now later : Terms) (parts : List Source) → AllRun R outside → Inside R outside f now later parts → AllRun R parts
 inside-runs R outside (frame node a) now later parts r i = runs-here R (i.0 ∷ outside) parts i.1 (i.2, (i.2, r.1))
@@ -98,8 +104,8 @@ inside-runs R outside f now later parts r i = runs-here R outside parts i.0 r
 
 mutual
   active-stands : (R : Sources) (outside : List Source) (t : Term) (all : List Source) → AllRun R outside → Stands R outside t all → ActiveStands R all (active t)
-  active-stands R outside (done v) all r h = record { all_run = runs-here R outside all h r; script_runs = tt; belongs = tt }
-  active-stands R outside (standing v place) all r h = record { all_run = runs-here R outside all h r; script_runs = tt; belongs = tt }
+  active-stands R outside (done v) all r h = record { all_run = runs-here R outside all h r; script_runs = tt; throw_known = tt; belongs = tt }
+  active-stands R outside (standing v place) all r h = record { all_run = runs-here R outside all h.0 r; script_runs = tt; throw_known = h.1; belongs = tt }
   active-stands R outside (part f now later) all r h =
       let o = opened R outside f now later all h in
       let within : AllRun R o.0 = inside-runs R outside f now later o.0 r o.1 in
@@ -108,7 +114,7 @@ mutual
   leftmost-stands : (R : Sources) (outside : List Source) (ts : Terms) (all : List Source) → AllRun R outside → AllStand R outside ts all → LeftmostStands R outside all (leftmost ts)
   leftmost-stands R outside end all r h = h
   leftmost-stands R outside (more (done v) ts) all r h = behind-stands R outside all v (leftmost ts) (leftmost-stands R outside ts all r h)
-  leftmost-stands R outside (more (standing v place) ts) all r h = record { all_run = runs-here R outside all h.0 r; script_runs = tt; belongs = tt }
+  leftmost-stands R outside (more (standing v place) ts) all r h = record { all_run = runs-here R outside all h.0 r; script_runs = tt; throw_known = h.1; belongs = tt }
   leftmost-stands R outside (more (part f now later) ts) all r h = active-stands R outside (part f now later) all r h.0
 
 -- ---- scripts
@@ -117,18 +123,18 @@ alone : (R : Sources) (source : Source) → R.runs source → AllRun R (source �
 alone R source r = (r, (r, tt))
 
 script-active : (R : Sources) (source : Source) (f : Form) (now later : Terms) (all : List Source) → R.runs source → ScriptStands R source (part f now later) all → ActiveStands R all (active (part f now later))
-script-active R source (script number names) end later all r h = record { all_run = runs-here R (source ∷ []) all h.0 (alone R source r); script_runs = h.1.0; belongs = tt }
+script-active R source (script number names) end later all r h = record { all_run = runs-here R (source ∷ []) all h.0 (alone R source r); script_runs = h.1.0; throw_known = tt; belongs = tt }
 script-active R source (script number names) (more t ts) later all r h = absurd h.1
 script-active R source f now later all r h = active-stands R (source ∷ []) (part f now later) all (alone R source r) h
 
 scripts-leftmost : (R : Sources) (source : Source) (ts : Terms) (all : List Source) → R.runs source → ScriptsStand R source ts all → LeftmostStands R (source ∷ []) all (leftmost ts)
 scripts-leftmost R source end all r h = h
 scripts-leftmost R source (more (done v) ts) all r h = behind-stands R (source ∷ []) all v (leftmost ts) (scripts-leftmost R source ts all r h)
-scripts-leftmost R source (more (standing v place) ts) all r h = record { all_run = runs-here R (source ∷ []) all h.0 (alone R source r); script_runs = tt; belongs = tt }
+scripts-leftmost R source (more (standing v place) ts) all r h = record { all_run = runs-here R (source ∷ []) all h.0 (alone R source r); script_runs = tt; throw_known = h.1; belongs = tt }
 scripts-leftmost R source (more (part f now later) ts) all r h = script-active R source f now later all r h.0
 
 scripts-active : (R : Sources) (source : Source) (all : List Source) (l : Leftmost) → R.runs source → LeftmostStands R (source ∷ []) all l → ActiveStands R all (active_of scripts l)
-scripts-active R source all (only_values vs) r h = record { all_run = runs-here R (source ∷ []) all h (alone R source r); script_runs = tt; belongs = tt }
+scripts-active R source all (only_values vs) r h = record { all_run = runs-here R (source ∷ []) all h (alone R source r); script_runs = tt; throw_known = tt; belongs = tt }
 scripts-active R source all (inner a) r h = h
 
 pub running-active : (R : Sources) (t : Term) (all : List Source) → RunningStands R t all → ActiveStands R all (active t)

@@ -7,3 +7,4 @@ pub mod RunLemmas
 pub mod ActiveLemmas
 pub mod StartLemmas
 pub mod StrengthLemmas
+pub mod RaiseLemmas

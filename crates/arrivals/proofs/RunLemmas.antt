@@ -1,5 +1,5 @@
 -- In each configuration of a run of scripts every part is with its source.
-use Rattle.std.proofs.Common.{◌≡◌, ℕ, zero, suc, Bool, true, false, List, [], ◌∷◌, sym, subst, if◌then◌else◌}
+use Rattle.std.proofs.Common.{◌≡◌, ℕ, zero, suc, Bool, true, false, List, [], ◌∷◌, Option, Some, None, sym, subst, if◌then◌else◌}
 use Rattle.js_heap.specs.declared.value.Addr.{Addr}
 use Rattle.js_heap.specs.declared.value.Value.{Value}
 use Rattle.js_heap.specs.declared.value.Value.TheVariants as values
@@ -9,14 +9,15 @@ use Rattle.js_semantics.specs.declared.form.Source.TheVariants.{Script as script
 use Rattle.js_semantics.specs.declared.form.Form.{Form}
 use Rattle.js_semantics.specs.declared.form.Form.TheVariants.{Scripts as scripts, Script as script}
 use Rattle.js_semantics.specs.Terms.{Term, done, standing, part, Terms, end, more, all_done, settled, settle}
-use Rattle.js_semantics.specs.State.{Frame, State, Action, Move, goes, travels, has_effect, is_full, inside, go, rest_of, perform}
+use Rattle.js_semantics.specs.State.{Frame, State, Told, Action, Move, goes, travels, has_effect, is_full, inside, go, rest_of, perform}
 use Rattle.js_semantics.specs.Functions.{Program, with_functions, with_names}
 use Rattle.js_semantics.specs.Rows.{script_frame, script_row}
 use Rattle.js_semantics.specs.Next.{Walked, all_values, moved, with_value, around, next, walk}
 use Rattle.js_semantics.specs.Run.{Run, running, over, run_of, run_after, step_in, steps_in}
 use Rattle.js_heap.specs.BuiltIns.{script_scope}
 use Rattle.locations.specs.declared.marks.Marked.{Marked}
-use Rattle.arrivals.specs.Belonging.{AllBelong, Sources, sources_of, Stands, MoveStands, ProgramBelongs, AllWait, ScriptStands, ScriptsStand, RunStands}
+use Rattle.arrivals.specs.Belonging.{AllBelong, Sources, behind_step, sources_of, Stands, MoveStands, ProgramBelongs, AllWait, ScriptStands, ScriptsStand, RunningStands, RunStands}
+use Rattle.arrivals.specs.Raises.{told_of}
 use Rattle.arrivals.proofs.PartLemmas.{BelongsAction, settle-belongs, functions-belongs, names-belongs}
 use Rattle.arrivals.proofs.StepLemmas.{ActionStands, action-stands, perform-stands, next-stands}
 
@@ -24,7 +25,7 @@ use Rattle.arrivals.proofs.StepLemmas.{ActionStands, action-stands, perform-stan
 
 -- the bottom frame, of a script that runs, with what it makes of a script
 abbrev ScriptMoves : Sources → Move Term → Type 0
-ScriptMoves R (goes t s told) = (source : Source) × R.runs source × Stands R (source ∷ []) t (sources_of s.frames)
+ScriptMoves R (goes t s told) = (source : Source) × R.runs source × Stands (behind_step R (Some told)) (source ∷ []) t (sources_of s.frames)
 ScriptMoves R (travels c s) = Unit {0}
 ScriptMoves R (has_effect s) = Unit {0}
 ScriptMoves R (is_full what s) = Unit {0}
@@ -71,7 +72,7 @@ script-stands R source (script number names) now later all h = absurd h.0
 script-stands R source f now later all h = h
 
 abbrev ScriptsMove : Sources → Move Terms → Type 0
-ScriptsMove R (goes ts s told) = (source : Source) × R.runs source × ScriptsStand R source ts (sources_of s.frames)
+ScriptsMove R (goes ts s told) = (source : Source) × R.runs source × ScriptsStand (behind_step R (Some told)) source ts (sources_of s.frames)
 ScriptsMove R (travels c s) = Unit {0}
 ScriptsMove R (has_effect s) = Unit {0}
 ScriptsMove R (is_full what s) = Unit {0}
@@ -81,9 +82,9 @@ ScriptsWalk R (all_values vs) = Unit {0}
 ScriptsWalk R (moved m) = ScriptsMove R m
 
 inside-scripts : (R : Sources) (ts : Terms) (m : Move Term) → AllWait R ts → ScriptMoves R m → ScriptsMove R (inside (λ t. more t ts) m)
-inside-scripts R ts (goes (done v) s told) k h = (h.0, h.1, waits-stand R h.0 ts (sources_of s.frames) h.2 k)
-inside-scripts R ts (goes (standing v place) s told) k h = (h.0, h.1, (h.2, k))
-inside-scripts R ts (goes (part f now later) s told) k h = (h.0, h.1, (script-stands R h.0 f now later (sources_of s.frames) h.2, k))
+inside-scripts R ts (goes (done v) s told) k h = (h.0, h.1, waits-stand (behind_step R (Some told)) h.0 ts (sources_of s.frames) h.2 k)
+inside-scripts R ts (goes (standing v place) s told) k h = (h.0, h.1, (h.2.0, h.2.1, k))
+inside-scripts R ts (goes (part f now later) s told) k h = (h.0, h.1, (script-stands (behind_step R (Some told)) h.0 f now later (sources_of s.frames) h.2, k))
 inside-scripts R ts (travels c s) k h = tt
 inside-scripts R ts (has_effect s) k h = tt
 inside-scripts R ts (is_full what s) k h = tt
@@ -110,23 +111,34 @@ scripts_if : (R : Sources) (b : Bool) (source : Source) (ts later : Terms) (s : 
 scripts_if R true source ts later s r h = tt
 scripts_if R false source ts later s r h = (source, r, h)
 
-around-scripts : (R : Sources) (p : Program) (scope : Addr) (later : Terms) (s : State) (x : Walked) → ScriptsWalk R x → RunStands R (run_after (around p scope scripts later s x))
+-- a run behind a step
+abbrev pub RunMoves : Sources → Move Term → Type 0
+RunMoves R m = RunStands (behind_step R (told_of m)) (run_after m)
+
+around-scripts : (R : Sources) (p : Program) (scope : Addr) (later : Terms) (s : State) (x : Walked) → ScriptsWalk R x → RunMoves R (around p scope scripts later s x)
 around-scripts R p scope later s (all_values vs) h = tt
-around-scripts R p scope later s (moved (goes ts t told)) h = scripts_if R (all_done ts) h.0 ts later t h.1 h.2
+around-scripts R p scope later s (moved (goes ts t told)) h = scripts_if (behind_step R (Some told)) (all_done ts) h.0 ts later t h.1 h.2
 around-scripts R p scope later s (moved (travels c t)) h = tt
 around-scripts R p scope later s (moved (has_effect t)) h = tt
 around-scripts R p scope later s (moved (is_full what t)) h = tt
 
-step-stands : (R : Sources) (p : Program) (scope : Addr) (r : Run) → ProgramBelongs R p → RunStands R r → RunStands R (step_in p scope r)
-step-stands R p scope (running (done v) s) g h = absurd h
-step-stands R p scope (running (standing v place) s) g h = absurd h
-step-stands R p scope (running (part scripts now later) s) g h = around-scripts R p scope later s (walk p scope now s) (walk-scripts R h.0 p scope now s g h.1 h.2)
-step-stands R p scope (running (part f now later) s) g h = absurd h
-step-stands R p scope (over f s) g h = tt
+pub run-moves : (R : Sources) (p : Program) (scope : Addr) (t : Term) (s : State) → ProgramBelongs R p → RunningStands R t (sources_of s.frames) → RunMoves R (next p scope t s)
+run-moves R p scope (done v) s g h = absurd h
+run-moves R p scope (standing v place) s g h = absurd h
+run-moves R p scope (part scripts now later) s g h = around-scripts R p scope later s (walk p scope now s) (walk-scripts R h.0 p scope now s g h.1 h.2)
+run-moves R p scope (part f now later) s g h = absurd h
 
-pub steps-stand : (R : Sources) (k : ℕ) (p : Program) (scope : Addr) (r : Run) → ProgramBelongs R p → RunStands R r → RunStands R (steps_in k p scope r)
+-- behind a step, whatever it told, or before the first one
+abbrev pub RunStandsBehind : Sources → Run → Type 0
+RunStandsBehind R r = (told : Option Told) × RunStands (behind_step R told) r
+
+step-stands : (R : Sources) (p : Program) (scope : Addr) (r : Run) → ProgramBelongs R p → RunStands R r → RunStandsBehind R (step_in p scope r)
+step-stands R p scope (running t s) g h = (told_of (next p scope t s), run-moves R p scope t s g h)
+step-stands R p scope (over f s) g h = (None, tt)
+
+pub steps-stand : (R : Sources) (k : ℕ) (p : Program) (scope : Addr) (r : Run) → ProgramBelongs R p → RunStandsBehind R r → RunStandsBehind R (steps_in k p scope r)
 steps-stand R zero p scope r g h = h
-steps-stand R (suc k) p scope r g h = steps-stand R k p scope (step_in p scope r) g (step-stands R p scope r g h)
+steps-stand R (suc k) p scope r g h = steps-stand R k p scope (step_in p scope r) g (step-stands (behind_step R h.0) p scope r g h.1)
 
 pub start-stands : (R : Sources) (source : Source) (ts : Terms) (s : State) → sources_of s.frames ≡ source ∷ [] → R.runs source → AllWait R ts → RunStands R (run_of (settled scripts ts end) s)
 start-stands R source ts s e r h = scripts_if R (all_done ts) source ts end s r (waits-stand R source ts (sources_of s.frames) e h)

@@ -1,5 +1,5 @@
 -- Scripts belong to their sources before the first step.
-use Rattle.std.proofs.Common.{◌≡◌, ℕ, zero, suc, ◌+◌, ◌<◌, List, [], ◌∷◌, Some, length, refl, sym, ap, subst, ◌∙◌, inl, inr, arith}
+use Rattle.std.proofs.Common.{◌≡◌, ℕ, zero, suc, ◌+◌, ◌<◌, List, [], ◌∷◌, Option, Some, None, length, refl, sym, ap, subst, ◌∙◌, inl, inr, arith}
 use Rattle.std.specs.Prelude.{slice_index_or}
 use Rattle.std.specs.List.{Contains}
 use Rattle.std.proofs.lemmas.List.{get_or_default}
@@ -13,7 +13,7 @@ use Rattle.js_semantics.specs.declared.form.Mark.{Mark}
 use Rattle.js_semantics.specs.declared.form.Form.{Form}
 use Rattle.js_semantics.specs.declared.form.Form.TheVariants.{Sequence as sequence, Enter as enter, Return as return_, Function as function, Method as method, Literal as literal}
 use Rattle.js_semantics.specs.Terms.{Term, done, standing, part, Terms, end, more}
-use Rattle.js_semantics.specs.State.{State, spot_of}
+use Rattle.js_semantics.specs.State.{State, Told, spot_of}
 use Rattle.js_semantics.specs.Makers.{Context, Items}
 use Rattle.js_semantics.specs.Sources.{statements_source, term_of_script, terms_of_scripts}
 use Rattle.js_semantics.specs.Run.{literals, literals_of, with_literals, all_with_literals, placed_scripts, program_from, program_of, first_state, start as start_of, plain as plain_run, Run, running, over}
@@ -23,12 +23,12 @@ use Rattle.locations.specs.declared.marks.Marked.{Marked}
 use Rattle.locations.specs.Marks.{Marks}
 use Rattle.locations.specs.Locations.{script_marks, break_locations}
 use Rattle.locations.proofs.CoverLemmas.{mark_found}
-use Rattle.arrivals.specs.Belonging.{Returns, FirstReturns, Closes, FormBelongs, Belongs, AllBelong, Sources, top_marks, sources_of, ProgramBelongs, AllWait, RunStands}
+use Rattle.arrivals.specs.Belonging.{Returns, FirstReturns, Closes, FormBelongs, Belongs, AllBelong, Sources, behind_step, top_marks, sources_of, ProgramBelongs, AllWait, RunStands}
 use Rattle.arrivals.specs.Arrivals.{AreNumbered, RunsIn, Arrives, RunArrives}
 use Rattle.arrivals.proofs.StrengthLemmas.{mark-located}
 use Rattle.arrivals.proofs.MakerLemmas.{AllMarks}
 use Rattle.arrivals.proofs.TreeLemmas.{statements-fit}
-use Rattle.arrivals.proofs.RunLemmas.{steps-stand, start-stands}
+use Rattle.arrivals.proofs.RunLemmas.{RunStandsBehind, steps-stand, start-stands}
 use Rattle.arrivals.proofs.ActiveLemmas.{ActiveStands, running-active, top-source, arrival-marked, debugger-marked, frame-runs}
 
 -- ---- the cells of literals in their places
@@ -60,12 +60,12 @@ form-placed P address n f later h = h
 mutual
   placed-belongs : (P : Marked → Type 0) (address : ℕ → Addr) (n : ℕ) (t : Term) → Belongs P t → Belongs P (with_literals address n t)
   placed-belongs P address n (done v) h = tt
-  placed-belongs P address n (standing v place) h = tt
+  placed-belongs P address n (standing v place) h = h
   placed-belongs P address n (part (literal us) now later) h = tt
   placed-belongs P address n (part f now later) h =
       (form-placed P address (n + length (literals_of now)) f later h.0, placed-belong P address n now h.1, placed-belong P address (n + length (literals_of now)) later h.2)
 
-  placed-belong : (P : Marked → Type 0) (address : ℕ → Addr) (n : ℕ) (ts : Terms) → AllBelong P ts → AllBelong P (all_with_literals address n ts)
+  pub placed-belong : (P : Marked → Type 0) (address : ℕ → Addr) (n : ℕ) (ts : Terms) → AllBelong P ts → AllBelong P (all_with_literals address n ts)
   placed-belong P address n end h = tt
   placed-belong P address n (more t ts) h = (placed-belongs P address n t h.0, placed-belong P address (n + length (literals t)) ts h.1)
 
@@ -76,6 +76,7 @@ abbrev known : List Script → Sources
 known scripts = record {
   runs = λ source. (script : Script) × Contains scripts script × (source ≡ script_source script.number);
   marks = λ source m. (script : Script) → Contains scripts script → source ≡ script_source script.number → Contains (script_marks script) m;
+  raises = ⊥;
 }
 
 number-at : (n : ℕ) (ss : List Script) (i : ℕ) (other : Script) → AreNumbered n ss → i < length ss → (slice_index_or ss i other).number ≡ n + i
@@ -98,7 +99,7 @@ same_number m n e = cc
 
 -- ---- the marks of one script
 
-each-mark : (Q : Marked → Type 0) (ms : Marks) → ((m : Marked) → Contains ms m → Q m) → AllMarks Q ms
+pub each-mark : (Q : Marked → Type 0) (ms : Marks) → ((m : Marked) → Contains ms m → Q m) → AllMarks Q ms
 each-mark Q [] h = tt
 each-mark Q (m ∷ ms) h = (h m (0, omega arith, refl), each-mark Q ms (λ x c. h x (suc c.0, omega (arith, c.1), c.2)))
 
@@ -107,17 +108,15 @@ own-marks scripts s h k = each-mark ((known scripts).marks (script_source s.numb
     (λ m c other l e. subst (λ (x : Script). Contains (script_marks x) m) (only-one 1 scripts s other h k l (same_number s.number other.number e)) c)
 
 -- the parts of a script's term
-abbrev kept_parts : Script → Terms
+abbrev pub kept_parts : Script → Terms
 kept_parts s =
     let body : Items = statements_source s.body in
     let c : Context = record { source = script_source s.number; statement = 0; name = [] } in
     more (part sequence (body.terms c) end) (body.functions c)
 
-parts-belong : (scripts : List Script) (s : Script) → AreNumbered 1 scripts → Contains scripts s → AllBelong ((known scripts).marks (script_source s.number)) (kept_parts s)
-parts-belong scripts s h k =
-    let P : Marked → Type 0 = (known scripts).marks (script_source s.number) in
+pub parts-belong : (P : Marked → Type 0) (s : Script) → AllMarks P (script_marks s) → AllBelong P (kept_parts s)
+parts-belong P s own =
     let f = statements-fit P s.body in
-    let own = own-marks scripts s h k in
     let c : Context = record { source = script_source s.number; statement = 0; name = [] } in
     ((tt, f.belong c own, tt), f.functions_belong c own)
 
@@ -127,7 +126,7 @@ scripts-wait : (scripts : List Script) (ss : List Script) (n : ℕ) → AreNumbe
 scripts-wait scripts [] n h k = tt
 scripts-wait scripts (s ∷ ss) n h k =
     let here : Contains scripts s = k s (0, omega arith, refl) in (
-      ((s, here, refl), placed-belong ((known scripts).marks (script_source s.number)) (λ i. Base i) (n + 0) (kept_parts s) (parts-belong scripts s h here)),
+      ((s, here, refl), placed-belong ((known scripts).marks (script_source s.number)) (λ i. Base i) (n + 0) (kept_parts s) (parts-belong ((known scripts).marks (script_source s.number)) s (own-marks scripts s h here))),
       scripts-wait scripts ss (n + length (literals (term_of_script s))) h (λ x c. k x (suc c.0, omega (arith, c.1), c.2)),
     )
 
@@ -135,31 +134,31 @@ program-belongs : (scripts : List Script) (ss : List Script) (n first : ℕ) →
 program-belongs scripts [] n first h g k = tt
 program-belongs scripts (s ∷ ss) n first h g k =
     let here : Contains scripts s = k s (0, omega arith, refl) in
-    let placed = placed-belong ((known scripts).marks (script_source s.number)) (λ i. Base i) (first + 0) (kept_parts s) (parts-belong scripts s h here) in
+    let placed = placed-belong ((known scripts).marks (script_source s.number)) (λ i. Base i) (first + 0) (kept_parts s) (parts-belong ((known scripts).marks (script_source s.number)) s (own-marks scripts s h here)) in
     let marked : AllBelong ((known scripts).marks (script_source n)) (all_with_literals (λ i. Base i) (first + 0) (kept_parts s)) = subst (λ (m : ℕ). AllBelong ((known scripts).marks (script_source m)) (all_with_literals (λ i. Base i) (first + 0) (kept_parts s))) g.0 placed in (
       ((s, here, ap (λ (m : ℕ). script_source m) (sym g.0)), tt, marked),
       program-belongs scripts ss (n + 1) (first + length (literals (term_of_script s))) h g.1 (λ x c. k x (suc c.0, omega (arith, c.1), c.2)),
     )
 
-begins : (scripts : List Script) (ss : List Script) (input : List (List ℕ)) → ss ≡ scripts → AreNumbered 1 scripts → RunStands (known scripts) (start_of (terms_of_scripts ss) input)
+begins : (scripts : List Script) (ss : List Script) (input : List (List ℕ)) → ss ≡ scripts → AreNumbered 1 scripts → RunStands (behind_step (known scripts) None) (start_of (terms_of_scripts ss) input)
 begins scripts [] input e h = tt
 begins scripts (s ∷ ss) input e h =
     let within : (x : Script) → Contains (s ∷ ss) x → Contains scripts x = λ x c. subst (λ (xs : List Script). Contains xs x) e c in
     let numbered : AreNumbered 1 (s ∷ ss) = subst (AreNumbered 1) (sym e) h in
-    start-stands (known scripts) (script_source 1) (placed_scripts (terms_of_scripts (s ∷ ss))) (first_state (terms_of_scripts (s ∷ ss)) input) refl
+    start-stands (behind_step (known scripts) None) (script_source 1) (placed_scripts (terms_of_scripts (s ∷ ss))) (first_state (terms_of_scripts (s ∷ ss)) input) refl
     (s, within s (0, omega arith, refl), ap (λ (m : ℕ). script_source m) (sym numbered.0)) (scripts-wait scripts (s ∷ ss) first_literal h within)
 
 -- ---- the law
 
-arrives : (scripts : List Script) (t : Term) (s : State) → ActiveStands (known scripts) (sources_of s.frames) (active t) → Arrives scripts t s
-arrives scripts t s h =
+arrives : (scripts : List Script) (told : Option Told) (t : Term) (s : State) → ActiveStands (behind_step (known scripts) told) (sources_of s.frames) (active t) → Arrives scripts t s
+arrives scripts told t s h =
     let source : Source = (spot_of s).source in
     let stands : (known scripts).runs source = subst (known scripts).runs (top-source s.frames) h.all_run.0 in
     let marked = λ (x : Script) (m : Mark) (e : at x.spans t ≡ Some m). arrival-marked (top_marks (known scripts) (sources_of s.frames)) x.spans (active t) m h.belongs e in
     let here = λ (x : Script) (r : RunsIn x s). top-source s.frames ∙ r in
     record {
       in_a_script = stands;
-      each_frame = λ d f e. frame-runs (known scripts) script_scope t s d f h e;
+      each_frame = λ d f e. frame-runs (behind_step (known scripts) told) script_scope t s d f h e;
       at_a_mark = λ x m c r e. let k = marked x m e in (k.0, k.1 x c (here x r));
       at_a_location = λ x m c r e. let k = marked x m e in mark_found x (break_locations x) refl (record { mark = m; kind = k.0 }) (k.1 x c (here x r));
       at_a_debugger = λ x m c r e d.
@@ -167,12 +166,12 @@ arrives scripts t s h =
           (k, mark-located x m kinds.Debugger k);
     }
 
-run-arrives : (scripts : List Script) (r : Run) → RunStands (known scripts) r → RunArrives scripts r
-run-arrives scripts (running t s) h = arrives scripts t s (running-active (known scripts) t (sources_of s.frames) h)
+run-arrives : (scripts : List Script) (r : Run) → RunStandsBehind (known scripts) r → RunArrives scripts r
+run-arrives scripts (running t s) h = arrives scripts h.0 t s (running-active (behind_step (known scripts) h.0) t (sources_of s.frames) h.1)
 run-arrives scripts (over f s) h = tt
 
 pub plain-arrives : (k : ℕ) (scripts : List Script) (input : List (List ℕ)) → AreNumbered 1 scripts → RunArrives scripts (plain_run k (terms_of_scripts scripts) input)
 plain-arrives k scripts input h =
     run-arrives scripts (plain_run k (terms_of_scripts scripts) input)
     (steps-stand (known scripts) k (program_of (terms_of_scripts scripts)) script_scope (start_of (terms_of_scripts scripts) input)
-    (program-belongs scripts scripts 1 first_literal h h (λ s c. c)) (begins scripts scripts input refl h))
+    (program-belongs scripts scripts 1 first_literal h h (λ s c. c)) (None, begins scripts scripts input refl h))

@@ -25,7 +25,7 @@ use Rattle.js_semantics.specs.declared.form.Stage.TheVariants.{Body as body}
 use Rattle.js_semantics.specs.declared.form.Form.{Form}
 use Rattle.js_semantics.specs.declared.form.Form.TheVariants.{Script as script, Enter as enter, EnterDebugger as enter_debugger, EnterFor as enter_for, EnterForOf as enter_for_of, Block as block, Frame as frame, Initialize as initialize, Choose as choose, Both as both, Either as either, Loop as loop, ListOf as list_of, TurnOf as turn_of, BodyOf as body_of, Break as break_, Continue as continue_, Return as return_, Throw as throw_, Catching as catching, Finishing as finishing, Ending as ending, Read as read, TypeofName as typeof_name, Unary as unary, Binary as binary, Comma as comma, Function as function, Array as array, Object as object, Method as method, Assign as assign, Compound as compound, Update as update, Delete as delete, Call as call, CallOf as call_of}
 use Rattle.js_semantics.specs.Terms.{Term, done, standing, part, Terms, end, more, one, all_done, finished, settled, settle}
-use Rattle.js_semantics.specs.State.{Frame, State, Move, goes, travels, has_effect, is_full, inside, Action, go, raise, leave, make, write, print, take_line, set_here, push_frame, pop_frame, give, fail, with_world, with_here, moved_frames, rest_of, first_line, other_lines, after, raised_at, perform}
+use Rattle.js_semantics.specs.State.{Frame, State, went, Move, goes, travels, has_effect, is_full, inside, Action, go, raise, leave, make, write, print, take_line, set_here, push_frame, pop_frame, give, fail, with_world, with_here, moved_frames, rest_of, first_line, other_lines, after, raised_at, perform}
 use Rattle.js_semantics.specs.References.{found, with_result, read_result, remove}
 use Rattle.js_semantics.specs.BuiltIns.{argument, last_of, built_in_call}
 use Rattle.js_semantics.specs.Functions.{Program, FunctionCode, first_code, code_if, function_in, function_in_all, same_source, function_at, function_row, with_functions, too_deep, called_this, frame_entered, entered, frame_limit, call_code, call_cell, call_value, call_row}
@@ -33,7 +33,7 @@ use Rattle.js_semantics.specs.Rows.{only, enter_row, block_row, chosen, kept_or,
 use Rattle.js_semantics.specs.Next.{Walked, all_values, moved, with_value, scope_in, around, next, walk}
 use Rattle.js_semantics.proofs.GiveLemmas.{GivesValues, put-gives, remove-gives, built_in-gives, type_of-gives, update_row-gives, function_row-gives}
 use Rattle.locations.specs.declared.marks.Marked.{Marked}
-use Rattle.arrivals.specs.Belonging.{FirstReturns, Closes, FormBelongs, Belongs, AllBelong, Sources, top_marks, sources_of, Stands, AllStand, MoveStands, TreeBelongs, ProgramBelongs}
+use Rattle.arrivals.specs.Belonging.{FirstReturns, Closes, FormBelongs, Belongs, AllBelong, Sources, behind_step, top_marks, sources_of, Stands, AllStand, MoveStands, TreeBelongs, ProgramBelongs}
 use Rattle.arrivals.proofs.PartLemmas.{finished-belongs, settled-belongs, settle-belongs, BelongsAction, gives-belongs, fail-belongs, result-belongs, enter-belongs, block-belongs, chosen-belongs, kept-belongs, otherwise-belongs, loop-belongs, for_in-belongs, enter_for_of-belongs, list-belongs, turn-belongs, comma-belongs, compound-belongs, callee-belongs, object-belongs, catch-belongs}
 use Rattle.arrivals.proofs.ReturnLemmas.{settle-returns, WalkKeeps, walk-keeps}
 
@@ -123,14 +123,14 @@ function_at-known R (t ∷ ts) source node h =
 mutual
   belongs-stands : (R : Sources) (outside : List Source) (t : Term) → Belongs (top_marks R outside) t → Stands R outside t outside
   belongs-stands R outside (done v) h = refl
-  belongs-stands R outside (standing v place) h = refl
+  belongs-stands R outside (standing v place) h = absurd h
   belongs-stands R outside (part (frame node a) now later) h = absurd h.0
   belongs-stands R outside (part f now later) h = (h.0, all-stand R outside now h.1, h.2)
 
   all-stand : (R : Sources) (outside : List Source) (ts : Terms) → AllBelong (top_marks R outside) ts → AllStand R outside ts outside
   all-stand R outside end h = refl
   all-stand R outside (more (done v) ts) h = all-stand R outside ts h.1
-  all-stand R outside (more (standing v place) ts) h = (refl, h.1)
+  all-stand R outside (more (standing v place) ts) h = absurd h.0
   all-stand R outside (more (part f now later) ts) h = (belongs-stands R outside (part f now later) h.0, h.1)
 
 -- ---- actions, by the frames before them
@@ -140,7 +140,7 @@ outer_of [] = []
 outer_of (source ∷ sources) = sources
 
 abbrev pub ActionStands : Sources → List Source → List Source → Action → Type 0
-ActionStands R outside all (go t) = Stands R outside t all
+ActionStands R outside all (go t) = Stands (behind_step R (Some went)) outside t all
 ActionStands R outside all (raise v) = all ≡ outside
 ActionStands R outside all (leave c) = all ≡ outside
 ActionStands R outside all (make c k) = (all ≡ outside) × ((a : Addr) → ActionStands R outside all (k a))
@@ -152,7 +152,7 @@ ActionStands R outside all (push_frame f k) = ActionStands R outside (f.source �
 ActionStands R outside all (pop_frame k) = ActionStands R outside (outer_of all) k
 
 pub action-stands : (R : Sources) (outside : List Source) (a : Action) → BelongsAction (top_marks R outside) a → ActionStands R outside outside a
-action-stands R outside (go t) h = belongs-stands R outside t h
+action-stands R outside (go t) h = belongs-stands (behind_step R (Some went)) outside t h
 action-stands R outside (raise v) h = refl
 action-stands R outside (leave c) h = refl
 action-stands R outside (make c k) h = (refl, λ a. action-stands R outside (k a) (h a))
@@ -173,7 +173,7 @@ rest-sources (f ∷ fs) = refl
 
 full_stands : (R : Sources) (outside : List Source) (b : Bool) (what : Counted) (s : State) (v : Value) → sources_of s.frames ≡ outside → MoveStands R outside (if b then is_full what s else raised_at v s)
 full_stands R outside true what s v e = tt
-full_stands R outside false what s v e = e
+full_stands R outside false what s v e = (e, refl)
 
 outside_stands : (R : Sources) (outside : List Source) (b : Bool) (s : State) (m : Move Term) → MoveStands R outside m → MoveStands R outside (if b then has_effect s else m)
 outside_stands R outside true s m h = tt
@@ -186,7 +186,7 @@ after_stands R outside s (full what) k e h = full_stands R outside (is_evaluatio
 
 pub perform-stands : (R : Sources) (outside : List Source) (a : Action) (s : State) → ActionStands R outside (sources_of s.frames) a → MoveStands R outside (perform a s)
 perform-stands R outside (go t) s h = h
-perform-stands R outside (raise v) s h = h
+perform-stands R outside (raise v) s h = (h, refl)
 perform-stands R outside (leave c) s h = h
 perform-stands R outside (make c k) s h = after_stands R outside s (make_cell s.world c) (λ a. perform (k a)) h.0 (λ a w. perform-stands R outside (k a) (with_world s w) (h.1 a))
 perform-stands R outside (write a c k) s h = after_stands R outside s (write_cell s.world a c) (λ x. perform k) h.0 (λ x w. perform-stands R outside k (with_world s w) h.1)
@@ -200,7 +200,7 @@ perform-stands R outside (pop_frame k) s h = perform-stands R outside k (record 
 
 entered-stands : (R : Sources) (outside : List Source) (scope : Addr) (ts : Terms) (c : FunctionCode) (source : Source) (a : Addr) (x : Value) (s : Addr) → KnownCode R source (Some c) → ActionStands R outside outside (with_functions scope ts (frame_entered c source a x s))
 entered-stands R outside scope end c source a x s h =
-    (source, h.0, closes-settled (R.marks source) c.form.node c.body h.1.0, all-stand R (source ∷ outside) (one (settle c.body)) (settle-belongs (R.marks source) c.body h.1.1, tt), tt)
+    (source, h.0, closes-settled (R.marks source) c.form.node c.body h.1.0, all-stand (behind_step R (Some went)) (source ∷ outside) (one (settle c.body)) (settle-belongs (R.marks source) c.body h.1.1, tt), tt)
 entered-stands R outside scope (more (part (function f) now later) ts) c source a x s h = (refl, λ d. (refl, entered-stands R outside scope ts c source a x s h))
 entered-stands R outside scope (more _ ts) c source a x s h = entered-stands R outside scope ts c source a x s h
 
@@ -353,7 +353,7 @@ taken-stands R outside scope f c now later parts i k = i.0
 -- ---- steps
 
 abbrev MovesStand : Sources → List Source → Move Terms → Type 0
-MovesStand R outside (goes ts s told) = AllStand R outside ts (sources_of s.frames)
+MovesStand R outside (goes ts s told) = AllStand (behind_step R (Some told)) outside ts (sources_of s.frames)
 MovesStand R outside (travels c s) = sources_of s.frames ≡ outside
 MovesStand R outside (has_effect s) = Unit {0}
 MovesStand R outside (is_full what s) = Unit {0}
@@ -376,8 +376,8 @@ values-before : (R : Sources) (outside : List Source) (ts : Terms) (all : List S
 values-before R outside ts all e h = subst (λ (x : List Source). AllStand R outside ts x) (sym e) (all-stand R outside ts h)
 
 inside-stands : (R : Sources) (outside : List Source) (ts : Terms) (m : Move Term) → AllBelong (top_marks R outside) ts → MoveStands R outside m → MovesStand R outside (inside (λ t. more t ts) m)
-inside-stands R outside ts (goes (done v) s told) k h = values-before R outside ts (sources_of s.frames) h k
-inside-stands R outside ts (goes (standing v place) s told) k h = (h, k)
+inside-stands R outside ts (goes (done v) s told) k h = values-before (behind_step R (Some told)) outside ts (sources_of s.frames) h k
+inside-stands R outside ts (goes (standing v place) s told) k h = (h.0, h.1, k)
 inside-stands R outside ts (goes (part f now later) s told) k h = (h, k)
 inside-stands R outside ts (travels c s) k h = h
 inside-stands R outside ts (has_effect s) k h = tt
@@ -387,7 +387,7 @@ around-stands : (R : Sources) (outside : List Source) (p : Program) (scope : Add
 around-stands R outside p scope f now later s (all_values vs) parts g i k h keep =
     perform-stands R outside (row p s scope f vs later) s (subst (λ (all : List Source). ActionStands R outside all (row p s scope f vs later)) (sym h) (row-stands R outside p s scope f vs now later parts g i k))
 around-stands R outside p scope f now later s (moved (goes ts t told)) parts g i k h keep =
-    settled_if R outside (all_done ts) f ts later parts (sources_of t.frames) refl (inside-keeps R outside f now ts later parts i keep) h k
+    settled_if (behind_step R (Some told)) outside (all_done ts) f ts later parts (sources_of t.frames) refl (inside-keeps R outside f now ts later parts i keep) h k
 around-stands R outside p scope f now later s (moved (travels c t)) parts g i k h keep =
     perform-stands R outside (taken scope f c later) t (subst (λ (all : List Source). ActionStands R outside all (taken scope f c later)) (sym h) (taken-stands R outside scope f c now later parts i k))
 around-stands R outside p scope f now later s (moved (has_effect t)) parts g i k h keep = tt
@@ -396,7 +396,7 @@ around-stands R outside p scope f now later s (moved (is_full what t)) parts g i
 mutual
   pub next-stands : (R : Sources) (outside : List Source) (p : Program) (scope : Addr) (t : Term) (s : State) → ProgramBelongs R p → Stands R outside t (sources_of s.frames) → MoveStands R outside (next p scope t s)
   next-stands R outside p scope (done v) s g h = h
-  next-stands R outside p scope (standing v place) s g h = h
+  next-stands R outside p scope (standing v place) s g h = h.0
   next-stands R outside p scope (part f now later) s g h =
       let o = opened R outside f now later (sources_of s.frames) h in
       around-stands R outside p scope f now later s (walk p (scope_in f scope) now s) o.0 g o.1 o.3

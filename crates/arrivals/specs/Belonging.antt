@@ -1,5 +1,6 @@
 -- Which source each part of a term belongs to: the places at which the run can arrive in a part are marks of its source.
-use Rattle.std.specs.Prelude.{◌≡◌, ◌⊎◌, ℕ, List, [], ◌∷◌}
+-- No throw stands in a part that waits; one that stands as the part about to be reduced was raised by the step before.
+use Rattle.std.specs.Prelude.{◌≡◌, ◌⊎◌, ℕ, List, [], ◌∷◌, Option, Some}
 use Rattle.js_semantics.specs.declared.form.Source.{Source}
 use Rattle.js_semantics.specs.declared.form.Source.TheVariants.{Script as script_source}
 use Rattle.js_semantics.specs.declared.form.Mark.{Mark}
@@ -7,7 +8,7 @@ use Rattle.js_semantics.specs.declared.form.Mark.TheVariants.{Start as start, Be
 use Rattle.js_semantics.specs.declared.form.Form.{Form}
 use Rattle.js_semantics.specs.declared.form.Form.TheVariants.{Scripts as scripts, Script as script, Sequence as sequence, Enter as enter, EnterDebugger as enter_debugger, EnterFor as enter_for, EnterForOf as enter_for_of, Frame as frame, Return as return_, Function as function, Method as method, Call as call, CallOf as call_of}
 use Rattle.js_semantics.specs.Terms.{Term, done, standing, part, Terms, end, more}
-use Rattle.js_semantics.specs.State.{Frame, Move, goes, travels, has_effect, is_full}
+use Rattle.js_semantics.specs.State.{Frame, Told, raised, Move, goes, travels, has_effect, is_full}
 use Rattle.js_semantics.specs.Functions.{Program}
 use Rattle.js_semantics.specs.Run.{Run, running, over}
 use Rattle.locations.specs.declared.spot.SpotKind.{SpotKind}
@@ -48,11 +49,11 @@ FormBelongs P (call place node) later = P (record { mark = place; kind = kinds.C
 FormBelongs P (call_of r place node) later = P (record { mark = place; kind = kinds.Call })
 FormBelongs P f later = Unit {0}
 
--- a part of a source with these marks that has no `frame`
+-- a part of a source with these marks that has no `frame`, and in which no throw stands
 abbrev mutual
   pub Belongs : (Marked → Type 0) → Term → Type 0
   Belongs P (done v) = Unit {0}
-  Belongs P (standing v place) = Unit {0}
+  Belongs P (standing v place) = ⊥
   Belongs P (part f now later) = FormBelongs P f later × AllBelong P now × AllBelong P later
 
   pub AllBelong : (Marked → Type 0) → Terms → Type 0
@@ -61,10 +62,15 @@ abbrev mutual
 
 -- ---- the part about to be reduced, and what is around it
 
--- the sources whose code runs, with their marks
+-- the sources whose code runs, with their marks, and what is known where a throw stands
 pub record Sources : Type 1 where
   pub runs : Source → Type 0
   pub marks : Source → Marked → Type 0
+  pub raises : Type 0
+
+-- the same behind a step that told this: a throw that stands was raised by it
+abbrev pub behind_step : Sources → Option Told → Sources
+behind_step R told = record R { raises = told ≡ Some raised }
 
 -- the source of the top frame
 abbrev pub top : List Source → Source
@@ -83,19 +89,19 @@ sources_of (f ∷ fs) = f.source ∷ sources_of fs
 abbrev mutual
   pub Stands : Sources → List Source → Term → List Source → Type 0
   Stands R around (done v) all = all ≡ around
-  Stands R around (standing v place) all = all ≡ around
+  Stands R around (standing v place) all = (all ≡ around) × R.raises
   Stands R around (part (frame node a) now later) all = (source : Source) × R.runs source × Closes (R.marks source) node now × AllStand R (source ∷ around) now all × AllBelong (top_marks R around) later
   Stands R around (part f now later) all = FormBelongs (top_marks R around) f later × AllStand R around now all × AllBelong (top_marks R around) later
 
   pub AllStand : Sources → List Source → Terms → List Source → Type 0
   AllStand R around end all = all ≡ around
   AllStand R around (more (done v) ts) all = AllStand R around ts all
-  AllStand R around (more (standing v place) ts) all = (all ≡ around) × AllBelong (top_marks R around) ts
+  AllStand R around (more (standing v place) ts) all = (all ≡ around) × R.raises × AllBelong (top_marks R around) ts
   AllStand R around (more (part f now later) ts) all = Stands R around (part f now later) all × AllBelong (top_marks R around) ts
 
 -- what a completion leaves behind has no frame any more
 abbrev pub MoveStands : Sources → List Source → Move Term → Type 0
-MoveStands R around (goes t s told) = Stands R around t (sources_of s.frames)
+MoveStands R around (goes t s told) = Stands (behind_step R (Some told)) around t (sources_of s.frames)
 MoveStands R around (travels c s) = sources_of s.frames ≡ around
 MoveStands R around (has_effect s) = Unit {0}
 MoveStands R around (is_full what s) = Unit {0}
@@ -131,7 +137,7 @@ ScriptStands R source t all = Stands R (source ∷ []) t all
 abbrev pub ScriptsStand : Sources → Source → Terms → List Source → Type 0
 ScriptsStand R source end all = all ≡ source ∷ []
 ScriptsStand R source (more (done v) ts) all = ScriptsStand R source ts all
-ScriptsStand R source (more (standing v place) ts) all = (all ≡ source ∷ []) × AllWait R ts
+ScriptsStand R source (more (standing v place) ts) all = (all ≡ source ∷ []) × R.raises × AllWait R ts
 ScriptsStand R source (more (part f now later) ts) all = ScriptStands R source (part f now later) all × AllWait R ts
 
 -- the term of a run of scripts

@@ -1,2 +1,3 @@
 pub mod Belonging
 pub mod Arrivals
+pub mod Raises
