@@ -1,0 +1,89 @@
+-- The JSON values of results and events (Chrome DevTools Protocol 1.3, domain Debugger).
+use Rattle.std.specs.Prelude.{ℕ, pos, List, [], ◌∷◌, ◌++◌, map, codes, decimal, Option, Some, None}
+use Rattle.cdp_text.specs.declared.position.Place.{Place}
+use Rattle.cdp_json.specs.Json.{Json, number, text, list, object, items_of, members_of}
+use Rattle.cdp_json.specs.Messages.{event_text}
+use Rattle.locations.specs.declared.spot.Spot.{Spot}
+use Rattle.locations.specs.declared.spot.SpotKind.{SpotKind}
+use Rattle.locations.specs.declared.spot.SpotKind.TheVariants as kinds
+use Rattle.breakpoints.specs.Resolving.{place_in}
+
+-- a key with its value
+abbrev pub Pair : Type 0
+Pair = List ℕ × Json
+
+abbrev pub object_of : List Pair → Json
+object_of pairs = object (members_of pairs)
+
+abbrev pub list_of : List Json → Json
+list_of values = list (items_of values)
+
+-- a result without members
+abbrev pub nothing : Json
+nothing = object_of []
+
+-- that of enabling the debugger
+abbrev pub debugger_id : Json
+debugger_id = object_of ((codes "debuggerId", text (codes "1")) ∷ [])
+
+-- ---- locations
+
+-- the members of a place: its column, its line and the id of its script
+abbrev pub place_pairs : Place → List Pair
+place_pairs p =
+    (codes "columnNumber", number (pos p.pos.col)) ∷ (codes "lineNumber", number (pos p.pos.line)) ∷ (codes "scriptId", text (decimal p.script)) ∷ []
+
+abbrev pub location : Place → Json
+location p = object_of (place_pairs p)
+
+-- the name of a kind of break locations; a plain one has none
+abbrev pub kind_name : SpotKind → Option (List ℕ)
+kind_name kinds.Plain = None
+kind_name kinds.Debugger = Some (codes "debuggerStatement")
+kind_name kinds.Return = Some (codes "return")
+kind_name kinds.Call = Some (codes "call")
+
+-- the member `type` of a break location, where its kind has a name
+abbrev pub name_pairs : Option (List ℕ) → List Pair
+name_pairs None = []
+name_pairs (Some name) = (codes "type", text name) ∷ []
+
+abbrev pub kind_pairs : SpotKind → List Pair
+kind_pairs kind = name_pairs (kind_name kind)
+
+-- a break location of the script of this number
+abbrev pub spot_location : ℕ → Spot → Json
+spot_location script s = object_of (place_pairs (place_in script s) ++ kind_pairs s.kind)
+
+-- break locations of the script of this number
+abbrev pub spot_locations : ℕ → List Spot → Json
+spot_locations script spots = object_of ((codes "locations", list_of (map (spot_location script) spots)) ∷ [])
+
+-- ---- breakpoints
+
+-- a breakpoint by URL that was set: its id, and where it resolved
+abbrev pub set_by_url : List ℕ → List Place → Json
+set_by_url id places = object_of ((codes "breakpointId", text id) ∷ (codes "locations", list_of (map location places)) ∷ [])
+
+-- a breakpoint at a location that was set
+abbrev pub set_at : List ℕ → Place → Json
+set_at id place = object_of ((codes "actualLocation", location place) ∷ (codes "breakpointId", text id) ∷ [])
+
+-- ---- sources
+
+abbrev pub script_source : List ℕ → Json
+script_source source = object_of ((codes "scriptSource", text source) ∷ [])
+
+-- ---- events
+
+-- the program stopped: the ids of the breakpoints that it hit, and why; its frames aren't listed yet
+abbrev pub paused_params : List (List ℕ) → List ℕ → Json
+paused_params hits reason =
+    object_of ((codes "callFrames", list_of []) ∷ (codes "hitBreakpoints", list_of (map text hits)) ∷ (codes "reason", text reason) ∷ [])
+
+abbrev pub paused_text : List (List ℕ) → List ℕ → List ℕ
+paused_text hits reason = event_text (codes "Debugger.paused") (paused_params hits reason)
+
+-- the program went on
+abbrev pub resumed_text : List ℕ
+resumed_text = event_text (codes "Debugger.resumed") nothing

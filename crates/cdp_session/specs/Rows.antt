@@ -1,0 +1,189 @@
+-- What each method does to its session, and what it answers (Chrome DevTools Protocol 1.3).
+use Rattle.std.specs.Prelude.{ℕ, List, [], ◌∷◌, Bool, true, not, ◌&&◌, codes, filter, is_some, if◌then◌else◌, Option, Some, None}
+use Rattle.cdp_text.specs.declared.position.Pos.{Pos}
+use Rattle.cdp_text.specs.declared.position.Place.{Place}
+use Rattle.js_tree.specs.declared.script.Script.{Script}
+use Rattle.cdp_json.specs.Json.{Json}
+use Rattle.cdp_json.specs.declared.params.Location.{Location}
+use Rattle.cdp_json.specs.declared.params.ExceptionPauses.{ExceptionPauses}
+use Rattle.cdp_json.specs.declared.params.ExceptionPauses.TheVariants as pauses
+use Rattle.cdp_json.specs.declared.params.Params.{Params}
+use Rattle.cdp_json.specs.declared.params.Params.TheVariants as params
+use Rattle.cdp_json.specs.declared.refusal.Refusal.{Refusal}
+use Rattle.cdp_json.specs.declared.refusal.Refusal.TheVariants as refusals
+use Rattle.stepping.specs.declared.rules.StepKind.{StepKind}
+use Rattle.stepping.specs.declared.rules.StepKind.TheVariants as kinds
+use Rattle.stepping.specs.declared.rules.Exceptions.{Exceptions}
+use Rattle.stepping.specs.declared.rules.Exceptions.TheVariants as throws
+use Rattle.stepping.specs.Rules.{no_rules}
+use Rattle.locations.specs.Locations.{break_locations}
+use Rattle.locations.specs.Search.{is_between}
+use Rattle.breakpoints.specs.Breakpoints.{breakpoint_of, fault_of, none_set, with_breakpoint, without}
+use Rattle.breakpoints.specs.Ids.{place_id, url_id}
+use Rattle.breakpoints.specs.Resolving.{resolved_at, resolved_by_url, resolved_in}
+use Rattle.breakpoints.specs.declared.fault.AddFault.{AddFault}
+use Rattle.breakpoints.specs.declared.fault.AddFault.TheVariants as faults
+use Rattle.cdp_session.specs.Situations.{Situation, script_of}
+use Rattle.cdp_session.specs.Sessions.{Session, with_rules, with_breakpoints}
+use Rattle.cdp_session.specs.Results.{nothing, debugger_id, set_by_url, set_at, spot_locations, script_source, paused_text}
+use Rattle.cdp_session.specs.declared.situation.Pause.{Pause}
+use Rattle.cdp_session.specs.declared.asks.Asks.{Asks}
+use Rattle.cdp_session.specs.declared.asks.Asks.TheVariants.{Nothing, Resume, Leave}
+
+-- what a method that is done leaves: its session, its result, the events behind the reply, and what it asks of the program
+pub record Done : Type 0 where
+  pub session : Session
+  pub result : Json
+  pub events : List (List ℕ)
+  pub asks : Asks
+
+-- a method is refused, and changes nothing, or it is done
+pub data Row : Type 0 where
+  Refuses : Refusal → Row
+  Does : Done → Row
+
+-- done, with this result and no event
+abbrev pub answers : Json → Session → Row
+answers result x = Does (record { session = x; result = result; events = []; asks = Nothing })
+
+-- done, with nothing to answer
+abbrev pub does : Session → Row
+does x = answers nothing x
+
+-- done, with nothing to answer, and this is asked of the program
+abbrev pub asking : Asks → Session → Row
+asking asks x = Does (record { session = x; result = nothing; events = []; asks = asks })
+
+-- done, and the program goes on
+abbrev pub resumes : Session → Row
+resumes x = asking Resume x
+
+-- ---- the debugger
+
+-- enabling it anew while the program is paused tells of the pause, which none of the session's rules named
+abbrev pub enable : Situation → Session → Row
+enable s x = Does (record {
+  session = with_rules (record x.rules { enabled = true }) x;
+  result = debugger_id;
+  events = if is_some s.paused && not x.rules.enabled then paused_text [] (codes "other") ∷ [] else [];
+  asks = Nothing;
+})
+
+-- disabling it forgets what the session asked for, and the program isn't paused for this session any more
+abbrev pub disable : Session → Row
+disable x = asking Leave (with_rules no_rules (with_breakpoints none_set x))
+
+-- a pause is asked for, unless the program is paused
+abbrev pub pause : Situation → Session → Row
+pause s x = does (if is_some s.paused then x else with_rules (record x.rules { pause = true }) x)
+
+-- a step of this kind from where the program is paused
+abbrev pub step_from : StepKind → Option Pause → Session → Row
+step_from kind None x = Refuses refusals.NotPaused
+step_from kind (Some at) x = resumes (with_rules (record x.rules { step = Some (record { kind = kind; depth = at.depth }) }) x)
+
+-- ---- places in scripts
+
+-- what becomes of a script of this id; where there is none, that is the refusal
+abbrev pub in_script : Option Script → List ℕ → (Script → Row) → Row
+in_script None id f = Refuses (refusals.UnknownScript id)
+in_script (Some s) id f = f s
+
+-- the program runs on to this place, if there is one
+abbrev pub continue_at : Session → Option Place → Row
+continue_at x None = Refuses refusals.Unresolved
+continue_at x (Some place) = resumes (with_rules (record x.rules { to = Some place }) x)
+
+abbrev pub continue_to : Situation → Session → Location → Row
+continue_to s x at = in_script (script_of at.script_id s.scripts) at.script_id (λ script. continue_at x (resolved_in at.position script))
+
+abbrev pub end_of : Option Location → Option Pos
+end_of None = None
+end_of (Some at) = Some at.position
+
+-- the break locations of a script from a start to before an end
+abbrev pub possible_in : Session → Pos → Option Pos → Script → Row
+possible_in x start end script = answers (spot_locations script.number (filter (is_between start end) (break_locations script))) x
+
+abbrev pub possible : Situation → Session → Location → Option Location → Row
+possible s x start end = in_script (script_of start.script_id s.scripts) start.script_id (possible_in x start.position (end_of end))
+
+abbrev pub source_in : Session → Script → Row
+source_in x script = answers (script_source script.source) x
+
+abbrev pub source : Situation → Session → List ℕ → Row
+source s x id = in_script (script_of id s.scripts) id (source_in x)
+
+-- ---- breakpoints
+
+-- the refusal for a fault; want of memory is none
+abbrev pub refusal_for : AddFault → Refusal
+refusal_for faults.Unresolved = refusals.Unresolved
+refusal_for (faults.Exists id) = refusals.BreakpointExists
+refusal_for (faults.Full count) = refusals.BreakpointsFull count
+refusal_for faults.Memory = refusals.Unresolved
+
+-- a breakpoint more, unless there is a fault
+abbrev pub adds : Option AddFault → Session → List ℕ → Option (List ℕ) → List Place → Json → Row
+adds None x id condition places result = answers result (with_breakpoints (with_breakpoint (breakpoint_of id condition places) x.breakpoints) x)
+adds (Some fault) x id condition places result = Refuses (refusal_for fault)
+
+abbrev pub add_by_url : Situation → Session → List ℕ → Pos → Option (List ℕ) → Row
+add_by_url s x url p condition =
+    adds (fault_of (url_id p url) x.breakpoints) x (url_id p url) condition (resolved_by_url url p s.scripts) (set_by_url (url_id p url) (resolved_by_url url p s.scripts))
+
+-- a breakpoint at a place that resolved so, if it did
+abbrev pub adds_at : Session → Place → Option (List ℕ) → Option Place → Row
+adds_at x place condition None = Refuses refusals.Unresolved
+adds_at x place condition (Some resolved) = adds (fault_of (place_id place) x.breakpoints) x (place_id place) condition (resolved ∷ []) (set_at (place_id place) resolved)
+
+-- the place of a position in a script
+abbrev pub placed_in : Pos → Script → Place
+placed_in p script = record { script = script.number; pos = p }
+
+abbrev pub add_in : Situation → Session → Pos → Option (List ℕ) → Script → Row
+add_in s x p condition script = adds_at x (placed_in p script) condition (resolved_at (placed_in p script) s.scripts)
+
+abbrev pub add_at : Situation → Session → Location → Option (List ℕ) → Row
+add_at s x at condition = in_script (script_of at.script_id s.scripts) at.script_id (add_in s x at.position condition)
+
+-- an id that no breakpoint has changes nothing
+abbrev pub remove : Session → List ℕ → Row
+remove x id = does (with_breakpoints (without id x.breakpoints) x)
+
+abbrev pub set_active : Session → Bool → Row
+set_active x active = does (with_breakpoints (record x.breakpoints { active = active }) x)
+
+-- ---- flags
+
+abbrev pub set_skip : Session → Bool → Row
+set_skip x skip = does (with_rules (record x.rules { skip = skip }) x)
+
+abbrev pub throws_of : ExceptionPauses → Exceptions
+throws_of pauses.Never = throws.Never
+throws_of pauses.Uncaught = throws.Uncaught
+throws_of pauses.All = throws.All
+
+abbrev pub set_throws : Session → ExceptionPauses → Row
+set_throws x state = does (with_rules (record x.rules { exceptions = throws_of state }) x)
+
+-- ---- all of them
+
+abbrev pub row : Situation → Session → Params → Row
+row s x params.DebuggerEnable = enable s x
+row s x params.DebuggerDisable = disable x
+row s x params.Pause = pause s x
+row s x params.Resume = resumes x
+row s x params.StepInto = step_from kinds.Into s.paused x
+row s x params.StepOver = step_from kinds.Over s.paused x
+row s x params.StepOut = step_from kinds.Out s.paused x
+row s x (params.ContinueToLocation at) = continue_to s x at
+row s x (params.SetBreakpointByUrl url p condition) = add_by_url s x url p condition
+row s x (params.SetBreakpoint at condition) = add_at s x at condition
+row s x (params.RemoveBreakpoint id) = remove x id
+row s x (params.SetBreakpointsActive active) = set_active x active
+row s x (params.SetSkipAllPauses skip) = set_skip x skip
+row s x (params.SetPauseOnExceptions state) = set_throws x state
+row s x params.SetAsyncCallStackDepth = does x
+row s x (params.GetPossibleBreakpoints start end) = possible s x start end
+row s x (params.GetScriptSource id) = source s x id

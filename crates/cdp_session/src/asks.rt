@@ -1,0 +1,12 @@
+//! What a command asks of the program.
+
+/// What a command asks of the program besides its answer.
+#[derive(Clone, Copy, Debug, PartialEq, Eq)]
+pub enum Asks {
+    /// Nothing.
+    Nothing,
+    /// To go on, from where it is paused.
+    Resume,
+    /// The session doesn't debug it any more: to go on, where no other session has the debugger enabled.
+    Leave,
+}

@@ -1,0 +1,189 @@
+//! The JSON values of results (Chrome DevTools Protocol 1.3, domain Debugger).
+
+ghost use Rattle.std.specs.Prelude.{◌≡◌, ◌∷◌, ◌++◌, [], pos, map, decimal, IfOk, OnOk, option_map};
+ghost use Rattle.cdp_json.specs.Json as json;
+ghost use Rattle.cdp_json.specs.Views.{json_view, member_view};
+ghost use Rattle.cdp_session.specs.Results as results;
+
+use cdp_json::value::{Json, Member, list, number, object, text};
+use cdp_text::position::{Place, Pos};
+use cdp_text::units::{Units, ascii};
+use locations::spot::{Spot, SpotKind};
+use std::alloc::{AllocError, Global};
+
+// ---- parts
+
+/// A text of ASCII.
+pub(crate) fn ascii_text(alloc: Global, bytes: &[u8]) -> Result<Json, AllocError>
+    ensures { IfOk result (λ j. json_view j ≡ json.text bytes.now) }
+{
+    Ok(text(ascii(alloc, bytes)?))
+}
+
+/// A copy of a text.
+fn copied_text(alloc: Global, units: &[u16]) -> Result<Json, AllocError>
+    ensures { IfOk result (λ j. json_view j ≡ json.text units.now) }
+{
+    Ok(text(Units::from_slice(alloc, units)?))
+}
+
+/// A member of this key, which is ASCII.
+pub(crate) fn member(alloc: Global, key: &[u8], value: Json) -> Result<Member, AllocError>
+    ensures { IfOk result (λ m. member_view m ≡ (key.now, json_view value)) }
+{
+    let key = ascii(alloc, key)?;
+    Ok(Member::new(key, value))
+}
+
+/// A member whose value is a line or a column.
+fn coordinate(alloc: Global, key: &[u8], value: u32) -> Result<Member, AllocError>
+    ensures { IfOk result (λ m. member_view m ≡ (key.now, json.number (pos value))) }
+{
+    member(alloc, key, number(i64::from(value)))
+}
+
+/// The id of a script.
+fn script_id(alloc: Global, script: u32) -> Result<Json, AllocError>
+    ensures { IfOk result (λ j. json_view j ≡ json.text (decimal script)) }
+{
+    let digits = format!(in alloc; "{script}")?;
+    ascii_text(alloc, digits.as_bytes())
+}
+
+/// An object of one member.
+pub(crate) fn object_of_one(alloc: Global, only: Member) -> Result<Json, AllocError>
+    ensures { IfOk result (λ j. json_view j ≡ results.object_of (member_view only ∷ [])) }
+{
+    Ok(object(vec![in alloc; only]?))
+}
+
+/// A result without members.
+pub(crate) fn nothing(alloc: Global) -> Json
+    ensures { json_view result ≡ results.nothing }
+{
+    object(Vec::new(alloc))
+}
+
+/// The result of enabling the debugger.
+pub(crate) fn debugger_id(alloc: Global) -> Result<Json, AllocError>
+    ensures { IfOk result (λ j. json_view j ≡ results.debugger_id) }
+{
+    let id = ascii_text(alloc, b"1")?;
+    object_of_one(alloc, member(alloc, b"debuggerId", id)?)
+}
+
+// ---- locations
+
+/// The members of a place: its column, its line and the id of its script.
+fn place_members(alloc: Global, place: Place) -> Result<Vec<Member>, AllocError>
+    ensures { IfOk result (λ ms. map member_view ms.items ≡ results.place_pairs place) }
+{
+    let id = script_id(alloc, place.script)?;
+    let script = member(alloc, b"scriptId", id)?;
+    let line = coordinate(alloc, b"lineNumber", place.pos.line)?;
+    let column = coordinate(alloc, b"columnNumber", place.pos.col)?;
+    Ok(vec![in alloc; column, line, script]?)
+}
+
+/// A place.
+fn location(alloc: Global, place: Place) -> Result<Json, AllocError>
+    ensures { IfOk result (λ j. json_view j ≡ results.location place) }
+{
+    Ok(object(place_members(alloc, place)?))
+}
+
+/// Places, in order.
+fn locations(alloc: Global, places: &[Place]) -> Result<Json, AllocError>
+    ensures { IfOk result (λ j. json_view j ≡ results.list_of (map results.location places.now)) }
+{
+    let mut values = Vec::with_capacity(alloc, places.len())?;
+    for place in places {
+        values.push(location(alloc, *place)?)?;
+    }
+    Ok(list(values))
+}
+
+/// The name of a kind of break locations; a plain one has none.
+fn kind_name(kind: SpotKind) -> Option<&'static [u8]>
+    ensures { option_map (λ n. n.now) result ≡ results.kind_name kind }
+{
+    match kind {
+        SpotKind::Plain => None,
+        SpotKind::Debugger => Some(b"debuggerStatement"),
+        SpotKind::Return => Some(b"return"),
+        SpotKind::Call => Some(b"call"),
+    }
+}
+
+/// Puts the type of a break location behind other members, if it has one.
+fn put_kind(members: &mut Vec<Member>, kind: SpotKind) -> Result<(), AllocError>
+    ensures { OnOk result (map member_view members.new.items ≡ map member_view members.old.items ++ results.kind_pairs kind) }
+{
+    let alloc = *members.allocator();
+    if let Some(name) = kind_name(kind) {
+        let value = ascii_text(alloc, name)?;
+        members.push(member(alloc, b"type", value)?)?;
+    }
+    Ok(())
+}
+
+/// A break location of the script of this number.
+fn spot_location(alloc: Global, script: u32, spot: &Spot) -> Result<Json, AllocError>
+    ensures { IfOk result (λ j. json_view j ≡ results.spot_location script spot.now) }
+{
+    let pos = spot.pos;
+    let mut members = place_members(alloc, Place { script, pos })?;
+    put_kind(&mut members, spot.kind)?;
+    Ok(object(members))
+}
+
+/// Break locations of the script of this number, in order.
+fn spot_list(alloc: Global, script: u32, spots: &[Spot]) -> Result<Json, AllocError>
+    ensures { IfOk result (λ j. json_view j ≡ results.list_of (map (results.spot_location script) spots.now)) }
+{
+    let mut values = Vec::with_capacity(alloc, spots.len())?;
+    for spot in spots {
+        values.push(spot_location(alloc, script, spot)?)?;
+    }
+    Ok(list(values))
+}
+
+/// The result that lists break locations of the script of this number.
+pub(crate) fn spot_locations(alloc: Global, script: u32, spots: &[Spot]) -> Result<Json, AllocError>
+    ensures { IfOk result (λ j. json_view j ≡ results.spot_locations script spots.now) }
+{
+    let listed = spot_list(alloc, script, spots)?;
+    object_of_one(alloc, member(alloc, b"locations", listed)?)
+}
+
+// ---- breakpoints
+
+/// The result of setting a breakpoint by URL: its id, and where it resolved.
+pub(crate) fn set_by_url(alloc: Global, id: Units, places: &[Place]) -> Result<Json, AllocError>
+    ensures { IfOk result (λ j. json_view j ≡ results.set_by_url id places.now) }
+{
+    let listed = locations(alloc, places)?;
+    let second = member(alloc, b"locations", listed)?;
+    let first = member(alloc, b"breakpointId", text(id))?;
+    Ok(object(vec![in alloc; first, second]?))
+}
+
+/// The result of setting a breakpoint at a location: where it resolved, and its id.
+pub(crate) fn set_at(alloc: Global, id: Units, place: Place) -> Result<Json, AllocError>
+    ensures { IfOk result (λ j. json_view j ≡ results.set_at id place) }
+{
+    let resolved = location(alloc, place)?;
+    let first = member(alloc, b"actualLocation", resolved)?;
+    let second = member(alloc, b"breakpointId", text(id))?;
+    Ok(object(vec![in alloc; first, second]?))
+}
+
+// ---- sources
+
+/// The result that has a script's source.
+pub(crate) fn script_source(alloc: Global, source: &[u16]) -> Result<Json, AllocError>
+    ensures { IfOk result (λ j. json_view j ≡ results.script_source source.now) }
+{
+    let copy = copied_text(alloc, source)?;
+    object_of_one(alloc, member(alloc, b"scriptSource", copy)?)
+}

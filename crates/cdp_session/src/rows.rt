@@ -1,0 +1,353 @@
+//! What each method does (Chrome DevTools Protocol 1.3, domain Debugger).
+
+ghost use Rattle.std.specs.Prelude.{◌≡◌, ◌&&◌, [], not, codes, map, IfOk, if◌then◌else◌, option_to_list, string_bytes, ◌∷◌};
+ghost use Rattle.cdp_session.specs.Situations.{HasSpots, seen};
+ghost use Rattle.breakpoints.specs.Resolving.{resolved_at};
+ghost use Rattle.cdp_json.specs.Views.{json_view};
+ghost use Rattle.cdp_session.specs.Results as results;
+ghost use Rattle.cdp_session.specs.Made.{made_fault, KeepsIfRefused, Makes};
+ghost use Rattle.cdp_session.specs.Rows as rows;
+ghost use Rattle.cdp_session.specs.Rows.{end_of, throws_of};
+
+use crate::asks::Asks;
+use crate::done::{Done, Fault};
+use crate::events::paused_text;
+use crate::finding::find_script;
+use crate::results::{debugger_id, nothing, script_source, set_at, set_by_url, spot_locations};
+use crate::session::Session;
+use crate::situation::{Pause, Situation};
+use breakpoints::breakpoints::Breakpoints;
+use breakpoints::fault::AddFault;
+use breakpoints::ids::{place_id, url_id};
+use cdp_json::params::{ExceptionPauses, Location, Params};
+use cdp_json::refusal::Refusal;
+use cdp_json::value::Json;
+use cdp_text::position::{Place, Pos};
+use cdp_text::units::Units;
+use locations::spot::{between, first_at_or_after};
+use std::alloc::{AllocError, Global};
+use stepping::rules::{Exceptions, Rules, StepKind, StepRequest};
+
+/// The throws at which a session wants the program to stop.
+fn throws_of(state: ExceptionPauses) -> Exceptions
+    ensures { result ≡ throws_of state }
+{
+    match state {
+        ExceptionPauses::Never => Exceptions::Never,
+        ExceptionPauses::Uncaught => Exceptions::Uncaught,
+        ExceptionPauses::All => Exceptions::All,
+    }
+}
+
+/// The position at which a range ends, if it has an end.
+fn end_of(end: Option<Location>) -> Option<Pos>
+    ensures { result ≡ end_of end }
+{
+    match end {
+        Some(end) => Some(end.position),
+        None => None,
+    }
+}
+
+/// A fault of setting a breakpoint, as one of its command.
+fn fault_of(fault: AddFault) -> Fault
+    ensures { result ≡ made_fault fault }
+{
+    match fault {
+        AddFault::Unresolved => Fault::Refused(Refusal::Unresolved),
+        AddFault::Exists { .. } => Fault::Refused(Refusal::BreakpointExists),
+        AddFault::Full { count } => Fault::Refused(Refusal::BreakpointsFull { count }),
+        AddFault::Memory => Fault::Memory,
+    }
+}
+
+/// Done, with this to answer.
+fn answering(answer: Json) -> Done
+    ensures { result ≡ record { answer = answer; event = None; asks = Asks.Nothing } }
+{
+    Done {
+        answer,
+        event: None,
+        asks: Asks::Nothing,
+    }
+}
+
+/// Done, with nothing to answer.
+fn done(alloc: Global) -> Done
+    ensures answer { json_view result.answer ≡ results.nothing }
+    ensures event { result.event ≡ None }
+    ensures asks { result.asks ≡ Asks.Nothing }
+{
+    answering(nothing(alloc))
+}
+
+/// Done, with nothing to answer, and this is asked of the program.
+fn asking(alloc: Global, asks: Asks) -> Done
+    ensures answer { json_view result.answer ≡ results.nothing }
+    ensures event { result.event ≡ None }
+    ensures asks { result.asks ≡ asks }
+{
+    Done {
+        answer: nothing(alloc),
+        event: None,
+        asks,
+    }
+}
+
+/// What is told of a pause by enabling the debugger, where it wasn't enabled.
+fn pause_told(alloc: Global, paused: bool, enabled: bool) -> Result<Option<String>, AllocError>
+    ensures { IfOk result (λ event. map string_bytes (option_to_list event) ≡ (if paused && not enabled then results.paused_text [] (codes "other") ∷ [] else [])) }
+{
+    if paused && !enabled {
+        Ok(Some(paused_text(alloc, Vec::new(alloc), b"other")?))
+    } else {
+        Ok(None)
+    }
+}
+
+impl Session {
+    /// Does what a command asks for that isn't refused for the state of its session or of the program.
+    pub(crate) fn act(&mut self, situation: &Situation<'_>, params: Params) -> Result<Done, Fault>
+        requires { HasSpots situation.now }
+        ensures made { Makes result self.new (rows.row (seen situation.now) self.old params) }
+        ensures kept { KeepsIfRefused result self.old self.new }
+    {
+        match params {
+            Params::DebuggerEnable => self.enable(situation),
+            Params::DebuggerDisable => self.disable(),
+            Params::Pause => self.pause(situation),
+            Params::Resume => Ok(asking(self.alloc, Asks::Resume)),
+            Params::StepInto => self.step_from(StepKind::Into, situation.paused),
+            Params::StepOver => self.step_from(StepKind::Over, situation.paused),
+            Params::StepOut => self.step_from(StepKind::Out, situation.paused),
+            Params::ContinueToLocation { location } => self.continue_to(situation, location),
+            Params::SetBreakpointByUrl {
+                url,
+                position,
+                condition,
+            } => self.add_by_url(situation, url, position, condition),
+            Params::SetBreakpoint {
+                location,
+                condition,
+            } => self.add_at(situation, location, condition),
+            Params::RemoveBreakpoint { breakpoint_id } => self.remove(breakpoint_id),
+            Params::SetBreakpointsActive { active } => self.set_active(active),
+            Params::SetSkipAllPauses { skip } => self.set_skip(skip),
+            Params::SetPauseOnExceptions { state } => self.set_throws(state),
+            Params::SetAsyncCallStackDepth => Ok(done(self.alloc)),
+            Params::GetPossibleBreakpoints { start, end } => self.possible(situation, start, end),
+            Params::GetScriptSource { script_id } => self.source(situation, script_id),
+        }
+    }
+
+    /// `Debugger.enable`
+    fn enable(&mut self, situation: &Situation<'_>) -> Result<Done, Fault>
+        ensures made { Makes result self.new (rows.enable (seen situation.now) self.old) }
+        ensures kept { KeepsIfRefused result self.old self.new }
+    {
+        let event = pause_told(self.alloc, situation.paused.is_some(), self.rules.enabled)?;
+        let answer = debugger_id(self.alloc)?;
+        self.rules.enabled = true;
+        Ok(Done {
+            answer,
+            event,
+            asks: Asks::Nothing,
+        })
+    }
+
+    /// `Debugger.disable`
+    fn disable(&mut self) -> Result<Done, Fault>
+        ensures made { Makes result self.new (rows.disable self.old) }
+        ensures kept { KeepsIfRefused result self.old self.new }
+    {
+        self.rules = Rules::new();
+        self.breakpoints = Breakpoints::new(self.alloc);
+        Ok(asking(self.alloc, Asks::Leave))
+    }
+
+    /// `Debugger.pause`
+    fn pause(&mut self, situation: &Situation<'_>) -> Result<Done, Fault>
+        ensures made { Makes result self.new (rows.pause (seen situation.now) self.old) }
+        ensures kept { KeepsIfRefused result self.old self.new }
+    {
+        if situation.paused.is_none() {
+            self.rules.pause = true;
+        }
+        Ok(done(self.alloc))
+    }
+
+    /// `Debugger.stepInto`, `stepOver` and `stepOut`: a step from where the program is paused.
+    fn step_from(&mut self, kind: StepKind, paused: Option<Pause>) -> Result<Done, Fault>
+        ensures made { Makes result self.new (rows.step_from kind paused self.old) }
+        ensures kept { KeepsIfRefused result self.old self.new }
+    {
+        match paused {
+            Some(at) => {
+                self.rules.step = Some(StepRequest {
+                    kind,
+                    depth: at.depth,
+                });
+                Ok(asking(self.alloc, Asks::Resume))
+            }
+            None => Err(Fault::Refused(Refusal::NotPaused)),
+        }
+    }
+
+    /// `Debugger.continueToLocation`
+    fn continue_to(&mut self, situation: &Situation<'_>, location: Location) -> Result<Done, Fault>
+        requires { HasSpots situation.now }
+        ensures made { Makes result self.new (rows.continue_to (seen situation.now) self.old location) }
+        ensures kept { KeepsIfRefused result self.old self.new }
+    {
+        let Location {
+            script_id,
+            position,
+        } = location;
+        let found = find_script(self.alloc, situation, script_id)?;
+        match first_at_or_after(found.spots, position) {
+            Some(spot) => {
+                self.rules.to = Some(Place {
+                    script: found.script.number,
+                    pos: spot.pos,
+                });
+                Ok(asking(self.alloc, Asks::Resume))
+            }
+            None => Err(Fault::Refused(Refusal::Unresolved)),
+        }
+    }
+
+    /// `Debugger.setBreakpointByUrl`
+    fn add_by_url(
+        &mut self,
+        situation: &Situation<'_>,
+        url: Units,
+        position: Pos,
+        condition: Option<Units>,
+    ) -> Result<Done, Fault>
+        requires { HasSpots situation.now }
+        ensures made { Makes result self.new (rows.add_by_url (seen situation.now) self.old url position condition) }
+        ensures kept { KeepsIfRefused result self.old self.new }
+    {
+        let id = url_id(self.alloc, position, url.as_slice())?;
+        match self.breakpoints.add_by_url(
+            situation.scripts,
+            situation.spots,
+            url.as_slice(),
+            position,
+            condition,
+        ) {
+            Ok(places) => Ok(answering(set_by_url(self.alloc, id, &places)?)),
+            Err(fault) => Err(fault_of(fault)),
+        }
+    }
+
+    /// `Debugger.setBreakpoint`
+    fn add_at(
+        &mut self,
+        situation: &Situation<'_>,
+        location: Location,
+        condition: Option<Units>,
+    ) -> Result<Done, Fault>
+        requires { HasSpots situation.now }
+        ensures made { Makes result self.new (rows.add_at (seen situation.now) self.old location condition) }
+        ensures kept { KeepsIfRefused result self.old self.new }
+    {
+        let Location {
+            script_id,
+            position,
+        } = location;
+        let found = find_script(self.alloc, situation, script_id)?;
+        let place = Place {
+            script: found.script.number,
+            pos: position,
+        };
+        self.add_in(situation, place, condition)
+    }
+
+    /// The same at a place.
+    fn add_in(
+        &mut self,
+        situation: &Situation<'_>,
+        place: Place,
+        condition: Option<Units>,
+    ) -> Result<Done, Fault>
+        requires { HasSpots situation.now }
+        ensures made { Makes result self.new (rows.adds_at self.old place condition (resolved_at place situation.now.scripts.now)) }
+        ensures kept { KeepsIfRefused result self.old self.new }
+    {
+        let id = place_id(self.alloc, place)?;
+        match self
+            .breakpoints
+            .add_at(situation.scripts, situation.spots, place, condition)
+        {
+            Ok(resolved) => Ok(answering(set_at(self.alloc, id, resolved)?)),
+            Err(fault) => Err(fault_of(fault)),
+        }
+    }
+
+    /// `Debugger.removeBreakpoint`
+    fn remove(&mut self, id: Units) -> Result<Done, Fault>
+        ensures made { Makes result self.new (rows.remove self.old id) }
+        ensures kept { KeepsIfRefused result self.old self.new }
+    {
+        self.breakpoints.remove(id.as_slice());
+        Ok(done(self.alloc))
+    }
+
+    /// `Debugger.setBreakpointsActive`
+    fn set_active(&mut self, active: bool) -> Result<Done, Fault>
+        ensures made { Makes result self.new (rows.set_active self.old active) }
+        ensures kept { KeepsIfRefused result self.old self.new }
+    {
+        self.breakpoints.set_active(active);
+        Ok(done(self.alloc))
+    }
+
+    /// `Debugger.setSkipAllPauses`
+    fn set_skip(&mut self, skip: bool) -> Result<Done, Fault>
+        ensures made { Makes result self.new (rows.set_skip self.old skip) }
+        ensures kept { KeepsIfRefused result self.old self.new }
+    {
+        self.rules.skip = skip;
+        Ok(done(self.alloc))
+    }
+
+    /// `Debugger.setPauseOnExceptions`
+    fn set_throws(&mut self, state: ExceptionPauses) -> Result<Done, Fault>
+        ensures made { Makes result self.new (rows.set_throws self.old state) }
+        ensures kept { KeepsIfRefused result self.old self.new }
+    {
+        self.rules.exceptions = throws_of(state);
+        Ok(done(self.alloc))
+    }
+
+    /// `Debugger.getPossibleBreakpoints`
+    fn possible(
+        &mut self,
+        situation: &Situation<'_>,
+        start: Location,
+        end: Option<Location>,
+    ) -> Result<Done, Fault>
+        requires { HasSpots situation.now }
+        ensures made { Makes result self.new (rows.possible (seen situation.now) self.old start end) }
+        ensures kept { KeepsIfRefused result self.old self.new }
+    {
+        let Location {
+            script_id,
+            position,
+        } = start;
+        let found = find_script(self.alloc, situation, script_id)?;
+        let spots = between(found.spots, position, end_of(end));
+        Ok(answering(spot_locations(self.alloc, found.script.number, spots)?))
+    }
+
+    /// `Debugger.getScriptSource`
+    fn source(&mut self, situation: &Situation<'_>, script_id: Units) -> Result<Done, Fault>
+        requires { HasSpots situation.now }
+        ensures made { Makes result self.new (rows.source (seen situation.now) self.old script_id) }
+        ensures kept { KeepsIfRefused result self.old self.new }
+    {
+        let found = find_script(self.alloc, situation, script_id)?;
+        Ok(answering(script_source(self.alloc, found.script.source.as_slice())?))
+    }
+}

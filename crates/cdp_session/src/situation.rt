@@ -1,0 +1,24 @@
+//! What a command sees of the program.
+
+use breakpoints::script_spots::ScriptSpots;
+use js_tree::script::Script;
+
+/// Where the program is paused.
+#[derive(Clone, Copy, Debug, PartialEq, Eq)]
+pub struct Pause {
+    /// The number of the stop, from 1.
+    pub number: u64,
+    /// How many calls are active.
+    pub depth: usize,
+}
+
+/// What a command sees of the program.
+#[derive(Clone, Copy)]
+pub struct Situation<'p> {
+    /// Its scripts, in order.
+    pub scripts: &'p [Script],
+    /// The break locations of the scripts.
+    pub spots: &'p ScriptSpots,
+    /// Where it is paused, if it is.
+    pub paused: Option<Pause>,
+}
