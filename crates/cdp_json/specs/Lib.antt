@@ -4,8 +4,10 @@ pub mod Compact
 pub mod Json
 pub mod KeyOrder
 pub mod Members
+pub mod MessageForm
 pub mod Messages
 pub mod Methods
 pub mod Parameters
+pub mod ReadBack
 pub mod Refusals
 pub mod Views
