@@ -5,3 +5,4 @@ pub mod OrderLemmas
 pub mod ReadBackLemmas
 pub mod TextLemmas
 pub mod ViewLaws
+pub mod WholeLemmas

@@ -1,5 +1,7 @@
 -- What is read where a JSON value was written.
-use Rattle.std.specs.Prelude.{◌≡◌, ℕ, ℤ, pos, neg_ℤ, ◌≤ℤ◌, ◌<ℤ◌, ◌^◌, suc, max, ◌≤◌, List, [], ◌∷◌, Some, ⊤}
+use Rattle.std.specs.Prelude.{◌≡◌, ℕ, ℤ, pos, neg_ℤ, ◌≤ℤ◌, ◌<ℤ◌, ◌^◌, suc, max, ◌<◌, ◌≤◌, List, [], ◌∷◌, false, Some, ⊤}
+use Rattle.std.specs.List.{AllByRecursion}
+use Rattle.std.specs.Char.Utf16.{has_unpaired_surrogate}
 use Rattle.serde_json.specs.Data as values
 use Rattle.serde_json.specs.Data.{Data, put}
 use Rattle.serde_json.specs.Find.{of_integer}
@@ -110,7 +112,7 @@ StandsApart k no_members = ⊤
 StandsApart k (member l j ms) = (utf8_of k ≡ utf8_of l → k ≡ l) × StandsApart k ms
 
 abbrev mutual
-  -- in each object, keys of one text are the same units. So it is where no key has a surrogate without a partner.
+  -- in each object, keys of one text are the same units
   pub KeysStandApart : Json → Type 0
   KeysStandApart null = ⊤
   KeysStandApart (boolean b) = ⊤
@@ -129,6 +131,11 @@ abbrev mutual
   MembersStandApart no_members = ⊤
   MembersStandApart (member k j ms) = StandsApart k ms × KeysStandApart j × MembersStandApart ms
 
+-- units of 16 bits, and each surrogate has its partner
+pub record IsWhole (units : List ℕ) : Type 0 where
+  pub small : AllByRecursion (λ u. u < 2 ^ 16) units
+  pub paired : has_unpaired_surrogate units ≡ false
+
 -- ---- the laws
 
 -- what is written is read back, with the members in the order in which they are written
@@ -138,3 +145,7 @@ WrittenIsReadBack = (j : Json) → IsReadable j → read (compact_text j) ≡ So
 -- it is read back as it was given. Keys of other units may have one text, as two surrogates without a partner have: of such the last that is written stays, and not the last that was given.
 abbrev pub GivenIsReadBack : Type 0
 GivenIsReadBack = (j : Json) → IsReadable j → KeysStandApart j → read (compact_text j) ≡ Some (data_of j)
+
+-- keys whose surrogates all have partners stand apart
+abbrev pub WholeKeysDiffer : Type 0
+WholeKeysDiffer = (k l : List ℕ) → IsWhole k → IsWhole l → utf8_of k ≡ utf8_of l → k ≡ l

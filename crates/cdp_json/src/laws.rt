@@ -3,7 +3,7 @@
 
 ghost use Rattle.cdp_json.specs.CommandForm.{CommandIsRead, ReadIsCommand};
 ghost use Rattle.cdp_json.specs.MessageForm.{EventIsValue, RefusalIsValue, ResultIsValue};
-ghost use Rattle.cdp_json.specs.ReadBack.{GivenIsReadBack, WrittenIsReadBack};
+ghost use Rattle.cdp_json.specs.ReadBack.{GivenIsReadBack, WholeKeysDiffer, WrittenIsReadBack};
 
 /// What is read as a command is that command.
 pub fn read_is_command()
@@ -23,6 +23,11 @@ pub fn written_is_read_back()
 /// What is written is read back by `serde_json` as it was given, where keys of one text are the same units.
 pub fn given_is_read_back()
     ensures { GivenIsReadBack }
+{}
+
+/// Keys whose surrogates all have partners are the same units where they have one text.
+pub fn whole_keys_differ()
+    ensures { WholeKeysDiffer }
 {}
 
 /// The reply to a command that was done is the compact text of an object.
