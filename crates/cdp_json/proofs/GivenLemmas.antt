@@ -100,7 +100,7 @@ ascends x (y ∷ ys) up = ascends_at (cmp x.0 y.0) x y ys refl up (ascends x ys 
 abbrev Apart : List ℕ → List Entry → Type 0
 Apart k = AllByRecursion (λ x. utf8_of k ≡ utf8_of x.0 → k ≡ x.0)
 
-AllApart : List Entry → Type 0
+abbrev AllApart : List Entry → Type 0
 AllApart [] = ⊤
 AllApart (x ∷ xs) = Apart x.0 xs × AllApart xs
 
@@ -144,7 +144,6 @@ none_apart (e ∷ es) = (tt, none_apart es)
 
 onto : (done es : List Entry) (found : values.Members) → Ascending done → ApartFrom done es → AllApart es
     → puts (fold (λ ys y. insert_by (λ e. e.0) y ys) done es) found ≡ puts es (puts done found)
-unfolding AllApart
 onto done [] found up from apart = refl
 onto done (x ∷ es) found up from apart =
     onto (insert_by (λ e. e.0) x done) es found (ascends x done up) (still_apart x done es from.1 apart.0) apart.1
@@ -175,7 +174,6 @@ stands_apart k no_members h = tt
 stands_apart k (member l j ms) h = (h.0, stands_apart k ms h.1)
 
 all_apart : (ms : Members) → MembersStandApart ms → AllApart (entries ms)
-unfolding AllApart
 all_apart no_members h = tt
 all_apart (member k j ms) h = (stands_apart k ms h.0, all_apart ms h.2)
 

@@ -30,11 +30,14 @@ event_value method params = object (member (codes "method") (text (utf16_of meth
 
 -- ---- the laws
 
+-- the reply to a command that was done is the text of its value
 abbrev pub ResultIsValue : Type 0
 ResultIsValue = (id : ℕ) (result : Json) → result_text id result ≡ compact_text (result_value id result)
 
+-- the reply to a command that is refused is the text of its value
 abbrev pub RefusalIsValue : Type 0
 RefusalIsValue = (id : Option ℕ) (refusal : Refusal) → refusal_text id refusal ≡ compact_text (refusal_value id refusal)
 
+-- an event is the text of its value, for a method in UTF-8
 abbrev pub EventIsValue : Type 0
 EventIsValue = (method : List ℕ) (params : Json) → IsUtf8 method → event_text method params ≡ compact_text (event_value method params)
