@@ -1,5 +1,5 @@
 -- The breakpoints of a session.
-use Rattle.std.specs.Prelude.{◌≡◌, ℕ, Bool, true, not, List, [], ◌∷◌, ◌++◌, length, filter, nat_le, bytes_eq, if◌then◌else◌, Option, Some, None, Result, Ok, Err}
+use Rattle.std.specs.Prelude.{◌≡◌, ℕ, Bool, true, not, ◌&&◌, map, List, [], ◌∷◌, ◌++◌, length, filter, nat_le, bytes_eq, if◌then◌else◌, Option, Some, None, Result, Ok, Err}
 use Rattle.std.specs.List.{list_any}
 use Rattle.cdp_text.specs.declared.position.Place.{Place}
 use Rattle.js_tree.specs.declared.script.Script.{Script}
@@ -8,7 +8,7 @@ use Rattle.breakpoints.specs.declared.fault.AddFault.{AddFault}
 use Rattle.breakpoints.specs.declared.fault.AddFault.TheVariants as faults
 use Rattle.breakpoints.specs.Ids.{place_id}
 use Rattle.breakpoints.specs.Resolving.{resolved_at}
-use Rattle.breakpoints.specs.Hits.{hits_in}
+use Rattle.breakpoints.specs.Hits.{hits_in, stands_at}
 
 -- the breakpoints in the order in which they were set, and whether they stop the program
 pub record State : Type 0 where
@@ -66,3 +66,14 @@ without id s = record s { set = filter (has_another_id id) s.set }
 -- where breakpoints aren't active, none is hit
 abbrev pub hits_at : Place → State → List Breakpoint
 hits_at place s = if s.active then hits_in place s.set else []
+
+-- an active breakpoint stands at a place
+abbrev pub is_hit : Place → State → Bool
+is_hit place s = s.active && list_any (stands_at place) s.set
+
+abbrev pub id_of : Breakpoint → List ℕ
+id_of b = b.id
+
+-- the ids of those that are hit
+abbrev pub ids_at : Place → State → List (List ℕ)
+ids_at place s = map id_of (hits_at place s)

@@ -8,7 +8,7 @@ pub mod breakpoint;
 pub mod breakpoints;
 pub mod fault;
 pub mod hits;
-mod ids;
+pub mod ids;
 pub mod places;
 mod resolving;
 pub mod script_spots;

@@ -1,11 +1,16 @@
 -- Histories of a host and what they mean.
-use Rattle.std.specs.Prelude.{ℕ, ◌+◌, List, [], ◌∷◌, fold, false, if◌then◌else◌, Some, None}
+use Rattle.std.specs.Prelude.{ℕ, ◌+◌, List, [], ◌∷◌, ◌++◌, Bool, true, false, fold, ◌&&◌, is_some, if◌then◌else◌, Option, Some, None}
 use Rattle.std.specs.Option.{option_map, option_map_or}
 use Rattle.js_tree.specs.declared.script.Script.{Script}
 use Rattle.js_semantics.specs.Run.{Run}
-use Rattle.cdp_session.specs.Command.{Command, command_of}
-use Rattle.cdp_session.specs.Session.{Answer, answer_of, fresh, sent, emptied}
-use Rattle.cdp_host.specs.Meaning.{Meaning, begin, is_attached, after_steps}
+use Rattle.cdp_session.specs.declared.asks.Asks.{Asks}
+use Rattle.cdp_session.specs.declared.asks.Asks.TheVariants.{Nothing, Resume, Leave}
+use Rattle.cdp_session.specs.declared.situation.Pause.{Pause}
+use Rattle.cdp_session.specs.Sessions.{Session, fresh, emptied, if_enabled}
+use Rattle.cdp_session.specs.Results.{resumed_text}
+use Rattle.cdp_session.specs.Stops.{resumed}
+use Rattle.cdp_session.specs.Replies.{Answer, answer_of, answer_texts, outcome_of}
+use Rattle.cdp_host.specs.Meaning.{Meaning, begin, is_attached, situation, after_steps}
 
 -- what may befall a host
 pub data Entry : Type 0 where
@@ -17,24 +22,53 @@ pub data Entry : Type 0 where
   -- the steps that were made
   Ran : ℕ → Entry
 
--- ---- what an entry does beside making steps; the program's own state is never looked at
+-- ---- what an entry does beside making steps
 
--- the answer to a command: its texts come behind those that wait
+-- a paused program goes on for this; one session at most is attached, so no other one keeps it paused
+abbrev pub goes_on : Asks → Bool
+goes_on Nothing = false
+goes_on Resume = true
+goes_on Leave = true
+
+-- the program is paused, and the answer to a command lets it go on
+abbrev pub lets_go : Option Pause → Answer → Bool
+lets_go stop answer = is_some stop && goes_on answer.asks
+
+-- the session behind the answer: a resume is told
+abbrev pub session_told : Option Pause → Answer → Session
+session_told stop answer = if lets_go stop answer then resumed answer.session else answer.session
+
+-- where the program is paused behind it
+abbrev pub stop_told : Option Pause → Answer → Option Pause
+stop_told stop answer = if lets_go stop answer then None else stop
+
 abbrev pub with_answer : {A : Type 0} → Meaning A → Answer → Meaning A
-with_answer m answer = record m { paused = answer.paused; session = Some (sent answer.texts answer.session) }
+with_answer m answer = record m { stop = stop_told m.stop answer; session = Some (session_told m.stop answer) }
 
 -- a command of the session that is attached
-abbrev pub told : {A : Type 0} → Command → Meaning A → Meaning A
-told command m = option_map_or (λ x. with_answer m (answer_of m.paused x command)) m.session m
+abbrev pub told : {A : Type 0} → List Script → List ℕ → Meaning A → Meaning A
+told scripts text m = option_map_or (λ x. with_answer m (answer_of (situation scripts m) x text)) m.session m
 
--- an entry of a session that isn't attached changes nothing
-abbrev pub changed : {A : Type 0} → Meaning A → Entry → Meaning A
-changed m Attach = record m { attached = m.attached + 1; session = Some fresh }
-changed m (Tell s text) = if is_attached m s then option_map_or (λ command. told command m) (command_of text) m else m
-changed m (Take s) = if is_attached m s then record m { session = option_map emptied m.session } else m
--- without a session that has the domain enabled a paused program goes on
-changed m (Detach s) = if is_attached m s then record m { paused = false; session = None } else m
-changed m (Ran n) = m
+-- an entry of a session that isn't attached changes nothing; without a session that has the debugger enabled a paused program goes on
+abbrev pub changed : {A : Type 0} → List Script → Meaning A → Entry → Meaning A
+changed scripts m Attach = record m { attached = m.attached + 1; session = Some fresh }
+changed scripts m (Tell s text) = if is_attached m s then told scripts text m else m
+changed scripts m (Take s) = if is_attached m s then record m { session = option_map emptied m.session } else m
+changed scripts m (Detach s) = if is_attached m s then record m { stop = None; session = None } else m
+changed scripts m (Ran n) = m
+
+-- ---- the texts of a command
+
+-- the event of a resume, for a session that is told
+abbrev pub resume_texts : Bool → Session → List (List ℕ)
+resume_texts true x = if_enabled x resumed_text
+resume_texts false x = []
+
+-- the answer to a command, and the event where the program goes on
+abbrev pub told_texts : {A : Type 0} → List Script → List ℕ → Meaning A → Session → List (List ℕ)
+told_texts scripts text m x =
+    answer_texts (outcome_of (situation scripts m) x text)
+    ++ resume_texts (lets_go m.stop (answer_of (situation scripts m) x text)) (answer_of (situation scripts m) x text).session
 
 -- ---- histories
 
@@ -48,7 +82,7 @@ steps_of (Ran n) = n
 
 -- one entry after another
 abbrev pub apply : List Script → Meaning Run → Entry → Meaning Run
-apply scripts m entry = after_steps scripts (steps_of entry) (changed m entry)
+apply scripts m entry = after_steps scripts (steps_of entry) (changed scripts m entry)
 
 -- what a whole history means, from the beginning of the scripts with their input
 abbrev pub whole : List Script → List (List ℕ) → List Entry → Meaning Run

@@ -1,15 +1,22 @@
 -- What a host is.
-use Rattle.std.specs.Prelude.{◌≡◌, List, [], ℕ, Bool, true, false, is_some, if◌then◌else◌, Option, None}
+use Rattle.std.specs.Prelude.{◌≡◌, ◌-◌, List, [], ℕ, map, length, All, Bool, true, false, if◌then◌else◌, Option, Some, None}
+use Rattle.std.specs.Option.{option_map}
 use Rattle.js_tree.specs.declared.script.Script.{Script}
 use Rattle.js_semantics.specs.Run.{Run}
-use Rattle.js_semantics.specs.Frames.{at}
+use Rattle.js_semantics.specs.Frames.{active, at, is_debugger, thrown}
 use Rattle.js_frames.specs.Sources.{spans_in}
 use Rattle.js_world.specs.Heaps.{Heap, heap_world}
 use Rattle.js_machine.specs.Machines.{Machine, program_of, term_of, run_at, IsKept}
-use Rattle.js_machine.specs.Standing.{source_of, until_end}
-use Rattle.cdp_session.specs.Kept.{Session}
+use Rattle.js_machine.specs.Standing.{source_of, until_end, holds_until_end}
+use Rattle.locations.specs.declared.spot.Spot.{Spot}
+use Rattle.locations.specs.Locations.{break_locations}
+use Rattle.stepping.specs.declared.arrival.Arrival.{Arrival}
+use Rattle.cdp_session.specs.declared.situation.Pause.{Pause}
+use Rattle.cdp_session.specs.Sessions.{Session}
+use Rattle.cdp_session.specs.Stops.{stopped}
+use Rattle.cdp_host.specs.Arrivals.{place_at, is_uncaught, starts_of, IsShort}
 use Rattle.cdp_host.specs.Programs.{code_of, printed_of}
-use Rattle.cdp_host.specs.Meaning.{Meaning, mapped}
+use Rattle.cdp_host.specs.Meaning.{Meaning, mapped, names, next_number}
 use Rattle.cdp_host.specs.Histories.{Entry, changed, whole}
 use Rattle.cdp_host.specs.States.{state_of}
 use Rattle.cdp_host.specs.declared.state.State.{State}
@@ -27,13 +34,40 @@ machine_run m h taken = run_at m (heap_world m.names h) taken
 abbrev pub run_with : List (List ℕ) → Parts → Run
 run_with taken p = machine_run p.machine p.heap taken
 
--- the next step of a machine arrives at a place where a program can be stopped
-abbrev pub machine_arrives : List Script → Machine → Bool
-machine_arrives scripts m = is_some (until_end m.ended (at (spans_in scripts (source_of m)) (term_of m)))
+-- where the step that led there left a machine
+abbrev pub machine_arrival : List Script → Machine → Arrival
+machine_arrival scripts m = record {
+  place = place_at scripts (source_of m) (until_end m.ended (at (spans_in scripts (source_of m)) (term_of m)));
+  depth = length m.context.frames - 1;
+  debugger = holds_until_end m.ended (is_debugger (active (term_of m)));
+  raised = option_map is_uncaught (until_end m.ended (thrown (term_of m)));
+}
 
 -- what a machine and its heap mean together with these
-abbrev pub meant : Machine → Heap → Bool → ℕ → Option Session → List (List ℕ) → Meaning Run
-meant m h paused attached session taken = record { program = machine_run m h taken; paused = paused; attached = attached; session = session }
+abbrev pub meant : Machine → Heap → Option Pause → ℕ → ℕ → Option Session → List (List ℕ) → Meaning Run
+meant m h stop stops attached session taken = record { program = machine_run m h taken; stop = stop; stops = stops; attached = attached; session = session }
+
+-- the pause behind so many stops, where the program stopped at this depth, if it did; and how many stops there are then
+abbrev pub pause_from : ℕ → Option ℕ → Option Pause
+pause_from stops None = None
+pause_from stops (Some depth) = Some (record { number = next_number stops; depth = depth })
+
+abbrev pub stops_from : ℕ → Option ℕ → ℕ
+stops_from stops None = stops
+stops_from stops (Some depth) = next_number stops
+
+-- the depth at which a session stops the program, if it does
+abbrev pub depth_of : Arrival → Option Session → Option ℕ
+depth_of a o = if names a o then Some a.depth else None
+
+-- what a session is behind that
+abbrev pub session_behind : Arrival → Option Session → Option Session
+session_behind a o = if names a o then option_map (stopped a) o else o
+
+-- the numbers are where the lines of scripts begin whose positions are of 32 bits
+pub record AreLines (scripts : List Script) (lines : List (List ℕ)) : Type 0 where
+  pub starts : lines ≡ map starts_of scripts
+  pub short : All IsShort scripts
 
 -- the scripts, what is kept of the program and the session, and whether want of memory broke the host
 pub record HostState : Type 0 where
@@ -51,7 +85,7 @@ state_at host taken = if host.broken then Broken else state_of (meaning_with hos
 
 -- a host with one more entry that makes no steps
 abbrev pub after : HostState → Entry → HostState
-after host entry = record host { meaning = changed host.meaning entry }
+after host entry = record host { meaning = changed host.scripts host.meaning entry }
 
 -- A host stands for a history of its scripts with this input, whose runs have handed out all that they printed; a broken one
 -- for each history that leaves no session.
@@ -60,9 +94,12 @@ pub record Stands (scripts : List Script) (input : List (List ℕ)) (host : Host
   pub means : host.broken ≡ false → meaning_with host (printed_of (whole scripts input history).program) ≡ whole scripts input history
   pub alone : host.broken ≡ true → (whole scripts input history).session ≡ None
 
--- What holds of every host: its machine has the code of its scripts. Until want of memory breaks it, all texts were handed out
--- and the machine isn't given up; then it has no session.
-pub record IsSound (scripts : List Script) (machine : Machine) (broken : Bool) (session : Option Session) : Type 0 where
+-- What holds of every host: its machine has the code of its scripts, and beside them stand where their lines begin and where
+-- their break locations are. Until want of memory breaks it, all texts were handed out and the machine isn't given up; then it
+-- has no session.
+pub record IsSound (scripts : List Script) (lines : List (List ℕ)) (spots : List (List Spot)) (machine : Machine) (broken : Bool) (session : Option Session) : Type 0 where
+  pub lines : AreLines scripts lines
+  pub spots : spots ≡ map break_locations scripts
   pub code : program_of machine ≡ code_of scripts
   pub handed : broken ≡ false → machine.context.printed ≡ []
   pub kept : broken ≡ false → IsKept machine.ended

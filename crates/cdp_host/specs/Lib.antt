@@ -1,3 +1,4 @@
+pub mod Arrivals
 pub mod Programs
 pub mod Meaning
 pub mod Histories

@@ -1,52 +1,76 @@
--- What a host means at one moment: a program, and what its session keeps.
-use Rattle.std.specs.Prelude.{◌≡◌, ◌⊎◌, ℕ, zero, suc, ◌+◌, ◌<◌, ◌≤◌, List, Bool, true, false, ◌==◌, ◌&&◌, not, is_some, if◌then◌else◌, Option, None}
+-- What a host means at one moment: a program, where it is paused, and what its session keeps.
+use Rattle.std.specs.Prelude.{◌≡◌, ◌⊎◌, ℕ, zero, suc, ◌+◌, ◌^◌, ◌<◌, ◌≤◌, List, Bool, true, false, ◌==◌, ◌&&◌, not, is_some, nat_lt, if◌then◌else◌, Option, Some, None}
 use Rattle.std.specs.Option.{option_map, option_map_or}
 use Rattle.js_tree.specs.declared.script.Script.{Script}
 use Rattle.js_semantics.specs.Run.{Run}
-use Rattle.cdp_session.specs.Kept.{Session}
-use Rattle.cdp_session.specs.Session.{stopped}
-use Rattle.cdp_host.specs.Programs.{start, next, is_arrival, is_over}
+use Rattle.stepping.specs.declared.arrival.Arrival.{Arrival}
+use Rattle.cdp_session.specs.declared.situation.Pause.{Pause}
+use Rattle.cdp_session.specs.Situations.{Situation}
+use Rattle.cdp_session.specs.Sessions.{Session}
+use Rattle.cdp_session.specs.Stops.{cause_of, stopped}
+use Rattle.cdp_host.specs.Programs.{start, next, arrival_of, is_over}
 
--- a program of some type, and whether it is paused; how many sessions were attached so far, and the last of them while it is attached
+-- A program of some type; where it is paused, if it is, and how many stops there were; how many sessions were attached so far, and the last
+-- of them while it is attached.
 pub record Meaning (A : Type 0) : Type 0 where
   pub program : A
-  pub paused : Bool
+  pub stop : Option Pause
+  pub stops : ℕ
   pub attached : ℕ
   pub session : Option Session
 
 -- with the program seen in another way
 abbrev pub mapped : {A B : Type 0} → (A → B) → Meaning A → Meaning B
-mapped f m = record { program = f m.program; paused = m.paused; attached = m.attached; session = m.session }
+mapped f m = record { program = f m.program; stop = m.stop; stops = m.stops; attached = m.attached; session = m.session }
 
 -- before the first entry
 abbrev pub begin : List Script → List (List ℕ) → Meaning Run
-begin scripts input = record { program = start scripts input; paused = false; attached = 0; session = None }
+begin scripts input = record { program = start scripts input; stop = None; stops = 0; attached = 0; session = None }
 
 -- the session of this number is attached
 abbrev pub is_attached : {A : Type 0} → Meaning A → ℕ → Bool
 is_attached m s = is_some m.session && (s == m.attached)
 
+-- the program is paused
+abbrev pub is_paused : {A : Type 0} → Meaning A → Bool
+is_paused m = is_some m.stop
+
+-- what a command sees of it
+abbrev pub situation : {A : Type 0} → List Script → Meaning A → Situation
+situation scripts m = record { scripts = scripts; paused = m.stop }
+
+-- ---- stops
+
+-- the number of the stop behind so many; it stays at 2^62
+abbrev pub next_number : ℕ → ℕ
+next_number n = if nat_lt n (2 ^ 62) then n + 1 else n
+
+-- a session, if one is attached, names a stop behind a step that leads to this arrival
+abbrev pub names : Arrival → Option Session → Bool
+names a o = option_map_or (λ x. is_some (cause_of a x)) o false
+
+-- a session names a stop behind the step that leads a program there
+abbrev pub is_named : {A : Type 0} → List Script → Meaning A → Run → Bool
+is_named scripts m r = names (arrival_of scripts r) m.session
+
+-- behind a step that leads to this arrival: whether it stops there
+abbrev pub behind : {A : Type 0} → Arrival → Bool → Meaning A → Meaning A
+behind a true m = record m {
+  stop = Some (record { number = next_number m.stops; depth = a.depth });
+  stops = next_number m.stops;
+  session = option_map (stopped a) m.session;
+}
+behind a false m = record m { stop = None }
+
 -- ---- steps
 
--- a session asks for a stop at the next arrival: it is enabled, and it requested a pause
-abbrev pub wants_stop : Option Session → Bool
-wants_stop o = option_map_or (λ x. x.enabled && x.pause) o false
-
--- the session names a stop where the program is: it is enabled, it requested a pause, and an arrival is there
-abbrev pub names : List Script → Run → Session → Bool
-names scripts r x = x.enabled && x.pause && is_arrival scripts r
-
--- some session names a stop there
-abbrev pub is_named : List Script → Meaning Run → Run → Bool
-is_named scripts m r = option_map_or (names scripts r) m.session false
+-- with its program elsewhere
+abbrev pub at_program : {A B : Type 0} → B → Meaning A → Meaning B
+at_program r m = record { program = r; stop = m.stop; stops = m.stops; attached = m.attached; session = m.session }
 
 -- one step of the program, which stops exactly where a session names it
 abbrev pub step : List Script → Meaning Run → Meaning Run
-step scripts m = record m {
-  program = next scripts m.program;
-  paused = is_named scripts m (next scripts m.program);
-  session = if is_named scripts m (next scripts m.program) then option_map stopped m.session else m.session;
-}
+step scripts m = behind (arrival_of scripts (next scripts m.program)) (is_named scripts m (next scripts m.program)) (at_program (next scripts m.program) m)
 
 -- that many steps
 abbrev pub after_steps : List Script → ℕ → Meaning Run → Meaning Run
@@ -55,7 +79,7 @@ after_steps scripts (suc n) m = after_steps scripts n (step scripts m)
 
 -- the program is neither paused nor over
 abbrev pub is_ready : Meaning Run → Bool
-is_ready m = not m.paused && not (is_over m.program)
+is_ready m = not (is_paused m) && not (is_over m.program)
 
 -- the length of the longest run of at most that many steps, each made where the program is ready
 abbrev pub longest : List Script → ℕ → Meaning Run → ℕ

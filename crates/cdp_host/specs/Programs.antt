@@ -1,13 +1,12 @@
 -- What a host's definitions need of a program.
-use Rattle.std.specs.Prelude.{ℕ, zero, suc, List, Bool, true, false, is_some}
+use Rattle.std.specs.Prelude.{ℕ, zero, suc, List, Bool, true, false}
 use Rattle.js_tree.specs.declared.script.Script.{Script}
-use Rattle.js_semantics.specs.State.{top_spot}
 use Rattle.js_semantics.specs.Functions.{Program}
 use Rattle.js_semantics.specs.Run as runs
 use Rattle.js_semantics.specs.Run.{Run, running, over, ended, threw, by_effect, by_full}
 use Rattle.js_semantics.specs.Sources.{terms_of_scripts}
-use Rattle.js_semantics.specs.Frames.{at}
-use Rattle.js_frames.specs.Sources.{spans_in}
+use Rattle.stepping.specs.declared.arrival.Arrival.{Arrival}
+use Rattle.cdp_host.specs.Arrivals.{arrival_at, at_the_end}
 
 -- the sources in which the code of the scripts' functions is looked up
 unfoldable pub code_of : List Script → Program
@@ -30,10 +29,10 @@ nexts scripts (suc k) r = nexts scripts k (next scripts r)
 unfoldable pub plain : ℕ → List Script → List (List ℕ) → Run
 plain k scripts input = runs.plain k (terms_of_scripts scripts) input
 
--- its next step arrives at a place where a program can be stopped
-unfoldable pub is_arrival : List Script → Run → Bool
-is_arrival scripts (running t s) = is_some (at (spans_in scripts (top_spot s.frames).source) t)
-is_arrival scripts (over f s) = false
+-- where the step that led there left it, as far as rules of stopping ask for it
+unfoldable pub arrival_of : List Script → Run → Arrival
+arrival_of scripts (running t s) = arrival_at scripts t s.frames
+arrival_of scripts (over f s) = at_the_end s
 
 -- nothing is left to do
 abbrev pub is_over : Run → Bool

@@ -1,9 +1,10 @@
 -- What a host's run makes.
-use Rattle.std.specs.Prelude.{◌≡◌, ℕ, ◌<◌, ◌≤◌, Bool, true, false, ◌&&◌, List}
+use Rattle.std.specs.Prelude.{◌≡◌, ℕ, ◌<◌, ◌≤◌, true, false, List, Option}
 use Rattle.js_tree.specs.declared.script.Script.{Script}
 use Rattle.js_semantics.specs.Run.{Run}
-use Rattle.cdp_host.specs.Programs.{nexts, is_over, is_arrival}
-use Rattle.cdp_host.specs.Meaning.{Meaning, after_steps, is_ready}
+use Rattle.cdp_session.specs.Sessions.{Session}
+use Rattle.cdp_host.specs.Programs.{nexts, is_over, arrival_of}
+use Rattle.cdp_host.specs.Meaning.{Meaning, after_steps, is_ready, names}
 
 -- so many steps lead from one to the other, each made where the program is ready
 pub record HasMade (scripts : List Script) (m n : Meaning Run) (k : ℕ) : Type 0 where
@@ -15,10 +16,10 @@ pub record IsStretch (most k : ℕ) : Type 0 where
   pub some : 0 < k
   pub within : k ≤ most
 
--- A stretch of so many steps leads from one to the other, each made where the program isn't over. Before the last of them no
--- arrival is passed, if a stop is wanted.
-pub record Advances (scripts : List Script) (wanted : Bool) (most k : ℕ) (r q : Run) : Type 0 where
+-- A stretch of so many steps leads from one to the other, each made where the program isn't over. Before the last of them the
+-- session names no stop.
+pub record Advances (scripts : List Script) (session : Option Session) (most k : ℕ) (r q : Run) : Type 0 where
   pub counts : IsStretch most k
   pub reached : q ≡ nexts scripts k r
   pub runs : (j : ℕ) → j < k → is_over (nexts scripts j r) ≡ false
-  pub passes : (j : ℕ) → 0 < j → j < k → (wanted && is_arrival scripts (nexts scripts j r)) ≡ false
+  pub passes : (j : ℕ) → 0 < j → j < k → names (arrival_of scripts (nexts scripts j r)) session ≡ false

@@ -1,16 +1,21 @@
 -- What holds of a history, in the words of the run without a debugger.
-use Rattle.std.specs.Prelude.{◌≡◌, ◌<◌, ℕ, ◌+◌, List, [], ◌∷◌, ◌++◌, drop, length, true, false, ◌&&◌, nat_lt, if◌then◌else◌, None}
+use Rattle.std.specs.Prelude.{◌≡◌, ◌<◌, ℕ, ◌+◌, List, [], ◌∷◌, ◌++◌, drop, length, Bool, true, false, ◌&&◌, ◌||◌, nat_lt, is_some, if◌then◌else◌, Option, None}
 use Rattle.std.specs.Option.{option_map_or}
+use Rattle.cdp_text.specs.declared.position.Place.{Place}
 use Rattle.js_tree.specs.declared.script.Script.{Script}
 use Rattle.js_semantics.specs.Run.{Run}
 use Rattle.js_semantics.specs.Laws.{IsPrefix}
-use Rattle.cdp_session.specs.Command.{Command, command_of}
-use Rattle.cdp_session.specs.Messages.{paused_event}
-use Rattle.cdp_session.specs.Session.{answer_of}
-use Rattle.cdp_host.specs.Programs.{plain, printed_of, is_over}
-use Rattle.cdp_host.specs.Meaning.{Meaning, after_steps, is_attached, is_named, longest}
+use Rattle.stepping.specs.declared.arrival.Arrival.{Arrival}
+use Rattle.stepping.specs.declared.rules.StepKind.{StepKind}
+use Rattle.stepping.specs.Alone.{AsksForStep}
+use Rattle.stepping.specs.Causes.{ends_at}
+use Rattle.breakpoints.specs.Breakpoints.{is_hit}
+use Rattle.cdp_session.specs.Sessions.{Session}
+use Rattle.cdp_session.specs.Stops.{stop_texts}
+use Rattle.cdp_host.specs.Programs.{arrival_of, plain, printed_of, is_over}
+use Rattle.cdp_host.specs.Meaning.{Meaning, after_steps, is_attached, is_named, is_paused, longest}
 use Rattle.cdp_host.specs.States.{outbox_of}
-use Rattle.cdp_host.specs.Histories.{Entry, Attach, Tell, Take, Detach, Ran, apply, steps_of}
+use Rattle.cdp_host.specs.Histories.{Entry, Attach, Tell, Take, Detach, Ran, apply, steps_of, told_texts}
 
 -- ---- output
 
@@ -30,8 +35,8 @@ printed_in scripts n m = drop (length (printed_of m.program)) (printed_of (after
 -- and the program stops at the last exactly where a session names it
 pub record StopsExactly (scripts : List Script) (input : List (List ℕ)) (made : ℕ) (m : Meaning Run) (n : ℕ) : Type 0 where
   pub passes_none : (j : ℕ) → j + 1 < n → is_named scripts m (plain (made + j + 1) scripts input) ≡ false
-  pub stops_there : 0 < n → (after_steps scripts n m).paused ≡ is_named scripts m (plain (made + n) scripts input)
-  pub starts_ready : 0 < n → m.paused ≡ false
+  pub stops_there : 0 < n → is_paused (after_steps scripts n m) ≡ is_named scripts m (plain (made + n) scripts input)
+  pub starts_ready : 0 < n → is_paused m ≡ false
 
 -- an entry that makes steps makes such ones
 abbrev pub StopsAt : List Script → List (List ℕ) → ℕ → Meaning Run → Entry → Type 0
@@ -46,19 +51,39 @@ abbrev pub AllStopExactly : List Script → List (List ℕ) → ℕ → Meaning 
 AllStopExactly scripts input made m [] = Unit {0}
 AllStopExactly scripts input made m (entry ∷ history) = StopsAt scripts input made m entry × AllStopExactly scripts input (made + steps_of entry) (apply scripts m entry) history
 
+-- ---- steps that a session asks for
+
+-- the session asks for one step of this kind, from this depth, and for nothing else: no breakpoint of it is hit anywhere
+pub record StepsAlone (x : Session) (kind : StepKind) (depth : ℕ) : Type 0 where
+  pub rules : AsksForStep x.rules kind depth
+  pub none_hit : (place : Place) → is_hit place x.breakpoints ≡ false
+
+-- such a step ends at an arrival that is deep enough out, or at a `debugger` statement
+abbrev pub ends_step : StepKind → ℕ → Arrival → Bool
+ends_step kind depth a = is_some a.place && (a.debugger || ends_at kind depth a.depth)
+
+-- a program makes these steps, from the one that many steps in, and stops at the first that ends the step, or at none
+pub record StopsAtFirst (kind : StepKind) (depth : ℕ) (scripts : List Script) (input : List (List ℕ)) (made : ℕ) (m : Meaning Run) (n : ℕ) : Type 0 where
+  pub passes_none : (j : ℕ) → j + 1 < n → ends_step kind depth (arrival_of scripts (plain (made + j + 1) scripts input)) ≡ false
+  pub stops_there : 0 < n → is_paused (after_steps scripts n m) ≡ ends_step kind depth (arrival_of scripts (plain (made + n) scripts input))
+
 -- ---- texts
 
--- the texts of the answer to a command of the session that is attached
-abbrev pub answer_texts : Meaning Run → Command → List (List ℕ)
-answer_texts m command = option_map_or (λ x. (answer_of m.paused x command).texts) m.session []
+-- the texts of the answer to a command of the session that is attached, and of the resume that it asks for
+abbrev pub tell_texts : List Script → Meaning Run → List ℕ → List (List ℕ)
+tell_texts scripts m text = option_map_or (told_texts scripts text m) m.session []
+
+-- the event of a stop, for the session that is attached
+abbrev pub stops_texts : Arrival → Option Session → List (List ℕ)
+stops_texts a o = option_map_or (stop_texts a) o []
 
 -- the texts that an entry makes for the session: the answers to its commands, and the event of a stop
 abbrev pub texts_at : List Script → List (List ℕ) → ℕ → Meaning Run → Entry → List (List ℕ)
 texts_at scripts input made m Attach = []
-texts_at scripts input made m (Tell s text) = if is_attached m s then option_map_or (answer_texts m) (command_of text) [] else []
+texts_at scripts input made m (Tell s text) = if is_attached m s then tell_texts scripts m text else []
 texts_at scripts input made m (Take s) = []
 texts_at scripts input made m (Detach s) = []
-texts_at scripts input made m (Ran n) = if nat_lt 0 n && is_named scripts m (plain (made + n) scripts input) then paused_event ∷ [] else []
+texts_at scripts input made m (Ran n) = if nat_lt 0 n && is_named scripts m (plain (made + n) scripts input) then stops_texts (arrival_of scripts (plain (made + n) scripts input)) m.session else []
 
 -- the texts that a history makes, in order
 abbrev pub texts_of : List Script → List (List ℕ) → ℕ → Meaning Run → List Entry → List (List ℕ)

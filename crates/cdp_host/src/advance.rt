@@ -1,21 +1,18 @@
 //! Steps of a program that a session may stop.
 
-ghost use Rattle.std.specs.Prelude.{◌≡◌, ◌++◌, ◌<◌, ◌&&◌, ℕ, List, [], false, is_some, IfOk, OnOk, None, if◌then◌else◌};
-ghost use Rattle.std.specs.Option.{option_map};
-ghost use Rattle.js_semantics.specs.Frames.{at};
-ghost use Rattle.js_semantics.specs.State.{top_spot};
-ghost use Rattle.js_frames.specs.Sources.{spans_in};
+ghost use Rattle.std.specs.Prelude.{◌≡◌, ◌++◌, ◌<◌, ℕ, List, [], false, is_some, IfOk, OnOk, None};
 ghost use Rattle.js_machine.specs.Machines.{HasSameCode, IsKept, program_of};
-ghost use Rattle.cdp_session.specs.Session.{stopped};
-ghost use Rattle.cdp_host.specs.Hosts.{machine_run, machine_arrives, meant};
-ghost use Rattle.cdp_host.specs.Meaning.{wants_stop};
+ghost use Rattle.cdp_host.specs.Arrivals.{arrival_at};
+ghost use Rattle.cdp_host.specs.Hosts.{depth_of, machine_arrival, machine_run, meant, pause_from, session_behind, stops_from, AreLines};
+ghost use Rattle.cdp_host.specs.Meaning.{names};
 ghost use Rattle.cdp_host.specs.Programs.{code_of, is_over};
 ghost use Rattle.cdp_host.specs.Ran.{Advances, HasMade, IsStretch};
 
+use crate::arrivals::{arrival_at, arrival_of};
 use cdp_session::session::Session;
+use cdp_text::line_table::LineTable;
 use cdp_text::units::Units;
 use js_code::table::NodeTable;
-use js_frames::arrivals::arrival;
 use js_machine::end::End;
 use js_machine::machine::Machine;
 use js_operations::context::Context;
@@ -25,56 +22,69 @@ use js_steps::task::Point;
 use js_tree::script::Script;
 use js_world::heap::BaseHeap;
 use std::alloc::AllocError;
+use stepping::arrival::Arrival;
 
-/// Asks for a stop at each arrival if one is wanted, else nowhere.
-#[derive(Clone, Copy)]
-struct Arrivals<'s> {
-    scripts: &'s [Script],
-    wanted: bool,
-}
-
-impl Asks for Arrivals<'_> {
-    ghost stops = { λ host term frames. host.wanted && is_some (at (spans_in host.scripts.now (top_spot frames).source) term) };
-
-    fn asks(&self, table: &NodeTable, context: &Context, stack: &Stack, point: Point) -> bool {
-        self.wanted && arrival(table, self.scripts, context, stack, point).is_some()
-    }
-}
-
-/// How many steps were made, and whether the session stopped the program behind them.
-#[derive(Clone, Copy, Debug)]
-pub(crate) struct Advanced {
-    pub(crate) steps: u64,
-    pub(crate) stopped: bool,
-}
-
-/// Whether a session asks for a stop.
-fn wants_stop(session: &Option<Session>) -> bool
-    ensures { result ≡ wants_stop session.now }
+/// Whether a session, if one is attached, names a stop behind a step that leads to this arrival.
+fn names(session: &Option<Session>, arrival: &Arrival) -> bool
+    ensures { result ≡ names arrival.now session.now }
 {
     match session {
-        Some(session) => session.wants_stop(),
+        Some(session) => session.names(arrival).is_some(),
         None => false,
     }
 }
 
-/// Makes steps until an arrival that is wanted, a raise, a print or the end, or until so many are made; answers how many. Where
-/// there is no memory for one of them, the machine is given up.
+/// Asks for a stop where the session names one.
+#[derive(Clone, Copy)]
+struct Watch<'s> {
+    scripts: &'s [Script],
+    lines: &'s [LineTable],
+    session: &'s Option<Session>,
+    ghost located: { AreLines scripts.now lines.now },
+}
+
+impl Asks for Watch<'_> {
+    ghost stops = { λ watch term frames. names (arrival_at watch.scripts.now term frames) watch.session.now };
+
+    fn asks(&self, table: &NodeTable, context: &Context, stack: &Stack, point: Point) -> bool {
+        names(
+            self.session,
+            &arrival_at(self.scripts, self.lines, table, context, stack, point),
+        )
+    }
+}
+
+/// How many steps were made, and the depth at which the session stopped the program behind them, if it did.
+#[derive(Clone, Copy, Debug)]
+pub(crate) struct Advanced {
+    pub(crate) steps: u64,
+    pub(crate) stopped: Option<usize>,
+}
+
+/// Makes steps until the session names a stop, until a raise, a print or the end, or until so many are made; answers how many.
+/// Where there is no memory for one of them, the machine is given up.
 fn run_machine(
     machine: &mut Machine,
     heap: &mut BaseHeap,
     scripts: &[Script],
-    wanted: bool,
+    lines: &[LineTable],
+    session: &Option<Session>,
     most: u64,
 ) -> u64
     requires going { machine.old.ended ≡ None }
     requires runs { (taken : List (List ℕ)) → is_over (machine_run machine.old heap.old taken) ≡ false }
     requires code { program_of machine.old ≡ code_of scripts.now }
+    requires lines { AreLines scripts.now lines.now }
     requires some { 0 < most }
-    ensures advances { IsKept machine.new.ended → (taken : List (List ℕ)) → Advances scripts.now wanted most result (machine_run machine.old heap.old taken) (machine_run machine.new heap.new taken) }
+    ensures advances { IsKept machine.new.ended → (taken : List (List ℕ)) → Advances scripts.now session.now most result (machine_run machine.old heap.old taken) (machine_run machine.new heap.new taken) }
     ensures code { HasSameCode machine.old machine.new }
 {
-    machine.run(heap, most, &Arrivals { scripts, wanted }).steps
+    let watch = Watch {
+        scripts,
+        lines,
+        session,
+    };
+    machine.run(heap, most, &watch).steps
 }
 
 /// Whether a machine was given up.
@@ -90,7 +100,7 @@ fn is_lost(machine: &Machine) -> bool
     }
 }
 
-/// Makes steps, at least one, until an arrival that is wanted, a raise, a print or the end, or until so many are made.
+/// Makes steps, at least one, until the session names a stop, until a raise, a print or the end, or until so many are made.
 ///
 /// # Errors
 ///
@@ -99,18 +109,20 @@ fn make_steps(
     machine: &mut Machine,
     heap: &mut BaseHeap,
     scripts: &[Script],
-    wanted: bool,
+    lines: &[LineTable],
+    session: &Option<Session>,
     most: u64,
 ) -> Result<u64, AllocError>
     requires going { machine.old.ended ≡ None }
     requires runs { (taken : List (List ℕ)) → is_over (machine_run machine.old heap.old taken) ≡ false }
     requires code { program_of machine.old ≡ code_of scripts.now }
+    requires lines { AreLines scripts.now lines.now }
     requires some { 0 < most }
-    ensures advances { IfOk result (λ steps. (taken : List (List ℕ)) → Advances scripts.now wanted most steps (machine_run machine.old heap.old taken) (machine_run machine.new heap.new taken)) }
+    ensures advances { IfOk result (λ steps. (taken : List (List ℕ)) → Advances scripts.now session.now most steps (machine_run machine.old heap.old taken) (machine_run machine.new heap.new taken)) }
     ensures kept { OnOk result (IsKept machine.new.ended) }
     ensures code { HasSameCode machine.old machine.new }
 {
-    let steps = run_machine(machine, heap, scripts, wanted, most);
+    let steps = run_machine(machine, heap, scripts, lines, session, most);
     if is_lost(machine) {
         return Err(AllocError);
     }
@@ -126,45 +138,47 @@ fn make_steps_and_print(
     machine: &mut Machine,
     heap: &mut BaseHeap,
     scripts: &[Script],
-    wanted: bool,
+    lines: &[LineTable],
+    session: &Option<Session>,
     most: u64,
     printed: &mut Vec<Units>,
 ) -> Result<u64, AllocError>
     requires going { machine.old.ended ≡ None }
     requires runs { (taken : List (List ℕ)) → is_over (machine_run machine.old heap.old taken) ≡ false }
     requires code { program_of machine.old ≡ code_of scripts.now }
+    requires lines { AreLines scripts.now lines.now }
     requires some { 0 < most }
-    ensures advances { IfOk result (λ steps. (taken : List (List ℕ)) → Advances scripts.now wanted most steps (machine_run machine.old heap.old (taken ++ printed.old.items)) (machine_run machine.new heap.new (taken ++ printed.new.items))) }
+    ensures advances { IfOk result (λ steps. (taken : List (List ℕ)) → Advances scripts.now session.now most steps (machine_run machine.old heap.old (taken ++ printed.old.items)) (machine_run machine.new heap.new (taken ++ printed.new.items))) }
     ensures kept { OnOk result (IsKept machine.new.ended) }
     ensures handed { OnOk result (machine.new.context.printed ≡ []) }
     ensures code { HasSameCode machine.old machine.new }
 {
-    let steps = make_steps(machine, heap, scripts, wanted, most)?;
+    let steps = make_steps(machine, heap, scripts, lines, session, most)?;
     printed.append(&mut machine.take_printed())?;
     Ok(steps)
 }
 
-/// Stops the program for a session that asks for a stop, if its next step arrives; answers whether it did.
+/// Stops the program where the session names a stop behind the step that led to this arrival; answers the depth at which it
+/// did.
 ///
 /// # Errors
 ///
 /// There is no memory for the text that tells it.
-fn stop_at_arrival(
-    machine: &Machine,
-    scripts: &[Script],
+fn stop_at(
+    arrival: &Arrival,
     session: &mut Option<Session>,
-) -> Result<bool, AllocError>
-    ensures stopped { IfOk result (λ stops. stops ≡ (wants_stop session.old && machine_arrives scripts.now machine.now)) }
-    ensures session { IfOk result (λ stops. session.new ≡ (if stops then option_map stopped session.old else session.old)) }
+) -> Result<Option<usize>, AllocError>
+    ensures stopped { IfOk result (λ depth. depth ≡ depth_of arrival.now session.old) }
+    ensures session { OnOk result (session.new ≡ session_behind arrival.now session.old) }
 {
-    if !wants_stop(session) || machine.at(scripts).is_none() {
-        return Ok(false);
+    if !names(session, arrival) {
+        return Ok(None);
     }
-    if let Some(mut waiting) = session.take() {
-        waiting.stop()?;
-        *session = Some(waiting);
+    if let Some(mut stopped) = session.take() {
+        stopped.stopped(arrival)?;
+        *session = Some(stopped);
     }
-    Ok(true)
+    Ok(Some(arrival.depth))
 }
 
 /// Makes steps of a program that isn't paused, at least one, until it stops, raises, prints or ends, or until so many are made;
@@ -177,6 +191,7 @@ pub(crate) fn advance(
     machine: &mut Machine,
     heap: &mut BaseHeap,
     scripts: &[Script],
+    lines: &[LineTable],
     session: &mut Option<Session>,
     most: u64,
     printed: &mut Vec<Units>,
@@ -184,15 +199,16 @@ pub(crate) fn advance(
     requires going { machine.old.ended ≡ None }
     requires runs { (taken : List (List ℕ)) → is_over (machine_run machine.old heap.old taken) ≡ false }
     requires code { program_of machine.old ≡ code_of scripts.now }
+    requires lines { AreLines scripts.now lines.now }
     requires some { 0 < most }
-    ensures made { IfOk result (λ a. (taken : List (List ℕ)) (attached : ℕ) → HasMade scripts.now (meant machine.old heap.old false attached session.old (taken ++ printed.old.items)) (meant machine.new heap.new a.stopped attached session.new (taken ++ printed.new.items)) a.steps) }
+    ensures made { IfOk result (λ a. (taken : List (List ℕ)) (stops attached : ℕ) → HasMade scripts.now (meant machine.old heap.old None stops attached session.old (taken ++ printed.old.items)) (meant machine.new heap.new (pause_from stops a.stopped) (stops_from stops a.stopped) attached session.new (taken ++ printed.new.items)) a.steps) }
     ensures counts { IfOk result (λ a. IsStretch most a.steps) }
     ensures kept { OnOk result (IsKept machine.new.ended) }
     ensures handed { OnOk result (machine.new.context.printed ≡ []) }
     ensures code { HasSameCode machine.old machine.new }
 {
-    let wanted = wants_stop(session);
-    let steps = make_steps_and_print(machine, heap, scripts, wanted, most, printed)?;
-    let stopped = stop_at_arrival(machine, scripts, session)?;
+    let steps = make_steps_and_print(machine, heap, scripts, lines, session, most, printed)?;
+    let arrival = arrival_of(machine, scripts, lines);
+    let stopped = stop_at(&arrival, session)?;
     Ok(Advanced { steps, stopped })
 }

@@ -2,23 +2,27 @@
 
 ghost use Rattle.std.specs.Prelude.{◌≡◌, ◌++◌, ◌∷◌, [], ◌==◌, ◌&&◌, ◌<◌, ◌≤◌, not, ℕ, List, IfOk, OnOk, OnErr, IsErr, IsTrue, None, Some, map, string_bytes, true, false, is_some, if◌then◌else◌, nat_lt, ◌↔◌};
 ghost use Rattle.js_tree.specs.declared.script.Script.{Script as AnyScript};
-ghost use Rattle.cdp_session.specs.Command.{Command as Meant, command_of};
-ghost use Rattle.cdp_session.specs.Kept.{Session as Kept};
-ghost use Rattle.cdp_session.specs.Messages.{refusal_text};
-ghost use Rattle.cdp_session.specs.declared.refusal.Refusal.{Refusal};
-ghost use Rattle.cdp_session.specs.Session.{sent, refusal_of, method_of};
+ghost use Rattle.stepping.specs.declared.rules.StepKind.{StepKind};
+ghost use Rattle.cdp_json.specs.Messages.{refusal_text};
+ghost use Rattle.cdp_json.specs.declared.refusal.Refusal.{Refusal};
+ghost use Rattle.cdp_session.specs.Replies.{outcome_of, IsRefused};
+ghost use Rattle.cdp_session.specs.Sessions.{Session as Kept, sent};
 ghost use Rattle.cdp_host.specs.Programs.{plain, is_over, has_thrown};
-ghost use Rattle.cdp_host.specs.Meaning.{begin, is_attached, is_ready, after_steps, longest, IsLongest};
+ghost use Rattle.cdp_host.specs.Meaning.{begin, is_attached, is_paused, is_ready, next_number, situation, after_steps, longest, IsLongest};
 ghost use Rattle.cdp_host.specs.Histories.{Entry, Attach, Tell, Take, Detach, Ran as RanEntry};
-ghost use Rattle.cdp_host.specs.Hosts.{Stands, after, meaning_with, state_at};
+ghost use Rattle.cdp_host.specs.Hosts.{Stands, after, meaning_with, pause_from, state_at, stops_from};
 ghost use Rattle.cdp_host.specs.Ran.{HasMade, IsStretch};
-ghost use Rattle.cdp_host.specs.Rules.{StopsExactly, printed_in};
+ghost use Rattle.cdp_host.specs.Rules.{StopsAtFirst, StopsExactly, StepsAlone, printed_in};
 ghost use Rattle.cdp_host.specs.States.{outbox_of};
 
 use crate::advance::{Advanced, advance};
+use crate::lines::lines_of_all;
 use crate::state::State;
-use cdp_session::command::read_command;
+use crate::telling::tell_session;
+use breakpoints::script_spots::ScriptSpots;
 use cdp_session::session::Session;
+use cdp_session::situation::{Pause, Situation};
+use cdp_text::line_table::LineTable;
 use cdp_text::units::Units;
 use js_machine::machine::{Machine, Started};
 use js_steps::stepped::Finish;
@@ -33,9 +37,12 @@ use std::marker::Model;
 pub struct Host {
     alloc: Global,
     scripts: Vec<Script>,
+    lines: Vec<LineTable>,
+    spots: ScriptSpots,
     machine: Machine,
     heap: BaseHeap,
-    paused: bool,
+    stop: Option<Pause>,
+    stops: u64,
     attached: u64,
     session: Option<Session>,
     broken: bool,
@@ -52,11 +59,48 @@ impl Model for Host {
 
     ghost view = { λ a. record {
       scripts = a.scripts.items;
-      meaning = record { program = record { machine = a.machine; heap = a.heap }; paused = a.paused; attached = a.attached; session = a.session };
+      meaning = record { program = record { machine = a.machine; heap = a.heap }; stop = a.stop; stops = a.stops; attached = a.attached; session = a.session };
       broken = a.broken;
     } };
 
-    ghost invariant = { λ a. IsSound a.scripts.items a.machine a.broken a.session };
+    ghost invariant = { λ a. IsSound a.scripts.items a.lines.items a.spots a.machine a.broken a.session };
+}
+
+/// The greatest number of a stop.
+const GREATEST_STOP: u64 = 1 << 62;
+
+/// The number of the stop behind so many.
+fn next_number(stops: u64) -> u64
+    ensures { result ≡ next_number stops }
+{
+    if stops < GREATEST_STOP {
+        stops + 1
+    } else {
+        stops
+    }
+}
+
+/// The pause behind so many stops, where the program stopped at this depth, if it did.
+fn pause_from(stops: u64, stopped: Option<usize>) -> Option<Pause>
+    ensures { result ≡ pause_from stops stopped }
+{
+    match stopped {
+        Some(depth) => Some(Pause {
+            number: next_number(stops),
+            depth,
+        }),
+        None => None,
+    }
+}
+
+/// How many stops there are behind so many, where the program stopped at this depth, if it did.
+fn stops_from(stops: u64, stopped: Option<usize>) -> u64
+    ensures { result ≡ stops_from stops stopped }
+{
+    match stopped {
+        Some(_) => next_number(stops),
+        None => stops,
+    }
 }
 
 /// What a run did.
@@ -83,7 +127,8 @@ impl Host {
     ///
     /// # Errors
     ///
-    /// There is no memory, also where the scripts have more string literals than there are addresses.
+    /// There is no memory, also where the scripts have more string literals than there are addresses, or a source that is
+    /// too long for positions of 32 bits; no parsed script has one.
     #[tactic(auto, using(crate::proofs::StartLemmas::starts, crate::proofs::HistoryLemmas::stands))]
     pub fn start(
         alloc: Global,
@@ -95,13 +140,18 @@ impl Host {
         ensures works { IfOk result (λ host. host.broken ≡ false) }
         ensures stands { IfOk result (λ host. Stands scripts.items input.items host []) }
     {
+        let lines = lines_of_all(alloc, scripts.as_slice())?;
+        let spots = ScriptSpots::of(alloc, scripts.as_slice())?;
         let Started { machine, heap } = Machine::start(alloc, scripts.as_slice(), input)?;
         Ok(Host {
             alloc,
             scripts,
+            lines,
+            spots,
             machine,
             heap,
-            paused: false,
+            stop: None,
+            stops: 0,
             attached: 0,
             session: None,
             broken: false,
@@ -134,6 +184,13 @@ impl Host {
         self.attached
     }
 
+    /// How many stops there were so far; the count stays at 2^62.
+    pub fn stops(&self) -> u64
+        ensures { result ≡ self.now.meaning.stops }
+    {
+        self.stops
+    }
+
     /// Whether this session is attached.
     pub fn attached(&self, s: u64) -> bool
         ensures { result ≡ is_attached self.now.meaning s }
@@ -151,7 +208,7 @@ impl Host {
             State::Threw
         } else if self.is_over() {
             State::Ended
-        } else if self.paused {
+        } else if self.stop.is_some() {
             State::Paused
         } else {
             State::Ready
@@ -175,38 +232,39 @@ impl Host {
         texts
     }
 
-    /// Answers a command of this session: its reply or refusal, and then its events, come behind the texts that wait
+    /// Answers a text of this session: its reply or refusal, and then its events, come behind the texts that wait
     /// (JSON-RPC 2.0, section 5; Chrome DevTools Protocol, domain Debugger). A refused command changes nothing else.
     /// After want of memory the session is detached, and a paused program goes on.
     #[tactic(auto, using(crate::proofs::HistoryLemmas::stands))]
     pub fn tell(&mut self, s: u64, text: &str) -> Told
-        requires attached { is_attached self.old.meaning s ≡ true }
-        requires early { is_some (command_of text.now) ≡ true }
+        requires { is_attached self.old.meaning s ≡ true }
         ensures kept { result ≡ Told.Kept → self.new ≡ after self.old (Tell s text.now) }
         ensures memory { result ≡ Told.Memory → self.new ≡ after self.old (Detach s) }
         // a refused command changes only the texts that wait
-        ensures refused { result ≡ Told.Kept → (command : Meant) (x : Kept) → command_of text.now ≡ Some command → self.old.meaning.session ≡ Some x
-            → (refusal : Refusal) → refusal_of self.old.meaning.paused x (method_of command.method) ≡ Some refusal
-            → self.new.meaning ≡ record self.old.meaning { session = Some (sent (refusal_text command refusal ∷ []) x) } }
+        ensures refused { result ≡ Told.Kept → (x : Kept) (id : Option ℕ) (refusal : Refusal) → self.old.meaning.session ≡ Some x
+            → outcome_of (situation self.old.scripts self.old.meaning) x text.now ≡ IsRefused id refusal
+            → self.new.meaning ≡ record self.old.meaning { session = Some (sent (refusal_text id refusal ∷ []) x) } }
         ensures stands_kept { result ≡ Told.Kept → (scripts : List AnyScript) (input : List (List ℕ)) (history : List Entry) → Stands scripts input self.old history
             → Stands scripts input self.new (history ++ Tell s text.now ∷ []) }
         ensures stands_memory { result ≡ Told.Memory → (scripts : List AnyScript) (input : List (List ℕ)) (history : List Entry) → Stands scripts input self.old history
             → Stands scripts input self.new (history ++ Detach s ∷ []) }
     {
-        let Some(command) = read_command(text) else {
-            return Told::Kept;
-        };
         let Some(mut session) = self.session.take() else {
             return Told::Kept;
         };
-        match session.answer(command, self.paused) {
-            Ok(paused) => {
-                self.paused = paused;
+        let situation = Situation {
+            scripts: self.scripts.as_slice(),
+            spots: &self.spots,
+            paused: self.stop,
+        };
+        match tell_session(&mut session, &situation, text) {
+            Ok(stop) => {
+                self.stop = stop;
                 self.session = Some(session);
                 Told::Kept
             }
             Err(_) => {
-                self.paused = false;
+                self.stop = None;
                 Told::Memory
             }
         }
@@ -227,6 +285,10 @@ impl Host {
         ensures is_longest { self.old.broken ≡ false → IfOk result (λ ran. (taken : List (List ℕ)) → IsLongest self.old.scripts n (meaning_with self.old taken) ran.steps) }
         ensures stops { self.old.broken ≡ false → IfOk result (λ ran. (taken input : List (List ℕ)) (made : ℕ) → (meaning_with self.old taken).program ≡ plain made self.old.scripts input
             → StopsExactly self.old.scripts input made (meaning_with self.old taken) ran.steps) }
+        // Where the session asks for one step and for nothing else, the program stops at the first arrival that ends it.
+        ensures steps { self.old.broken ≡ false → IfOk result (λ ran. (taken input : List (List ℕ)) (made : ℕ) → (meaning_with self.old taken).program ≡ plain made self.old.scripts input
+            → (x : Kept) (kind : StepKind) (depth : ℕ) → self.old.meaning.session ≡ Some x → StepsAlone x kind depth
+            → StopsAtFirst kind depth self.old.scripts input made (meaning_with self.old taken) ran.steps) }
         ensures err { OnErr result ((self.new.broken ≡ true) × (self.new.meaning.session ≡ None)) }
         ensures sessions { self.new.meaning.attached ≡ self.old.meaning.attached }
         // a run that makes no step needs no memory
@@ -266,12 +328,14 @@ impl Host {
             &mut self.machine,
             &mut self.heap,
             self.scripts.as_slice(),
+            self.lines.as_slice(),
             &mut self.session,
             most,
             printed,
         ) {
             Ok(Advanced { steps, stopped }) => {
-                self.paused = stopped;
+                self.stop = pause_from(self.stops, stopped);
+                self.stops = stops_from(self.stops, stopped);
                 Ok(steps)
             }
             Err(error) => {
@@ -300,7 +364,7 @@ impl Host {
     fn goes_on(&self) -> bool
         ensures { self.now.broken ≡ false → (taken : List (List ℕ)) → result ≡ is_ready (meaning_with self.now taken) }
     {
-        !self.paused && !self.is_over()
+        self.stop.is_none() && !self.is_over()
     }
 
     /// Whether the program is over.

@@ -1,7 +1,10 @@
 //! A host runs one program and answers the sessions that debug it.
 #![tactic(auto)]
 
-pub mod advance;
+mod advance;
+mod arrivals;
 pub mod host;
 pub mod laws;
+mod lines;
 pub mod state;
+mod telling;

@@ -1,15 +1,12 @@
 //! What stands at each offset of a source.
 
 ghost use Rattle.std.specs.Prelude.{◌≡◌, ◌<◌, ◌≤◌, ℕ, None, IfOk, length};
-ghost use Rattle.js_semantics.specs.Frames.{offset_of};
 ghost use Rattle.locations.specs.Kinds.{stronger, with_mark, kind_of, AreKinds};
 
 use crate::marks::Marked;
+use crate::offsets::offset_of;
 use crate::spot::SpotKind;
-use js_semantics::form::Mark;
-use js_tree::node::NodeId;
 use js_tree::script::Script;
-use js_tree::span::span;
 use std::alloc::{AllocError, Global};
 
 // of two kinds the stronger one
@@ -41,18 +38,6 @@ fn with_mark(before: Option<SpotKind>, kind: SpotKind) -> Option<SpotKind>
     match before {
         None => Some(kind),
         Some(before) => Some(stronger(before, kind)),
-    }
-}
-
-// where a mark is in a script
-fn offset_of(script: &Script, mark: Mark) -> usize
-    ensures offset { result ≡ offset_of script.now.spans mark }
-    ensures within { result ≤ length script.now.source }
-{
-    match mark {
-        Mark::Beginning => 0,
-        Mark::Start(node) => span(script, NodeId(node)).start,
-        Mark::BeforeEnd(node, back) => span(script, NodeId(node)).end.saturating_sub(back),
     }
 }
 

@@ -10,6 +10,7 @@ mod kinds;
 pub mod locations;
 mod marks;
 mod objects;
+pub mod offsets;
 pub mod spot;
 mod statements;
 mod words;

@@ -15,7 +15,7 @@ use js_frames::frames::{active_frame, depth};
 use js_frames::standing::Thrown;
 use js_frames::throws::thrown;
 use js_operations::frame::Frame;
-use js_semantics::form::Mark;
+use js_semantics::form::{Mark, Source};
 use js_tree::script::Script;
 
 impl Machine {
@@ -28,6 +28,13 @@ impl Machine {
             Some(_) => None,
             None => arrival(&self.table, scripts, &self.context, &self.stack, self.point),
         }
+    }
+
+    /// The source of the top frame, in which the place of an arrival is.
+    pub fn source(&self) -> Source
+        ensures { result ≡ source_of self.now }
+    {
+        self.context.spot_of().source
     }
 
     /// Whether the next step enters a `debugger` statement.
