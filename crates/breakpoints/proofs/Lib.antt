@@ -1,1 +1,3 @@
 pub mod ResolvingLemmas
+pub mod IndexLemmas
+pub mod HitLemmas

@@ -7,9 +7,13 @@ use Rattle.breakpoints.specs.declared.breakpoint.Breakpoint.{Breakpoint}
 abbrev pub same_place : Place → Place → Bool
 same_place p q = nat_eq p.script q.script && nat_eq p.pos.line q.pos.line && nat_eq p.pos.col q.pos.col
 
+-- a place is among these
+abbrev pub has_place : Place → List Place → Bool
+has_place place places = list_any (λ p. same_place p place) places
+
 -- a breakpoint resolved to a place
 abbrev pub stands_at : Place → Breakpoint → Bool
-stands_at place b = list_any (λ p. same_place p place) b.places
+stands_at place b = has_place place b.places
 
 -- those of a list that did, in its order
 abbrev pub hits_in : Place → List Breakpoint → List Breakpoint

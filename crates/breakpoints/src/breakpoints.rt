@@ -12,6 +12,7 @@ use crate::breakpoint::Breakpoint;
 use crate::fault::AddFault;
 use crate::hits::Hits;
 use crate::ids::{place_id, url_id};
+use crate::place_index::PlaceIndex;
 use crate::places::Places;
 use crate::resolving::{resolve_at, resolve_by_url};
 use crate::script_spots::ScriptSpots;
@@ -29,6 +30,7 @@ const MOST: usize = 1000;
 pub struct Breakpoints {
     alloc: Global,
     list: Vec<Breakpoint>,
+    index: PlaceIndex,
     active: bool,
 }
 
@@ -38,6 +40,10 @@ impl Model for Breakpoints {
     ghost Value = { State };
 
     ghost view = { λ b. record { set = b.list.items; active = b.active } };
+
+    ghost use Rattle.breakpoints.specs.PlaceIndex.{IsIndexOf};
+
+    ghost invariant = { λ b. IsIndexOf b.list.items b.index };
 }
 
 /// The breakpoints of another id stay.
@@ -55,6 +61,7 @@ impl Breakpoints {
         Breakpoints {
             alloc,
             list: Vec::new(alloc),
+            index: PlaceIndex::new(alloc),
             active: true,
         }
     }
@@ -64,6 +71,13 @@ impl Breakpoints {
         ensures { result ≡ list_any (has_id id.now) self.now.set }
     {
         self.list.iter().any(|b| b.has_id(id))
+    }
+
+    /// Whether a breakpoint resolved to a place. The breakpoints are walked only where the place is found in the index.
+    fn has_at(&self, place: Place) -> bool
+        ensures { result ≡ list_any (stands_at place) self.now.set }
+    {
+        self.index.has(place) && self.list.iter().any(|b| b.stands_at(place))
     }
 
     /// Sets a breakpoint at these places.
@@ -78,6 +92,7 @@ impl Breakpoints {
         if self.list.len() >= MOST {
             return Err(AddFault::Full { count: 1000 });
         }
+        self.index.add_all(places.as_slice())?;
         self.list.push(Breakpoint {
             id,
             condition,
@@ -149,6 +164,9 @@ impl Breakpoints {
     {
         let had = self.has(id);
         retain_others(&mut self.list, id);
+        if self.list.is_empty() {
+            self.index.clear();
+        }
         had
     }
 
@@ -162,24 +180,27 @@ impl Breakpoints {
         }
     }
 
-    /// Whether an active breakpoint stands at a place.
+    /// Whether an active breakpoint stands at a place. Costs a search among the places and, only where one is found, a walk
+    /// over the breakpoints.
     pub fn is_hit(&self, place: Place) -> bool
         ensures { result ≡ is_hit place self.now }
     {
-        if self.active { self.any_at(place) } else { false }
-    }
-
-    fn any_at(&self, place: Place) -> bool
-        ensures { result ≡ list_any (stands_at place) self.now.set }
-    {
-        self.list.iter().any(|b| b.stands_at(place))
+        self.active && self.has_at(place)
     }
 
     /// The ids of the active breakpoints that stand at a place, in the order in which they were set.
+    ///
+    /// # Errors
+    ///
+    /// There is no memory for them.
     pub fn ids_at(&self, alloc: Global, place: Place) -> Result<Vec<Units>, AllocError>
         ensures { IfOk result (λ ids. ids.items ≡ ids_at place self.now) }
     {
-        Err(AllocError)
+        let mut ids = Vec::new(alloc);
+        for breakpoint in self.at(place) {
+            ids.push(breakpoint.id.clone()?)?;
+        }
+        Ok(ids)
     }
 
     /// Whether breakpoints stop the program from now on.

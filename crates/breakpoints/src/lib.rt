@@ -9,6 +9,8 @@ pub mod breakpoints;
 pub mod fault;
 pub mod hits;
 pub mod ids;
+pub mod laws;
+mod place_index;
 pub mod places;
 mod resolving;
 pub mod script_spots;

@@ -5,11 +5,10 @@ use Rattle.std.proofs.lemmas.Bool.{eq-eqb}
 use Rattle.std.proofs.lemmas.Grind.{fold-append}
 use Rattle.js_tree.specs.declared.script.Script.{Script}
 use Rattle.js_semantics.specs.Run.{Run}
-use Rattle.cdp_session.specs.Kept.{Session}
-use Rattle.cdp_session.specs.Command.{Command, command_of}
-use Rattle.cdp_session.specs.Session.{answer_of, emptied}
+use Rattle.cdp_session.specs.Sessions.{Session, emptied}
+use Rattle.cdp_session.specs.Replies.{answer_of}
 use Rattle.cdp_host.specs.Programs.{printed_of}
-use Rattle.cdp_host.specs.Meaning.{Meaning, mapped, begin, is_attached, after_steps}
+use Rattle.cdp_host.specs.Meaning.{Meaning, mapped, begin, is_attached, situation, after_steps}
 use Rattle.cdp_host.specs.Histories.{Entry, Attach, Tell, Take, Detach, Ran, changed, apply, whole, told, with_answer, steps_of}
 use Rattle.cdp_host.specs.Hosts.{HostState, Stands, after, run_with, meaning_with}
 use Rattle.cdp_host.proofs.ProgramLemmas.{start-prints}
@@ -23,26 +22,21 @@ whole-more scripts input history entry = fold-append (apply scripts) (begin scri
 
 -- ---- what an entry does beside making steps doesn't look at the program
 
-told_mapped : {A B : Type 0} (f : A → B) (m : Meaning A) (command : Command) (o : Option Session)
-    → mapped f (option_map_or (λ x. with_answer m (answer_of m.paused x command)) o m) ≡ option_map_or (λ x. with_answer (mapped f m) (answer_of m.paused x command)) o (mapped f m)
-told_mapped f m command None = refl
-told_mapped f m command (Some x) = refl
-
-tell_mapped : {A B : Type 0} (f : A → B) (m : Meaning A) (o : Option Command)
-    → mapped f (option_map_or (λ command. told command m) o m) ≡ option_map_or (λ command. told command (mapped f m)) o (mapped f m)
-tell_mapped f m None = refl
-tell_mapped f m (Some command) = told_mapped f m command m.session
+told_mapped : {A B : Type 0} (f : A → B) (scripts : List Script) (m : Meaning A) (text : List ℕ) (o : Option Session)
+    → mapped f (option_map_or (λ x. with_answer m (answer_of (situation scripts m) x text)) o m) ≡ option_map_or (λ x. with_answer (mapped f m) (answer_of (situation scripts m) x text)) o (mapped f m)
+told_mapped f scripts m text None = refl
+told_mapped f scripts m text (Some x) = refl
 
 choice_mapped : {A B : Type 0} (f : A → B) (b : Bool) (k m : Meaning A) (n : Meaning B) → mapped f k ≡ n → mapped f (if b then k else m) ≡ (if b then n else mapped f m)
 choice_mapped f true k m n is = is
 choice_mapped f false k m n is = refl
 
-pub changed-mapped : {A B : Type 0} (f : A → B) (m : Meaning A) (entry : Entry) → mapped f (changed m entry) ≡ changed (mapped f m) entry
-changed-mapped f m Attach = refl
-changed-mapped f m (Tell s text) = choice_mapped f (is_attached m s) (option_map_or (λ command. told command m) (command_of text) m) m _ (tell_mapped f m (command_of text))
-changed-mapped f m (Take s) = choice_mapped f (is_attached m s) (record m { session = option_map emptied m.session }) m _ refl
-changed-mapped f m (Detach s) = choice_mapped f (is_attached m s) (record m { paused = false; session = None }) m _ refl
-changed-mapped f m (Ran n) = refl
+pub changed-mapped : {A B : Type 0} (f : A → B) (scripts : List Script) (m : Meaning A) (entry : Entry) → mapped f (changed scripts m entry) ≡ changed scripts (mapped f m) entry
+changed-mapped f scripts m Attach = refl
+changed-mapped f scripts m (Tell s text) = choice_mapped f (is_attached m s) (told scripts text m) m _ (told_mapped f scripts m text m.session)
+changed-mapped f scripts m (Take s) = choice_mapped f (is_attached m s) (record m { session = option_map emptied m.session }) m _ refl
+changed-mapped f scripts m (Detach s) = choice_mapped f (is_attached m s) (record m { stop = None; session = None }) m _ refl
+changed-mapped f scripts m (Ran n) = refl
 
 -- ---- standing for a history
 
@@ -60,16 +54,17 @@ pub stands-more : (scripts : List Script) (input : List (List ℕ)) (old new : H
     → new ≡ after old entry → steps_of entry ≡ 0 → old.broken ≡ false → Stands scripts input old history → Stands scripts input new (history ++ entry ∷ [])
 stands-more scripts input old new history entry is none works stood =
     let m : Meaning Run = whole scripts input history in
-    let one : whole scripts input (history ++ entry ∷ []) ≡ changed m entry = whole-more scripts input history entry ∙ ap (λ k. after_steps scripts k (changed m entry)) none in
+    let one : whole scripts input (history ++ entry ∷ []) ≡ changed scripts m entry = whole-more scripts input history entry ∙ ap (λ k. after_steps scripts k (changed scripts m entry)) none in
     let taken : List (List ℕ) = printed_of m.program in
-    let same : printed_of (whole scripts input (history ++ entry ∷ [])).program ≡ taken = ap (λ k. printed_of k.program) one ∙ ap printed_of (changed-program m entry) in
+    let same : printed_of (whole scripts input (history ++ entry ∷ [])).program ≡ taken = ap (λ k. printed_of k.program) one ∙ ap printed_of (changed-program scripts m entry) in
     record {
       runs = ap (λ h. h.scripts) is ∙ stood.runs;
       means = λ _.
           ap (meaning_with new) same
           ∙ ap (λ h. meaning_with h taken) is
-          ∙ changed-mapped (run_with taken) old.meaning entry
-          ∙ ap (λ k. changed k entry) (stood.means works)
+          ∙ changed-mapped (run_with taken) old.scripts old.meaning entry
+          ∙ ap (λ ss. changed ss (meaning_with old taken) entry) stood.runs
+          ∙ ap (λ k. changed scripts k entry) (stood.means works)
           ∙ sym one;
       alone = λ fails. let still : new.broken ≡ old.broken = ap (λ h. h.broken) is in cc;
     }
@@ -104,7 +99,7 @@ stands-ran scripts input old new history n printed ran stood =
           ap (λ k. k.session) one ∙ ap (λ k. (after_steps scripts k m).session) (ran.stays (sym ran.same ∙ fails)) ∙ stood.alone (sym ran.same ∙ fails);
     }
 
-detached_by : (b : Bool) (m : Meaning Run) (o : Option Session) → m.session ≡ o → b ≡ is_some o → (if b then record m { paused = false; session = None } else m).session ≡ None
+detached_by : (b : Bool) (m : Meaning Run) (o : Option Session) → m.session ≡ o → b ≡ is_some o → (if b then record m { stop = None; session = None } else m).session ≡ None
 detached_by true m o is b = refl
 detached_by false m None is b = is
 detached_by false m (Some x) is b = absurd cc

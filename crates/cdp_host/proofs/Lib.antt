@@ -1,6 +1,7 @@
 pub mod ProgramLemmas
 pub mod PartLemmas
 pub mod StateLemmas
+pub mod StepLemmas
 pub mod RunLemmas
 pub mod AdvanceLemmas
 pub mod StartLemmas

@@ -1,5 +1,6 @@
 -- Machines in the words of programs: where they arrive, what they have printed, whether they are over, and what their steps are.
-use Rattle.std.proofs.Common.{◌≡◌, ℕ, zero, suc, ◌-◌, ◌<◌, ◌≤◌, List, [], ◌++◌, Bool, true, false, ◌&&◌, is_some, refl, ap, sym, subst, ◌∙◌, arith, append_assoc, append-nil, Option, Some, None}
+use Rattle.std.proofs.Common.{◌≡◌, ℕ, zero, suc, ◌-◌, ◌<◌, ◌≤◌, List, [], ◌++◌, length, Bool, true, false, not, ◌||◌, is_some, if◌then◌else◌, refl, ap, sym, subst, ◌∙◌, arith, append_assoc, append-nil, Option, Some, None}
+use Rattle.std.specs.Option.{option_map}
 use Rattle.js_tree.specs.declared.script.Script.{Script}
 use Rattle.js_heap.specs.declared.value.Addr.{Addr}
 use Rattle.js_heap.specs.BuiltIns.{script_scope}
@@ -7,7 +8,7 @@ use Rattle.js_heap.specs.World.{World}
 use Rattle.js_semantics.specs.Terms.{Term, done, standing, part}
 use Rattle.js_semantics.specs.State.{Frame, State, top_spot}
 use Rattle.js_semantics.specs.Functions.{Program}
-use Rattle.js_semantics.specs.Frames.{at}
+use Rattle.js_semantics.specs.Frames.{active, at, is_debugger, thrown}
 use Rattle.js_semantics.specs.Run as runs
 use Rattle.js_semantics.specs.Run.{Run, running, over, steps_in}
 use Rattle.js_semantics.proofs.FollowLemmas.{run_of-state}
@@ -22,30 +23,58 @@ use Rattle.js_frames.specs.Sources.{spans_in}
 use Rattle.js_machine.specs.declared.end.End.{End}
 use Rattle.js_machine.specs.declared.end.End.TheVariants as ends
 use Rattle.js_machine.specs.Machines.{Machine, HasSameCode, program_of, term_of, state_of, run_by, run_at, IsKept, finish_at, end_of_run}
-use Rattle.js_machine.specs.Standing.{until_end}
-use Rattle.cdp_host.specs.Programs.{code_of, next, nexts, is_arrival, is_over, has_thrown, printed_of}
-use Rattle.cdp_host.specs.Hosts.{Parts, machine_run, machine_arrives, run_with}
+use Rattle.js_machine.specs.Standing.{until_end, holds_until_end}
+use Rattle.stepping.specs.declared.arrival.Arrival.{Arrival}
+use Rattle.stepping.specs.declared.cause.Cause.TheVariants as causes
+use Rattle.stepping.specs.declared.rules.Exceptions.{Exceptions}
+use Rattle.stepping.specs.declared.rules.Exceptions.TheVariants as throws
+use Rattle.stepping.specs.Causes.{stops_at_raise}
+use Rattle.cdp_session.specs.Sessions.{Session}
+use Rattle.cdp_host.specs.Arrivals.{arrival_at, at_the_end, is_uncaught, place_at}
+use Rattle.cdp_host.specs.Programs.{arrival_of, code_of, next, nexts, is_over, has_thrown, printed_of}
+use Rattle.cdp_host.specs.Meaning.{names}
+use Rattle.cdp_host.specs.Hosts.{Parts, machine_run, machine_arrival, run_with}
 use Rattle.cdp_host.specs.Ran.{Advances}
 
 -- ---- arrivals
 
--- where something is left to do, the term alone says whether its next step arrives
-going_arrives : (scripts : List Script) (t : Term) (s : State) → is_some (at (spans_in scripts (top_spot s.frames).source) t) ≡ is_arrival scripts (runs.run_of t s)
-unfolding is_arrival
+-- where a machine that has ended so, or goes on, was left
+abbrev arrival_until : List Script → Option End → Term → List Frame → Arrival
+arrival_until scripts o t frames = record {
+  place = place_at scripts (top_spot frames).source (until_end o (at (spans_in scripts (top_spot frames).source) t));
+  depth = length frames - 1;
+  debugger = holds_until_end o (is_debugger (active t));
+  raised = option_map is_uncaught (until_end o (thrown t));
+}
+
+going_arrives : (scripts : List Script) (t : Term) (s : State) → arrival_at scripts t s.frames ≡ arrival_of scripts (runs.run_of t s)
+unfolding arrival_of
 going_arrives scripts (done v) s = refl
 going_arrives scripts (standing v place) s = refl
 going_arrives scripts (part f now later) s = refl
 
-arrives_by : (scripts : List Script) (o : Option End) (t : Term) (s : State) → IsKept o → is_some (until_end o (at (spans_in scripts (top_spot s.frames).source) t)) ≡ is_arrival scripts (run_by o t s)
-unfolding is_arrival
+arrives_by : (scripts : List Script) (o : Option End) (t : Term) (s : State) → IsKept o → arrival_until scripts o t s.frames ≡ arrival_of scripts (run_by o t s)
+unfolding arrival_of
 arrives_by scripts None t s kept = going_arrives scripts t s
 arrives_by scripts (Some (ends.Finished f)) t s kept = refl
 arrives_by scripts (Some ends.Effect) t s kept = refl
 arrives_by scripts (Some (ends.Full what)) t s kept = refl
 arrives_by scripts (Some ends.Lost) t s kept = absurd kept
 
-pub arrives : (scripts : List Script) (m : Machine) (h : Heap) (taken : List (List ℕ)) → IsKept m.ended → machine_arrives scripts m ≡ is_arrival scripts (machine_run m h taken)
+-- a machine was left where its run was
+pub arrives : (scripts : List Script) (m : Machine) (h : Heap) (taken : List (List ℕ)) → IsKept m.ended → machine_arrival scripts m ≡ arrival_of scripts (machine_run m h taken)
 arrives scripts m h taken kept = arrives_by scripts m.ended (term_of m) (state_of m (heap_world m.names h) taken) kept
+
+-- nobody names a stop where a program is over
+unraised : (b : Bool) (e : Exceptions) → is_some (if b then None else if stops_at_raise e None then Some causes.Exception else None) ≡ false
+unraised true e = refl
+unraised false throws.Never = refl
+unraised false throws.Uncaught = refl
+unraised false throws.All = refl
+
+pub unnamed-end : (s : State) (o : Option Session) → names (at_the_end s) o ≡ false
+unnamed-end s None = refl
+unnamed-end s (Some x) = unraised (not x.rules.enabled || x.rules.skip) x.rules.exceptions
 
 -- ---- texts printed
 
@@ -68,10 +97,10 @@ handed-over m n h texts taken is rest =
     ap (λ k. machine_run k h (taken ++ texts)) rest ∙ ap f (append-nil (taken ++ texts) ∙ ap (λ xs. taken ++ xs) is)
 
 -- so a stretch of steps leads to where the texts behind it are handed out
-pub advance-printed : (scripts : List Script) (wanted : Bool) (most k : ℕ) (r : Run) (n o : Machine) (i : Heap) (texts before after taken : List (List ℕ)) → Advances scripts wanted most k r (machine_run n i (taken ++ before))
-    → texts ≡ n.context.printed → o ≡ record n { context = record n.context { printed = [] } } → after ≡ before ++ texts → Advances scripts wanted most k r (machine_run o i (taken ++ after))
-advance-printed scripts wanted most k r n o i texts before after taken steps is rest all =
-    let P : Run → Type 0 = Advances scripts wanted most k r in
+pub advance-printed : (scripts : List Script) (session : Option Session) (most k : ℕ) (r : Run) (n o : Machine) (i : Heap) (texts before after taken : List (List ℕ)) → Advances scripts session most k r (machine_run n i (taken ++ before))
+    → texts ≡ n.context.printed → o ≡ record n { context = record n.context { printed = [] } } → after ≡ before ++ texts → Advances scripts session most k r (machine_run o i (taken ++ after))
+advance-printed scripts session most k r n o i texts before after taken steps is rest all =
+    let P : Run → Type 0 = Advances scripts session most k r in
     let e : machine_run n i (taken ++ before) ≡ machine_run o i (taken ++ after) =
     sym (handed-over n o i texts (taken ++ before) is rest) ∙ ap (machine_run o i) (append_assoc taken before texts ∙ ap (λ xs. taken ++ xs) (sym all)) in
     subst P e steps
@@ -141,18 +170,14 @@ unfinished-thrown m h taken kept goes none = not_thrown m h taken m.ended refl k
 pub same-program : (m n : Machine) → HasSameCode m n → program_of n ≡ program_of m
 same-program m n same = ap (λ t. trees.program_of n.names t) same.table ∙ ap (λ names. trees.program_of names m.table) same.names
 
--- the question whether a stop is asked for, as it is put behind a step
-abbrev pub asked : List Script → Bool → Term → List Frame → Bool
-asked scripts wanted t frames = wanted && is_some (at (spans_in scripts (top_spot frames).source) t)
+-- the question whether a session names a stop, as it is put behind a step
+abbrev pub asked : List Script → Option Session → Term → List Frame → Bool
+asked scripts session t frames = names (arrival_at scripts t frames) session
 
-nowhere : (wanted : Bool) → (wanted && false) ≡ false
-nowhere true = refl
-nowhere false = refl
-
-asked_there : (scripts : List Script) (wanted : Bool) (r : Run) → asks_at (asked scripts wanted) r ≡ (wanted && is_arrival scripts r)
-unfolding is_arrival
-asked_there scripts wanted (running t s) = refl
-asked_there scripts wanted (over f s) = sym (nowhere wanted)
+asked_there : (scripts : List Script) (session : Option Session) (r : Run) → asks_at (asked scripts session) r ≡ names (arrival_of scripts r) session
+unfolding arrival_of
+asked_there scripts session (running t s) = refl
+asked_there scripts session (over f s) = sym (unnamed-end s session)
 
 nexts_are : (k : ℕ) (scripts : List Script) (r : Run) → steps_in k (code_of scripts) script_scope r ≡ nexts scripts k r
 unfolding next
@@ -187,12 +212,12 @@ none_ended (whys.Full what) most some counts = refl
 none_ended whys.Memory most some counts = refl
 
 -- what a machine's run says of it before and behind
-pub record HasRun (scripts : List Script) (wanted : Bool) (most : ℕ) (m : Machine) (h : Heap) (n : Machine) (i : Heap) (k : ℕ) (why : Why) : Type 0 where
+pub record HasRun (scripts : List Script) (session : Option Session) (most : ℕ) (m : Machine) (h : Heap) (n : Machine) (i : Heap) (k : ℕ) (why : Why) : Type 0 where
   pub runs : IsKept n.ended → (taken : List (List ℕ)) → machine_run n i taken ≡ steps_in k (program_of m) script_scope (machine_run m h taken)
   pub left : (taken : List (List ℕ)) → RunsFor k (program_of m) script_scope (machine_run m h taken)
   pub within : k ≤ most
   pub counted : CountsAs why k most
-  pub passed : (taken : List (List ℕ)) → HasPassed (asked scripts wanted) (passed_steps why k) (program_of m) script_scope (machine_run m h taken)
+  pub passed : (taken : List (List ℕ)) → HasPassed (asked scripts session) (passed_steps why k) (program_of m) script_scope (machine_run m h taken)
   pub end : n.ended ≡ end_of_run why
 
 some_steps : (most k : ℕ) (n : Machine) (h i : Heap) (m : Machine) (why : Why) (taken : List (List ℕ)) → 0 < most → CountsAs why k most → n.ended ≡ end_of_run why → IsKept n.ended
@@ -204,9 +229,9 @@ some_steps most zero n h i m why taken some counted end kept same goes =
 some_steps most (suc k) n h i m why taken some counted end kept same goes = omega arith
 
 -- it is a stretch of steps
-pub has-advanced : (scripts : List Script) (wanted : Bool) (most : ℕ) (m : Machine) (h : Heap) (n : Machine) (i : Heap) (k : ℕ) (why : Why) → HasRun scripts wanted most m h n i k why
-    → program_of m ≡ code_of scripts → 0 < most → IsKept n.ended → ((taken : List (List ℕ)) → is_over (machine_run m h taken) ≡ false) → (taken : List (List ℕ)) → Advances scripts wanted most k (machine_run m h taken) (machine_run n i taken)
-has-advanced scripts wanted most m h n i k why ran code some kept goes taken =
+pub has-advanced : (scripts : List Script) (session : Option Session) (most : ℕ) (m : Machine) (h : Heap) (n : Machine) (i : Heap) (k : ℕ) (why : Why) → HasRun scripts session most m h n i k why
+    → program_of m ≡ code_of scripts → 0 < most → IsKept n.ended → ((taken : List (List ℕ)) → is_over (machine_run m h taken) ≡ false) → (taken : List (List ℕ)) → Advances scripts session most k (machine_run m h taken) (machine_run n i taken)
+has-advanced scripts session most m h n i k why ran code some kept goes taken =
     let r : Run = machine_run m h taken in
     let there : (j : ℕ) → steps_in j (program_of m) script_scope r ≡ nexts scripts j r = λ j. ap (λ p. steps_in j p script_scope r) code ∙ nexts_are j scripts r in
     record {
@@ -215,5 +240,5 @@ has-advanced scripts wanted most m h n i k why ran code some kept goes taken =
       runs = λ j below. ap is_over (sym (there j)) ∙ left_over k j (program_of m) script_scope r (ran.left taken) below;
       passes = λ j first below.
           let low = all_but_last why k in
-          sym (asked_there scripts wanted (nexts scripts j r)) ∙ ap (asks_at (asked scripts wanted)) (sym (there j)) ∙ (ran.passed taken).none j first (omega (arith, low));
+          sym (asked_there scripts session (nexts scripts j r)) ∙ ap (asks_at (asked scripts session)) (sym (there j)) ∙ (ran.passed taken).none j first (omega (arith, low));
     }

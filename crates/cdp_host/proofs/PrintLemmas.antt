@@ -1,5 +1,5 @@
 -- What steps print.
-use Rattle.std.proofs.Common.{◌≡◌, ℕ, zero, suc, List, [], ◌++◌, drop, length, false, ◌∙◌, sym, ap, append-nil}
+use Rattle.std.proofs.Common.{◌≡◌, ℕ, zero, suc, List, [], ◌++◌, drop, length, false, ◌∙◌, sym, ap, subst, append-nil}
 use Rattle.std.proofs.Math.Seq.{drop-append_seam}
 use Rattle.js_tree.specs.declared.script.Script.{Script}
 use Rattle.js_semantics.specs.Run.{Run}
@@ -10,13 +10,15 @@ use Rattle.cdp_host.specs.Rules.{printed_in}
 use Rattle.cdp_host.specs.Hosts.{HostState, meaning_with}
 use Rattle.cdp_host.proofs.ProgramLemmas.{prefix-same, prefix-trans, next-prints}
 use Rattle.cdp_host.proofs.PartLemmas.{run-printed}
+use Rattle.cdp_host.proofs.RunLemmas.{step-program}
 use Rattle.cdp_host.proofs.HistoryLemmas.{RanSo}
 
 -- steps only print more
 steps-prefix : (n : ℕ) (scripts : List Script) (m : Meaning Run) → IsPrefix (printed_of m.program) (printed_of (after_steps scripts n m).program)
 steps-prefix zero scripts m = prefix-same (printed_of m.program)
 steps-prefix (suc n) scripts m =
-    prefix-trans (printed_of m.program) (printed_of (step scripts m).program) (printed_of (after_steps scripts (suc n) m).program) (next-prints scripts m.program) (steps-prefix n scripts (step scripts m))
+    let P : Run → Type 0 = λ r. IsPrefix (printed_of m.program) (printed_of r) in
+    prefix-trans (printed_of m.program) (printed_of (step scripts m).program) (printed_of (after_steps scripts (suc n) m).program) (subst P (sym (step-program scripts m)) (next-prints scripts m.program)) (steps-prefix n scripts (step scripts m))
 
 -- what so many steps print comes behind what was printed before
 pub steps-print : (n : ℕ) (scripts : List Script) (m : Meaning Run) → printed_of m.program ++ printed_in scripts n m ≡ printed_of (after_steps scripts n m).program

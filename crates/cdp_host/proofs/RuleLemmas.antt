@@ -5,45 +5,41 @@ use Rattle.std.specs.Option.{option_map, option_map_or}
 use Rattle.std.proofs.lemmas.Bool.{lt-ltb}
 use Rattle.js_tree.specs.declared.script.Script.{Script}
 use Rattle.js_semantics.specs.Run.{Run}
-use Rattle.cdp_session.specs.Kept.{Session}
-use Rattle.cdp_session.specs.Command.{Command, command_of}
-use Rattle.cdp_session.specs.Messages.{paused_event}
-use Rattle.cdp_session.specs.Session.{stopped, answer_of, emptied}
-use Rattle.cdp_session.proofs.AnswerLemmas.{answer-outbox}
-use Rattle.cdp_host.specs.Programs.{plain, next, printed_of}
-use Rattle.cdp_host.specs.Meaning.{Meaning, begin, step, after_steps, is_attached, is_named, is_ready, names, longest}
-use Rattle.cdp_host.specs.Histories.{Entry, Attach, Tell, Take, Detach, Ran, changed, apply, whole, told, with_answer, steps_of, steps_made}
+use Rattle.stepping.specs.declared.arrival.Arrival.{Arrival}
+use Rattle.cdp_session.specs.Sessions.{Session, emptied}
+use Rattle.cdp_session.specs.Stops.{resumed, stopped}
+use Rattle.cdp_session.specs.Replies.{Answer, answer_of, answer_texts, outcome_of}
+use Rattle.cdp_session.proofs.OutboxLemmas.{answer-outbox}
+use Rattle.cdp_host.specs.Programs.{arrival_of, plain, next, printed_of}
+use Rattle.cdp_host.specs.Meaning.{Meaning, at_program, begin, behind, situation, step, after_steps, is_attached, is_named, is_ready, names, longest}
+use Rattle.cdp_host.specs.Histories.{Entry, Attach, Tell, Take, Detach, Ran, changed, apply, whole, told, with_answer, lets_go, session_told, resume_texts, told_texts, steps_of, steps_made}
 use Rattle.cdp_host.specs.States.{outbox_of}
-use Rattle.cdp_host.specs.Rules.{PrintsAsPlain, StopsAt, AllStopExactly, texts_at, texts_of, answer_texts, handed_at, handed_of, FitsEntry, FitsAll}
+use Rattle.cdp_host.specs.Rules.{PrintsAsPlain, StopsAt, AllStopExactly, texts_at, texts_of, tell_texts, stops_texts, handed_at, handed_of, FitsEntry, FitsAll}
 use Rattle.cdp_host.proofs.ProgramLemmas.{plain-start, plain-grows, plain-over}
 use Rattle.cdp_host.proofs.RunLemmas.{after_steps-plain, after_steps-suc, longest-is, longest-stops, quiet, next-plain}
 
 -- ---- the program's way
 
-told-program : {A : Type 0} (m : Meaning A) (command : Command) (o : Option Session) → (option_map_or (λ x. with_answer m (answer_of m.paused x command)) o m).program ≡ m.program
-told-program m command None = refl
-told-program m command (Some x) = refl
-
-tell-program : {A : Type 0} (m : Meaning A) (o : Option Command) → (option_map_or (λ command. told command m) o m).program ≡ m.program
-tell-program m None = refl
-tell-program m (Some command) = told-program m command m.session
+told-program : {A : Type 0} (scripts : List Script) (m : Meaning A) (text : List ℕ) (o : Option Session) → (option_map_or (λ x. with_answer m (answer_of (situation scripts m) x text)) o m).program ≡ m.program
+told-program scripts m text None = refl
+told-program scripts m text (Some x) = refl
 
 choice-program : {A : Type 0} (b : Bool) (k m : Meaning A) → k.program ≡ m.program → (if b then k else m).program ≡ m.program
 choice-program true k m is = is
 choice-program false k m is = refl
 
 -- what an entry does beside making steps leaves the program as it is
-pub changed-program : {A : Type 0} (m : Meaning A) (entry : Entry) → (changed m entry).program ≡ m.program
-changed-program m Attach = refl
-changed-program m (Tell s text) = choice-program (is_attached m s) (option_map_or (λ command. told command m) (command_of text) m) m (tell-program m (command_of text))
-changed-program m (Take s) = choice-program (is_attached m s) (record m { session = option_map emptied m.session }) m refl
-changed-program m (Detach s) = choice-program (is_attached m s) (record m { paused = false; session = None }) m refl
-changed-program m (Ran n) = refl
+pub changed-program : {A : Type 0} (scripts : List Script) (m : Meaning A) (entry : Entry) → (changed scripts m entry).program ≡ m.program
+changed-program scripts m Attach = refl
+changed-program scripts m (Tell s text) = choice-program (is_attached m s) (told scripts text m) m (told-program scripts m text m.session)
+changed-program scripts m (Take s) = choice-program (is_attached m s) (record m { session = option_map emptied m.session }) m refl
+changed-program scripts m (Detach s) = choice-program (is_attached m s) (record m { stop = None; session = None }) m refl
+changed-program scripts m (Ran n) = refl
 
 -- the program goes its plain way, whatever an entry does
 pub apply-plain : (scripts : List Script) (input : List (List ℕ)) (made : ℕ) (m : Meaning Run) (entry : Entry) → m.program ≡ plain made scripts input
     → (apply scripts m entry).program ≡ plain (made + steps_of entry) scripts input
-apply-plain scripts input made m entry is = after_steps-plain (steps_of entry) scripts input made (changed m entry) (changed-program m entry ∙ is)
+apply-plain scripts input made m entry is = after_steps-plain (steps_of entry) scripts input made (changed scripts m entry) (changed-program scripts m entry ∙ is)
 
 pub fold-plain : (history : List Entry) (scripts : List Script) (input : List (List ℕ)) (made : ℕ) (m : Meaning Run) → m.program ≡ plain made scripts input
     → (fold (apply scripts) m history).program ≡ plain (made + steps_made history) scripts input
@@ -92,15 +88,29 @@ fits-stops (entry ∷ history) scripts input made m is fits = (
 
 -- ---- what became of each text
 
-told-outbox : (m : Meaning Run) (command : Command) (o : Option Session) → m.session ≡ o → outbox_of (told command m) ≡ outbox_of m ++ answer_texts m command
-told-outbox m command None is = rw is refl
-told-outbox m command (Some x) is =
-    let answer = answer_of m.paused x command in
-    rw is (ap (λ texts. texts ++ answer.texts) (answer-outbox m.paused x command))
+-- a resume that is told, or none
+resumed_outbox : (b : Bool) (x : Session) → (if b then resumed x else x).outbox ≡ x.outbox ++ resume_texts b x
+resumed_outbox true x = refl
+resumed_outbox false x = sym (append-nil x.outbox)
 
-tell-outbox : (m : Meaning Run) (o : Option Command) → outbox_of (option_map_or (λ command. told command m) o m) ≡ outbox_of m ++ option_map_or (answer_texts m) o []
-tell-outbox m None = sym (append-nil (outbox_of m))
-tell-outbox m (Some command) = told-outbox m command m.session refl
+-- the answer to a command, and the resume
+session_outbox : (scripts : List Script) (text : List ℕ) (m : Meaning Run) (x : Session)
+    → (session_told m.stop (answer_of (situation scripts m) x text)).outbox ≡ x.outbox ++ told_texts scripts text m x
+session_outbox scripts text m x =
+    let answer : Answer = answer_of (situation scripts m) x text in
+    let go : Bool = lets_go m.stop answer in
+    resumed_outbox go answer.session
+    ∙ ap (λ texts. texts ++ resume_texts go answer.session) (answer-outbox (situation scripts m) x text)
+    ∙ append_assoc x.outbox (answer_texts (outcome_of (situation scripts m) x text)) (resume_texts go answer.session)
+
+told_outbox : (scripts : List Script) (text : List ℕ) (m : Meaning Run) (o : Option Session)
+    → outbox_of (option_map_or (λ x. with_answer m (answer_of (situation scripts m) x text)) o (record m { session = o }))
+    ≡ option_map_or (λ x. x.outbox) o [] ++ option_map_or (told_texts scripts text m) o []
+told_outbox scripts text m None = refl
+told_outbox scripts text m (Some x) = session_outbox scripts text m x
+
+tell-outbox : (scripts : List Script) (text : List ℕ) (m : Meaning Run) → outbox_of (told scripts text m) ≡ outbox_of m ++ tell_texts scripts m text
+tell-outbox scripts text m = told_outbox scripts text m m.session
 
 choice-outbox : (b : Bool) (k m : Meaning Run) (texts : List (List ℕ)) → outbox_of k ≡ outbox_of m ++ texts
     → outbox_of (if b then k else m) ≡ outbox_of m ++ (if b then texts else [])
@@ -113,15 +123,31 @@ take-outbox true m None is = rw is refl
 take-outbox true m (Some x) is = rw is refl
 take-outbox false m o is = sym (append-nil (outbox_of m))
 
-stepped-outbox : (scripts : List Script) (r : Run) (o : Option Session) (b : Bool) → option_map_or (names scripts r) o false ≡ b
-    → option_map_or (λ x. x.outbox) (if b then option_map stopped o else o) [] ≡ option_map_or (λ x. x.outbox) o [] ++ (if b then paused_event ∷ [] else [])
-stepped-outbox scripts r None true is = cc
-stepped-outbox scripts r None false is = refl
-stepped-outbox scripts r (Some x) true is = refl
-stepped-outbox scripts r (Some x) false is = sym (append-nil x.outbox)
+stopped_outbox : (a : Arrival) (o : Option Session) → option_map_or (λ x. x.outbox) (option_map (stopped a) o) [] ≡ option_map_or (λ x. x.outbox) o [] ++ stops_texts a o
+stopped_outbox a None = refl
+stopped_outbox a (Some x) = refl
+
+behind_outbox : (a : Arrival) (b : Bool) (m : Meaning Run) → outbox_of (behind a b m) ≡ outbox_of m ++ (if b then stops_texts a m.session else [])
+behind_outbox a true m = stopped_outbox a m.session
+behind_outbox a false m = sym (append-nil (outbox_of m))
+
+-- the session's texts don't depend on the program
+same_outbox : (m n : Meaning Run) → m.session ≡ n.session → outbox_of m ≡ outbox_of n
+same_outbox m n is = ap (λ o. option_map_or (λ x. x.outbox) o []) is
+
+-- what a stop adds there, in the words of the session before the steps
+ran_texts : (scripts : List Script) (n m : Meaning Run) (q r : Run) (b : Bool) → n.session ≡ m.session → q ≡ r → b ≡ true
+    → outbox_of n ++ (if is_named scripts n q then stops_texts (arrival_of scripts q) n.session else [])
+    ≡ outbox_of m ++ (if b && is_named scripts m r then stops_texts (arrival_of scripts r) m.session else [])
+ran_texts scripts n m q r b session program some =
+    let texts : Option Session → Run → List (List ℕ) = λ o p. if names (arrival_of scripts p) o then stops_texts (arrival_of scripts p) o else [] in
+    ap (λ xs. xs ++ texts n.session q) (same_outbox n m session)
+    ∙ ap (λ o. outbox_of m ++ texts o q) session
+    ∙ ap (λ p. outbox_of m ++ texts m.session p) program
+    ∙ ap (λ c. outbox_of m ++ (if c && is_named scripts m r then stops_texts (arrival_of scripts r) m.session else [])) (sym some)
 
 ran-outbox : (scripts : List Script) (input : List (List ℕ)) (made n : ℕ) (m : Meaning Run) → m.program ≡ plain made scripts input → ((j : ℕ) → j < n → is_ready (after_steps scripts j m) ≡ true)
-    → outbox_of (after_steps scripts n m) ≡ outbox_of m ++ (if nat_lt 0 n && is_named scripts m (plain (made + n) scripts input) then paused_event ∷ [] else [])
+    → outbox_of (after_steps scripts n m) ≡ outbox_of m ++ (if nat_lt 0 n && is_named scripts m (plain (made + n) scripts input) then stops_texts (arrival_of scripts (plain (made + n) scripts input)) m.session else [])
 ran-outbox scripts input made zero m is ready = sym (append-nil (outbox_of m))
 ran-outbox scripts input made (suc n) m is ready =
     let last : after_steps scripts (suc n) m ≡ step scripts (after_steps scripts n m) = after_steps-suc n scripts m in
@@ -129,14 +155,16 @@ ran-outbox scripts input made (suc n) m is ready =
     let same : (after_steps scripts n m).session ≡ m.session = quiet n scripts m (suc n) ready (omega arith) in
     let place : next scripts (after_steps scripts n m).program ≡ plain (made + suc n) scripts input = next-plain scripts input made n m is ∙ ap (λ k. plain k scripts input) e in
     let above : nat_lt 0 (suc n) ≡ true = lt-ltb 0 (suc n) (omega arith) in
+    let before : Meaning Run = after_steps scripts n m in
     ap outbox_of last
-    ∙ rw (same, place, above) (stepped-outbox scripts (plain (made + suc n) scripts input) m.session (is_named scripts m (plain (made + suc n) scripts input)) refl)
+    ∙ behind_outbox (arrival_of scripts (next scripts before.program)) (is_named scripts before (next scripts before.program)) (at_program (next scripts before.program) before)
+    ∙ ran_texts scripts before m (next scripts before.program) (plain (made + suc n) scripts input) (nat_lt 0 (suc n)) same place above
 
 -- what an entry hands out, and what waits behind it, is what waited and what it made
 pub keeps : (scripts : List Script) (input : List (List ℕ)) (made : ℕ) (m : Meaning Run) (entry : Entry) → m.program ≡ plain made scripts input → FitsEntry scripts m entry
     → handed_at m entry ++ outbox_of (apply scripts m entry) ≡ outbox_of m ++ texts_at scripts input made m entry
 keeps scripts input made m Attach is fits = rw (fits.1) refl
-keeps scripts input made m (Tell s text) is fits = choice-outbox (is_attached m s) _ m _ (tell-outbox m (command_of text))
+keeps scripts input made m (Tell s text) is fits = choice-outbox (is_attached m s) (told scripts text m) m (tell_texts scripts m text) (tell-outbox scripts text m)
 keeps scripts input made m (Take s) is fits = take-outbox (is_attached m s) m m.session refl
 keeps scripts input made m (Detach s) is fits = absurd fits
 keeps scripts input made m (Ran n) is fits =

@@ -1,13 +1,29 @@
 -- Runs: one step behind others, the longest run, and where it stops.
-use Rattle.std.proofs.Common.{◌≡◌, ◌⊎◌, ℕ, zero, suc, ◌+◌, ◌<◌, ◌≤◌, List, Bool, true, false, not, refl, ap, sym, subst, ◌∙◌, inl, inr, arith, add-one, if◌then◌else◌}
+use Rattle.std.proofs.Common.{◌≡◌, ◌⊎◌, ℕ, zero, suc, ◌+◌, ◌<◌, ◌≤◌, List, Bool, true, false, not, refl, ap, sym, subst, ◌∙◌, inl, inr, arith, add-one, is_some, if◌then◌else◌, Option, Some, None}
 use Rattle.std.proofs.lemmas.Bool.{and_parts, not-true}
 use Rattle.js_tree.specs.declared.script.Script.{Script}
 use Rattle.js_semantics.specs.Run.{Run}
-use Rattle.cdp_host.specs.Programs.{plain, next, is_over}
-use Rattle.cdp_host.specs.Meaning.{Meaning, step, after_steps, is_ready, is_named, longest, IsLongest}
+use Rattle.stepping.specs.declared.arrival.Arrival.{Arrival}
+use Rattle.cdp_session.specs.declared.situation.Pause.{Pause}
+use Rattle.cdp_host.specs.Programs.{arrival_of, plain, next, is_over}
+use Rattle.cdp_host.specs.Meaning.{Meaning, at_program, behind, is_paused, step, after_steps, is_ready, is_named, longest, IsLongest}
 use Rattle.cdp_host.specs.Ran.{HasMade}
 use Rattle.cdp_host.specs.Rules.{StopsExactly}
 use Rattle.cdp_host.proofs.ProgramLemmas.{plain-next}
+
+-- ---- pauses
+
+pub unpaused : (o : Option Pause) → is_some o ≡ false → o ≡ None
+unpaused None is = refl
+unpaused (Some p) is = absurd cc
+
+-- behind an arrival a program is paused exactly where it stops
+paused-behind : (a : Arrival) (b : Bool) (m : Meaning Run) → is_paused (behind a b m) ≡ b
+paused-behind a true m = refl
+paused-behind a false m = refl
+
+pub step-paused : (scripts : List Script) (m : Meaning Run) → is_paused (step scripts m) ≡ is_named scripts m (next scripts m.program)
+step-paused scripts m = paused-behind (arrival_of scripts (next scripts m.program)) (is_named scripts m (next scripts m.program)) (at_program (next scripts m.program) m)
 
 -- ---- steps behind others
 
@@ -96,29 +112,37 @@ is-longest scripts most k m is = longest-one scripts most k (longest scripts mos
 
 -- ---- where a run stops
 
+-- a stop leaves the program as it is
+behind-program : (a : Arrival) (b : Bool) (m : Meaning Run) → (behind a b m).program ≡ m.program
+behind-program a true m = refl
+behind-program a false m = refl
+
+pub step-program : (scripts : List Script) (m : Meaning Run) → (step scripts m).program ≡ next scripts m.program
+step-program scripts m = behind-program (arrival_of scripts (next scripts m.program)) (is_named scripts m (next scripts m.program)) (at_program (next scripts m.program) m)
+
 -- the program goes its plain way, whatever stops it
 pub after_steps-plain : (n : ℕ) (scripts : List Script) (input : List (List ℕ)) (made : ℕ) (m : Meaning Run) → m.program ≡ plain made scripts input
     → (after_steps scripts n m).program ≡ plain (made + n) scripts input
 after_steps-plain zero scripts input made m is = let e : made ≡ made + 0 = omega arith in is ∙ ap (λ k. plain k scripts input) e
 after_steps-plain (suc n) scripts input made m is =
     let e : suc made + n ≡ made + suc n = omega arith in
-    after_steps-plain n scripts input (suc made) (step scripts m) (ap (next scripts) is ∙ plain-next made scripts input) ∙ ap (λ k. plain k scripts input) e
+    after_steps-plain n scripts input (suc made) (step scripts m) (step-program scripts m ∙ ap (next scripts) is ∙ plain-next made scripts input) ∙ ap (λ k. plain k scripts input) e
 
 -- a step that no session names leaves the session as it was
 step-session : (scripts : List Script) (m : Meaning Run) → is_named scripts m (next scripts m.program) ≡ false → (step scripts m).session ≡ m.session
 step-session scripts m unnamed = rw unnamed refl
 
 -- a ready program isn't paused
-ready-paused : (m : Meaning Run) → is_ready m ≡ true → m.paused ≡ false
-ready-paused m go = not-true m.paused (and_parts (not m.paused) (not (is_over m.program)) go).0
+pub ready-paused : (m : Meaning Run) → is_ready m ≡ true → is_paused m ≡ false
+ready-paused m go = not-true (is_paused m) (and_parts (not (is_paused m)) (not (is_over m.program)) go).0
 
 -- while the program is ready, no step was named, so the session is as it was
 pub quiet : (j : ℕ) (scripts : List Script) (m : Meaning Run) (n : ℕ) → ((i : ℕ) → i < n → is_ready (after_steps scripts i m) ≡ true) → j < n → (after_steps scripts j m).session ≡ m.session
 quiet zero scripts m n ready below = refl
 quiet (suc j) scripts m n ready below =
     let now : after_steps scripts (suc j) m ≡ step scripts (after_steps scripts j m) = after_steps-suc j scripts m in
-    let unpaused : (step scripts (after_steps scripts j m)).paused ≡ false = sym (ap (λ k. k.paused) now) ∙ ready-paused (after_steps scripts (suc j) m) (ready (suc j) below) in
-    ap (λ k. k.session) now ∙ step-session scripts (after_steps scripts j m) unpaused ∙ quiet j scripts m n ready (omega arith)
+    let unnamed = sym (step-paused scripts (after_steps scripts j m)) ∙ sym (ap is_paused now) ∙ ready-paused (after_steps scripts (suc j) m) (ready (suc j) below) in
+    ap (λ k. k.session) now ∙ step-session scripts (after_steps scripts j m) unnamed ∙ quiet j scripts m n ready (omega arith)
 
 -- where the session is the same, it names the same stops
 same-names : (scripts : List Script) (m n : Meaning Run) (r q : Run) → m.session ≡ n.session → r ≡ q → is_named scripts m r ≡ is_named scripts n q
@@ -135,15 +159,15 @@ passes_none : (scripts : List Script) (input : List (List ℕ)) (made n : ℕ) (
     → (j : ℕ) → j + 1 < n → is_named scripts m (plain (made + j + 1) scripts input) ≡ false
 passes_none scripts input made n m is ready j below =
     sym (same-names scripts (after_steps scripts j m) m _ _ (quiet j scripts m n ready (omega arith)) (next-plain scripts input made j m is))
-    ∙ ap (λ k. k.paused) (sym (after_steps-more j scripts m)) ∙ ready-paused (after_steps scripts (j + 1) m) (ready (j + 1) below)
+    ∙ sym (step-paused scripts (after_steps scripts j m)) ∙ ap is_paused (sym (after_steps-more j scripts m)) ∙ ready-paused (after_steps scripts (j + 1) m) (ready (j + 1) below)
 
 stops_there : (scripts : List Script) (input : List (List ℕ)) (made n : ℕ) (m : Meaning Run) → m.program ≡ plain made scripts input → ((j : ℕ) → j < n → is_ready (after_steps scripts j m) ≡ true)
-    → 0 < n → (after_steps scripts n m).paused ≡ is_named scripts m (plain (made + n) scripts input)
+    → 0 < n → is_paused (after_steps scripts n m) ≡ is_named scripts m (plain (made + n) scripts input)
 stops_there scripts input made zero m is ready some = absurd (omega arith)
 stops_there scripts input made (suc n) m is ready some =
     let last : after_steps scripts (suc n) m ≡ step scripts (after_steps scripts n m) = after_steps-suc n scripts m in
     let e : made + n + 1 ≡ made + suc n = omega arith in
-    ap (λ k. k.paused) last ∙ same-names scripts (after_steps scripts n m) m _ _ (quiet n scripts m (suc n) ready (omega arith)) (next-plain scripts input made n m is ∙ ap (λ k. plain k scripts input) e)
+    ap is_paused last ∙ step-paused scripts (after_steps scripts n m) ∙ same-names scripts (after_steps scripts n m) m _ _ (quiet n scripts m (suc n) ready (omega arith)) (next-plain scripts input made n m is ∙ ap (λ k. plain k scripts input) e)
 
 -- steps that are made where the program is ready stop exactly where they are named
 pub ready-stops : (scripts : List Script) (input : List (List ℕ)) (made n : ℕ) (m : Meaning Run) → m.program ≡ plain made scripts input → ((j : ℕ) → j < n → is_ready (after_steps scripts j m) ≡ true)

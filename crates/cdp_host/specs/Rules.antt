@@ -1,5 +1,5 @@
 -- What holds of a history, in the words of the run without a debugger.
-use Rattle.std.specs.Prelude.{◌≡◌, ◌<◌, ℕ, ◌+◌, List, [], ◌∷◌, ◌++◌, drop, length, Bool, true, false, ◌&&◌, ◌||◌, nat_lt, is_some, if◌then◌else◌, Option, None}
+use Rattle.std.specs.Prelude.{◌≡◌, ◌<◌, ℕ, ◌+◌, List, [], ◌∷◌, ◌++◌, drop, length, Bool, true, false, ◌&&◌, ◌||◌, nat_lt, is_some, if◌then◌else◌, Option, Some, None}
 use Rattle.std.specs.Option.{option_map_or}
 use Rattle.cdp_text.specs.declared.position.Place.{Place}
 use Rattle.js_tree.specs.declared.script.Script.{Script}
@@ -10,6 +10,7 @@ use Rattle.stepping.specs.declared.rules.StepKind.{StepKind}
 use Rattle.stepping.specs.Alone.{AsksForStep}
 use Rattle.stepping.specs.Causes.{ends_at}
 use Rattle.breakpoints.specs.Breakpoints.{is_hit}
+use Rattle.cdp_session.specs.declared.situation.Pause.{Pause}
 use Rattle.cdp_session.specs.Sessions.{Session}
 use Rattle.cdp_session.specs.Stops.{stop_texts}
 use Rattle.cdp_host.specs.Programs.{arrival_of, plain, printed_of, is_over}
@@ -66,6 +67,10 @@ ends_step kind depth a = is_some a.place && (a.debugger || ends_at kind depth a.
 pub record StopsAtFirst (kind : StepKind) (depth : ℕ) (scripts : List Script) (input : List (List ℕ)) (made : ℕ) (m : Meaning Run) (n : ℕ) : Type 0 where
   pub passes_none : (j : ℕ) → j + 1 < n → ends_step kind depth (arrival_of scripts (plain (made + j + 1) scripts input)) ≡ false
   pub stops_there : 0 < n → is_paused (after_steps scripts n m) ≡ ends_step kind depth (arrival_of scripts (plain (made + n) scripts input))
+
+-- where a program is paused, the depth that is kept of it is the one at which it stands
+abbrev pub IsPausedThere : List Script → Meaning Run → Type 0
+IsPausedThere scripts m = (p : Pause) → m.stop ≡ Some p → p.depth ≡ (arrival_of scripts m.program).depth
 
 -- ---- texts
 

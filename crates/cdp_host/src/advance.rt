@@ -1,7 +1,9 @@
 //! Steps of a program that a session may stop.
 
-ghost use Rattle.std.specs.Prelude.{◌≡◌, ◌++◌, ◌<◌, ℕ, List, [], false, is_some, IfOk, OnOk, None};
+ghost use Rattle.std.specs.Prelude.{◌≡◌, ◌++◌, ◌<◌, ℕ, List, [], false, is_some, IfOk, OnOk, None, Some};
+ghost use Rattle.js_code.specs.Trees.{IsTable};
 ghost use Rattle.js_machine.specs.Machines.{HasSameCode, IsKept, program_of};
+ghost use Rattle.js_steps.specs.Points.{term_at, IsAt};
 ghost use Rattle.cdp_host.specs.Arrivals.{arrival_at};
 ghost use Rattle.cdp_host.specs.Hosts.{depth_of, machine_arrival, machine_run, meant, pause_from, session_behind, stops_from, AreLines};
 ghost use Rattle.cdp_host.specs.Meaning.{names};
@@ -13,6 +15,8 @@ use cdp_session::session::Session;
 use cdp_text::line_table::LineTable;
 use cdp_text::units::Units;
 use js_code::table::NodeTable;
+use js_frames::arrivals::arrival;
+use js_frames::throws::thrown;
 use js_machine::end::End;
 use js_machine::machine::Machine;
 use js_operations::context::Context;
@@ -47,10 +51,35 @@ impl Asks for Watch<'_> {
     ghost stops = { λ watch term frames. names (arrival_at watch.scripts.now term frames) watch.session.now };
 
     fn asks(&self, table: &NodeTable, context: &Context, stack: &Stack, point: Point) -> bool {
-        names(
-            self.session,
-            &arrival_at(self.scripts, self.lines, table, context, stack, point),
-        )
+        match self.session {
+            Some(session) => {
+                !session.is_silent() && self.is_named(session, table, context, stack, point)
+            }
+            None => false,
+        }
+    }
+}
+
+impl Watch<'_> {
+    /// Whether a session names a stop where a machine stands. Where it neither arrives nor raised, none does.
+    fn is_named(
+        &self,
+        session: &Session,
+        table: &NodeTable,
+        context: &Context,
+        stack: &Stack,
+        point: Point,
+    ) -> bool
+        requires table { IsTable table.now }
+        requires at { IsAt table.now stack.now point }
+        ensures { (ts : List (List ℕ)) → result ≡ names (arrival_at self.now.scripts.now (term_at ts table.now stack.now point) context.now.frames) (Some session.now) }
+    {
+        let mark = arrival(table, self.scripts, context, stack, point);
+        if mark.is_none() && thrown(stack, point).is_none() {
+            return false;
+        }
+        let arrival = arrival_at(self.scripts, self.lines, table, context, stack, point);
+        session.names(&arrival).is_some()
     }
 }
 

@@ -208,7 +208,7 @@ impl Host {
             State::Threw
         } else if self.is_over() {
             State::Ended
-        } else if self.stop.is_some() {
+        } else if self.is_paused() {
             State::Paused
         } else {
             State::Ready
@@ -360,11 +360,18 @@ impl Host {
         !self.broken && self.goes_on()
     }
 
+    /// Whether the program is paused.
+    fn is_paused(&self) -> bool
+        ensures { result ≡ is_paused self.now.meaning }
+    {
+        self.stop.is_some()
+    }
+
     /// Whether the program is neither paused nor over.
     fn goes_on(&self) -> bool
         ensures { self.now.broken ≡ false → (taken : List (List ℕ)) → result ≡ is_ready (meaning_with self.now taken) }
     {
-        self.stop.is_none() && !self.is_over()
+        !self.is_paused() && !self.is_over()
     }
 
     /// Whether the program is over.

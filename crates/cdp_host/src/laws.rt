@@ -6,7 +6,7 @@ ghost use Rattle.cdp_host.specs.Programs.{plain};
 ghost use Rattle.cdp_host.specs.Meaning.{begin};
 ghost use Rattle.cdp_host.specs.Histories.{Entry, whole, steps_made};
 ghost use Rattle.cdp_host.specs.States.{outbox_of};
-ghost use Rattle.cdp_host.specs.Rules.{PrintsAsPlain, AllStopExactly, FitsAll, handed_of, texts_of};
+ghost use Rattle.cdp_host.specs.Rules.{PrintsAsPlain, AllStopExactly, IsPausedThere, FitsAll, handed_of, texts_of};
 
 /// Behind a history the program is where as many steps lead that nobody watches.
 pub fn a_history_goes_the_plain_way()
@@ -17,6 +17,12 @@ pub fn a_history_goes_the_plain_way()
 /// program is over.
 pub fn a_history_prints_as_the_plain_run()
     ensures { (scripts : List Script) (input : List (List ℕ)) (history : List Entry) → PrintsAsPlain scripts input (steps_made history) (whole scripts input history).program }
+{}
+
+/// Where the program is paused behind a history, the depth that is kept of the pause, from which steps are asked for, is the
+/// one at which it stands.
+pub fn a_pause_has_the_depth_of_its_program()
+    ensures { (scripts : List Script) (input : List (List ℕ)) (history : List Entry) → IsPausedThere scripts (whole scripts input history) }
 {}
 
 /// Each run of a journal's history stops exactly at the steps that a session names.

@@ -1,1 +1,2 @@
 pub mod OrderedLemmas
+pub mod OutboxLemmas

@@ -11,13 +11,13 @@ advance-requires-clause-going c =
     let a = c.self.inside in
     let kept = c.self.invariant.kept (ap (λ h. h.broken) c.self.view_is ∙ c.requires.works) in
     let ready = ap (λ h. is_ready (meaning_with h [])) c.self.view_is ∙ c.requires.ready [] in
-    still-going a.machine a.heap [] kept (ready-machine a.machine a.heap a.paused a.attached a.session [] ready).1
+    still-going a.machine a.heap [] kept (ready-machine a.machine a.heap a.stop a.stops a.attached a.session [] ready).1
 
 pub advance-requires-clause-runs : goal.advance-requires-clause-runs
 advance-requires-clause-runs c = λ taken.
     let a = c.self.inside in
     let ready = ap (λ h. is_ready (meaning_with h taken)) c.self.view_is ∙ c.requires.ready taken in
-    (ready-machine a.machine a.heap a.paused a.attached a.session taken ready).1
+    (ready-machine a.machine a.heap a.stop a.stops a.attached a.session taken ready).1
 
 pub advance-requires-clause-code : goal.advance-requires-clause-code
 advance-requires-clause-code c = c.self.invariant.code ∙ ap code_of (sym c.as_slice.ensures.value)
@@ -27,6 +27,8 @@ invariant_of-self c =
     let a = c.self.inside in
     let works = ap (λ h. h.broken) c.self.view_is ∙ c.requires.works in
     record {
+      lines = c.self.invariant.lines;
+      spots = c.self.invariant.spots;
       code = same-program a.machine c.advance.new.machine c.in-Ok.ensures.code ∙ c.self.invariant.code;
       handed = λ _. c.in-Ok.ensures.handed;
       kept = λ _. c.in-Ok.ensures.kept;
@@ -37,6 +39,8 @@ pub invariant_of-self-in-Err : goal.invariant_of-self-in-Err
 invariant_of-self-in-Err c =
     let a = c.self.inside in
     record {
+      lines = c.self.invariant.lines;
+      spots = c.self.invariant.spots;
       code = same-program a.machine c.advance.new.machine c.in-Err.ensures.code ∙ c.self.invariant.code;
       handed = λ works. absurd cc;
       kept = λ works. absurd cc;
@@ -47,8 +51,8 @@ pub returns-in-Ok-clause-made : goal.returns-in-Ok-clause-made
 returns-in-Ok-clause-made c = λ taken.
     let a = c.self.inside in
     let ready = ap (λ h. is_ready (meaning_with h [])) c.self.view_is ∙ c.requires.ready [] in
-    let paused = (ready-machine a.machine a.heap a.paused a.attached a.session [] ready).0 in
-    rw (← c.self.view_is) (made-unpaused a.scripts.items _ a.machine a.heap a.paused a.attached a.session (taken ++ c.args.printed.now.items) _ _ c.as_slice.ensures.value paused (c.in-Ok.ensures.made taken a.attached))
+    let paused = (ready-machine a.machine a.heap a.stop a.stops a.attached a.session [] ready).0 in
+    rw (← c.self.view_is) (made-unpaused a.scripts.items _ a.machine a.heap a.stop a.stops a.attached a.session (taken ++ c.args.printed.now.items) _ _ c.as_slice.ensures.value paused (c.in-Ok.ensures.made taken a.stops a.attached))
 
 pub returns-in-Ok-clause-counts : goal.returns-in-Ok-clause-counts
 returns-in-Ok-clause-counts c = c.in-Ok.ensures.counts

@@ -5,6 +5,7 @@ use Rattle.cdp_host.proofs.StateLemmas.{may-parts}
 use Rattle.cdp_host.proofs.RunLemmas.{is-longest, ready-stops}
 use Rattle.cdp_host.proofs.HistoryLemmas.{stands-ran, stands-broken}
 use Rattle.cdp_host.proofs.PrintLemmas.{ran-prints}
+use Rattle.cdp_host.proofs.StepLemmas.{steps-stop}
 use Rattle.cdp_host.proofs.RanLemmas.{at-error, ran-none, ran-more, ran-longest, fails-ready}
 use Rattle.cdp_host.proofs.host.Host.run.Goals as goal
 
@@ -102,6 +103,11 @@ returns-clause-is_longest c = λ works taken.
 pub returns-clause-stops : goal.returns-clause-stops
 returns-clause-stops c = λ works taken input made is.
     ready-stops c.args.self.now.scripts input made (c.args.n - c.loop-self.left) (meaning_with c.args.self.now taken) is (c.loop-self.invariant.made taken).ready
+
+pub returns-clause-steps : goal.returns-clause-steps
+returns-clause-steps c = λ works taken input made is x kind depth session alone.
+    steps-stop c.args.self.now.scripts input made (c.args.n - c.loop-self.left) (meaning_with c.args.self.now taken) x kind depth
+    (ready-stops c.args.self.now.scripts input made (c.args.n - c.loop-self.left) (meaning_with c.args.self.now taken) is (c.loop-self.invariant.made taken).ready) session alone
 
 pub returns-clause-stands : goal.returns-clause-stands
 returns-clause-stands c = λ scripts input history stood.

@@ -15,14 +15,14 @@ returns-then-is_over c = λ taken.
     let works = sym (ap (λ h. h.broken) c.self.view_is) ∙ c.if-self.false in
     state-ended c.args.self.now taken works (c.if-has_thrown.ensures works taken) (c.if-is_over.ensures works taken)
 
-pub returns-then-self-2 : goal.returns-then-self-2
-returns-then-self-2 c = λ taken.
+pub returns-then-is_paused : goal.returns-then-is_paused
+returns-then-is_paused c = λ taken.
     let works = sym (ap (λ h. h.broken) c.self.view_is) ∙ c.if-self.false in
     state-paused c.args.self.now taken works (c.if-has_thrown.ensures works taken) (c.if-is_over.ensures works taken)
-    (sym (ap (λ h. h.meaning.paused) c.self.view_is) ∙ c.if-self-2.true)
+    (sym c.if-is_paused.ensures)
 
-pub returns-else-self-2 : goal.returns-else-self-2
-returns-else-self-2 c = λ taken.
+pub returns-else-is_paused : goal.returns-else-is_paused
+returns-else-is_paused c = λ taken.
     let works = sym (ap (λ h. h.broken) c.self.view_is) ∙ c.if-self.false in
     state-ready c.args.self.now taken works (c.if-has_thrown.ensures works taken) (c.if-is_over.ensures works taken)
-    (sym (ap (λ h. h.meaning.paused) c.self.view_is) ∙ c.if-self-2.false)
+    (sym c.if-is_paused.ensures)

@@ -1,0 +1,87 @@
+-- An answer's texts come behind those that wait; nothing else changes them.
+use Rattle.std.proofs.Common.{◌≡◌, ℕ, List, ◌++◌, true, is_some, if◌then◌else◌, refl, ap, Option, Some, None}
+use Rattle.std.specs.Option.{option_map_or}
+use Rattle.cdp_text.specs.declared.position.Place.{Place}
+use Rattle.js_tree.specs.declared.script.Script.{Script}
+use Rattle.cdp_json.specs.Json.{Json}
+use Rattle.cdp_json.specs.declared.command.Reading.{Reading}
+use Rattle.cdp_json.specs.declared.command.Reading.TheVariants as readings
+use Rattle.cdp_json.specs.declared.params.Params.{Params}
+use Rattle.cdp_json.specs.declared.params.Params.TheVariants as params
+use Rattle.cdp_json.specs.declared.refusal.Refusal.{Refusal}
+use Rattle.cdp_json.specs.Commands.{reading_of}
+use Rattle.serde_json.specs.Read.{read}
+use Rattle.breakpoints.specs.declared.fault.AddFault.{AddFault}
+use Rattle.stepping.specs.declared.rules.StepKind.{StepKind}
+use Rattle.cdp_session.specs.declared.situation.Pause.{Pause}
+use Rattle.cdp_session.specs.Situations.{Situation, script_of}
+use Rattle.cdp_session.specs.Sessions.{Session, with_rules}
+use Rattle.cdp_session.specs.Rows.{Row, Refuses, Does, does, row, step_from, in_script, continue_at, adds, adds_at}
+use Rattle.cdp_session.specs.Replies.{IsDone, refusal_of, comes_to, outcome_by, outcome_for, outcome_of, answer_by, answer_texts, answer_of}
+
+-- the session that a row leaves has the texts that waited
+abbrev KeepsOutbox : Row → Session → Type 0
+KeepsOutbox (Refuses refusal) x = Unit {0}
+KeepsOutbox (Does done) x = done.session.outbox ≡ x.outbox
+
+step_keeps : (kind : StepKind) (o : Option Pause) (x : Session) → KeepsOutbox (step_from kind o x) x
+step_keeps kind None x = tt
+step_keeps kind (Some at) x = refl
+
+script_keeps : (o : Option Script) (id : List ℕ) (f : Script → Row) (x : Session) → ((s : Script) → KeepsOutbox (f s) x) → KeepsOutbox (in_script o id f) x
+script_keeps None id f x each = tt
+script_keeps (Some s) id f x each = each s
+
+continue_keeps : (x : Session) (o : Option Place) → KeepsOutbox (continue_at x o) x
+continue_keeps x None = tt
+continue_keeps x (Some place) = refl
+
+adds_keeps : (o : Option AddFault) (x : Session) (id : List ℕ) (condition : Option (List ℕ)) (places : List Place) (result : Json) → KeepsOutbox (adds o x id condition places result) x
+adds_keeps None x id condition places result = refl
+adds_keeps (Some fault) x id condition places result = tt
+
+adds_at_keeps : (x : Session) (place : Place) (condition : Option (List ℕ)) (o : Option Place) → KeepsOutbox (adds_at x place condition o) x
+adds_at_keeps x place condition None = tt
+adds_at_keeps x place condition (Some resolved) = adds_keeps _ x _ condition _ _
+
+pause_keeps : (o : Option Pause) (x : Session) → KeepsOutbox (does (if is_some o then x else with_rules (record x.rules { pause = true }) x)) x
+pause_keeps None x = refl
+pause_keeps (Some at) x = refl
+
+row_keeps : (s : Situation) (x : Session) (ps : Params) → KeepsOutbox (row s x ps) x
+row_keeps s x params.DebuggerEnable = refl
+row_keeps s x params.DebuggerDisable = refl
+row_keeps s x params.Pause = pause_keeps s.paused x
+row_keeps s x params.Resume = refl
+row_keeps s x params.StepInto = step_keeps _ s.paused x
+row_keeps s x params.StepOver = step_keeps _ s.paused x
+row_keeps s x params.StepOut = step_keeps _ s.paused x
+row_keeps s x (params.ContinueToLocation at) = script_keeps (script_of at.script_id s.scripts) at.script_id _ x (λ script. continue_keeps x _)
+row_keeps s x (params.SetBreakpointByUrl url p condition) = adds_keeps _ x _ condition _ _
+row_keeps s x (params.SetBreakpoint at condition) = script_keeps (script_of at.script_id s.scripts) at.script_id _ x (λ script. adds_at_keeps x _ condition _)
+row_keeps s x (params.RemoveBreakpoint id) = refl
+row_keeps s x (params.SetBreakpointsActive active) = refl
+row_keeps s x (params.SetSkipAllPauses skip) = refl
+row_keeps s x (params.SetPauseOnExceptions state) = refl
+row_keeps s x params.SetAsyncCallStackDepth = refl
+row_keeps s x (params.GetPossibleBreakpoints start end) = script_keeps (script_of start.script_id s.scripts) start.script_id _ x (λ script. refl)
+row_keeps s x (params.GetScriptSource id) = script_keeps (script_of id s.scripts) id _ x (λ script. refl)
+
+-- ---- answers
+
+comes_keeps : (o : Option Refusal) (r : Row) (x : Session) → KeepsOutbox r x → KeepsOutbox (option_map_or Refuses o r) x
+comes_keeps None r x keeps = keeps
+comes_keeps (Some refusal) r x keeps = tt
+
+by_row : (id : ℕ) (r : Row) (x : Session) → KeepsOutbox r x → (answer_by x (outcome_by id r)).session.outbox ≡ x.outbox ++ answer_texts (outcome_by id r)
+by_row id (Refuses refusal) x keeps = refl
+by_row id (Does done) x keeps = ap (λ texts. texts ++ answer_texts (IsDone id done)) keeps
+
+for_reading : (s : Situation) (x : Session) (r : Reading) → (answer_by x (outcome_for s x r)).session.outbox ≡ x.outbox ++ answer_texts (outcome_for s x r)
+for_reading s x (readings.Command id method ps) = by_row id (comes_to s x ps) x (comes_keeps (refusal_of s x ps) (row s x ps) x (row_keeps s x ps))
+for_reading s x (readings.Refused id refusal) = refl
+for_reading s x readings.Memory = refl
+
+-- the texts of an answer come behind those that wait
+pub answer-outbox : (s : Situation) (x : Session) (text : List ℕ) → (answer_of s x text).session.outbox ≡ x.outbox ++ answer_texts (outcome_of s x text)
+answer-outbox s x text = for_reading s x (reading_of (read text))
