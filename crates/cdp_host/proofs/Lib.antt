@@ -1,4 +1,5 @@
 pub mod ProgramLemmas
+pub mod ArrivalLemmas
 pub mod PartLemmas
 pub mod StateLemmas
 pub mod StepLemmas
@@ -8,4 +9,5 @@ pub mod StartLemmas
 pub mod RuleLemmas
 pub mod HistoryLemmas
 pub mod RanLemmas
+pub mod TellLemmas
 pub mod PrintLemmas

@@ -1,11 +1,13 @@
 -- Where a step leaves a program, in the words of the rules by which it is stopped.
-use Rattle.std.specs.Prelude.{◌≡◌, ℕ, ◌^◌, ◌<◌, ◌-◌, List, map, length, false, nat_eq, slice_get, if◌then◌else◌, Option, Some, None}
+use Rattle.std.specs.Prelude.{◌≡◌, ℕ, ◌^◌, ◌<◌, ◌-◌, List, length, Bool, false, nat_eq, slice_get, if◌then◌else◌, Option, Some, None}
 use Rattle.std.specs.Option.{option_map}
 use Rattle.cdp_text.specs.declared.position.Place.{Place}
 use Rattle.cdp_text.specs.Position.{position, line_starts}
 use Rattle.js_tree.specs.declared.script.Script.{Script}
-use Rattle.js_semantics.specs.Terms.{Source, script_source, Mark, Term}
-use Rattle.js_semantics.specs.declared.form.Source.TheVariants.{Kept as kept_source}
+use Rattle.js_semantics.specs.Terms.{Term}
+use Rattle.js_semantics.specs.declared.form.Source.{Source}
+use Rattle.js_semantics.specs.declared.form.Source.TheVariants.{Script as script_source, Kept as kept_source}
+use Rattle.js_semantics.specs.declared.form.Mark.{Mark}
 use Rattle.js_semantics.specs.State.{Frame, State, top_spot}
 use Rattle.js_semantics.specs.Frames.{active, at, depth, is_debugger, offset_of, thrown, StandingThrow}
 use Rattle.js_frames.specs.Sources.{spans_in}

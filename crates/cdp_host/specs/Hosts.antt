@@ -97,9 +97,9 @@ pub record Stands (scripts : List Script) (input : List (List ℕ)) (host : Host
 -- What holds of every host: its machine has the code of its scripts, and beside them stand where their lines begin and where
 -- their break locations are. Until want of memory breaks it, all texts were handed out and the machine isn't given up; then it
 -- has no session.
-pub record IsSound (scripts : List Script) (lines : List (List ℕ)) (spots : List (List Spot)) (machine : Machine) (broken : Bool) (session : Option Session) : Type 0 where
-  pub lines : AreLines scripts lines
-  pub spots : spots ≡ map break_locations scripts
+pub record IsSound (scripts : List Script) (starts : List (List ℕ)) (found : List (List Spot)) (machine : Machine) (broken : Bool) (session : Option Session) : Type 0 where
+  pub lines : AreLines scripts starts
+  pub spots : found ≡ map break_locations scripts
   pub code : program_of machine ≡ code_of scripts
   pub handed : broken ≡ false → machine.context.printed ≡ []
   pub kept : broken ≡ false → IsKept machine.ended

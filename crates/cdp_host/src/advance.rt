@@ -193,10 +193,7 @@ fn make_steps_and_print(
 /// # Errors
 ///
 /// There is no memory for the text that tells it.
-fn stop_at(
-    arrival: &Arrival,
-    session: &mut Option<Session>,
-) -> Result<Option<usize>, AllocError>
+fn stop_at(arrival: &Arrival, session: &mut Option<Session>) -> Result<Option<usize>, AllocError>
     ensures stopped { IfOk result (λ depth. depth ≡ depth_of arrival.now session.old) }
     ensures session { OnOk result (session.new ≡ session_behind arrival.now session.old) }
 {

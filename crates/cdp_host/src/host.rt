@@ -1,6 +1,6 @@
 //! The host and its calls, each of which is one entry of its history.
 
-ghost use Rattle.std.specs.Prelude.{◌≡◌, ◌++◌, ◌∷◌, [], ◌==◌, ◌&&◌, ◌<◌, ◌≤◌, not, ℕ, List, IfOk, OnOk, OnErr, IsErr, IsTrue, None, Some, map, string_bytes, true, false, is_some, if◌then◌else◌, nat_lt, ◌↔◌};
+ghost use Rattle.std.specs.Prelude.{◌≡◌, ◌++◌, ◌∷◌, [], Option, ◌==◌, ◌&&◌, ◌<◌, ◌≤◌, not, ℕ, List, IfOk, OnOk, OnErr, IsErr, IsTrue, None, Some, map, string_bytes, true, false, is_some, if◌then◌else◌, nat_lt, ◌↔◌};
 ghost use Rattle.js_tree.specs.declared.script.Script.{Script as AnyScript};
 ghost use Rattle.stepping.specs.declared.rules.StepKind.{StepKind};
 ghost use Rattle.cdp_json.specs.Messages.{refusal_text};

@@ -9,4 +9,4 @@ returns-then-not-is_paused c = λ works taken.
 
 pub returns-else-not-is_paused : goal.returns-else-not-is_paused
 returns-else-not-is_paused c = λ works taken.
-    goes-paused (meaning_with c.args.self.now taken) (sym c.if-not-is_paused.ensures)
+    ap not c.if-not-is_paused.false ∙ goes-paused (meaning_with c.args.self.now taken) (sym c.if-not-is_paused.ensures)

@@ -1,9 +1,18 @@
-use Rattle.std.proofs.Common.{List, false, None, subst}
+use Rattle.std.proofs.Common.{List, map, false, None, ap, sym, subst, ◌∙◌}
 use Rattle.js_tree.specs.declared.script.Script.{Script}
-use Rattle.cdp_host.specs.Hosts.{IsSound}
+use Rattle.locations.specs.Locations.{break_locations}
+use Rattle.cdp_host.specs.Hosts.{AreLines, IsSound}
 use Rattle.cdp_host.proofs.StartLemmas.{start-sound}
 use Rattle.cdp_host.proofs.host.Host.start.Goals as goal
 
 pub invariant_of-result : goal.invariant_of-result
 invariant_of-result c =
-    ?
+    let lines = c.in_ok-lines.lines.items in
+    let spots = c.in_ok-spots.spots in
+    let P : List Script → Type 0 = λ scripts. IsSound scripts lines spots c.in_ok-machine.field-0.machine false None in
+    let Q : List Script → Type 0 = λ scripts. AreLines scripts lines in
+    let here = c.as_slice-3.ensures.value in
+    subst P here
+    (start-sound c.as_slice-3.result.now c.args.input.items lines spots c.in_ok-machine.field-0 c.in_ok-machine.ensures
+    (subst Q (c.as_slice.ensures.value ∙ sym here) c.in_ok-lines.ensures)
+    (c.in_ok-spots.ensures ∙ ap (map break_locations) (c.as_slice-2.ensures.value ∙ sym here)))
