@@ -3,11 +3,11 @@ use Rattle.std.proofs.Common.{◌≡◌, ℕ, zero, suc, ◌+◌, List, [], ◌+
 use Rattle.js_tree.specs.declared.script.Script.{Script}
 use Rattle.js_heap.specs.BuiltIns.{script_scope}
 use Rattle.js_semantics.specs.Run as runs
-use Rattle.js_semantics.specs.Run.{Run, running, over, ended, threw, by_effect, by_full}
+use Rattle.js_semantics.specs.Run.{Run, running, over}
 use Rattle.js_semantics.specs.Sources.{terms_of_scripts}
 use Rattle.js_semantics.specs.Laws.{IsPrefix}
 use Rattle.js_semantics.proofs.FollowLemmas.{steps-suc, step-follows, run_of-state}
-use Rattle.cdp_host.specs.Programs.{code_of, start, next, plain, is_over, has_thrown, printed_of}
+use Rattle.cdp_host.specs.Programs.{code_of, start, next, plain, is_over, printed_of}
 
 -- ---- the plain run
 
@@ -61,7 +61,3 @@ plain-over (suc j) made scripts input is =
     let e : made + suc j ≡ suc (made + j) = omega arith in
     let before : plain (made + j) scripts input ≡ plain made scripts input = plain-over j made scripts input is in
     ap (λ k. plain k scripts input) e ∙ sym (plain-next (made + j) scripts input) ∙ ap (next scripts) before ∙ next-over scripts (plain made scripts input) is
-
-thrown_over : (r : Run) → has_thrown r ≡ true → is_over r ≡ true
-thrown_over (running t s) is = absurd cc
-thrown_over (over f s) is = refl

@@ -1,5 +1,5 @@
 -- What a session names that asks for one step alone, and the depth of a pause.
-use Rattle.std.proofs.Common.{◌≡◌, ℕ, zero, suc, ◌+◌, ◌<◌, List, [], ◌∷◌, Bool, true, false, ◌&&◌, ◌||◌, not, is_some, refl, ap, sym, ◌∙◌, if◌then◌else◌, Option, Some, None}
+use Rattle.std.proofs.Common.{◌≡◌, ℕ, zero, suc, ◌+◌, List, [], ◌∷◌, Bool, true, false, ◌&&◌, ◌||◌, is_some, refl, ap, sym, ◌∙◌, if◌then◌else◌, Option, Some, None}
 use Rattle.std.specs.List.{fold}
 use Rattle.std.specs.Option.{option_map, option_map_or}
 use Rattle.cdp_text.specs.declared.position.Place.{Place}
@@ -12,10 +12,10 @@ use Rattle.stepping.specs.Causes.{cause_at, ends_at}
 use Rattle.cdp_session.specs.declared.situation.Pause.{Pause}
 use Rattle.cdp_session.specs.Sessions.{Session, emptied}
 use Rattle.cdp_session.specs.Stops.{is_hit_at}
-use Rattle.cdp_session.specs.Replies.{Answer, answer_of}
+use Rattle.cdp_session.specs.Replies.{answer_of}
 use Rattle.cdp_host.specs.Programs.{arrival_of, plain, next}
 use Rattle.cdp_host.specs.Meaning.{Meaning, at_program, begin, behind, is_attached, is_named, names, situation, step, after_steps}
-use Rattle.cdp_host.specs.Histories.{Entry, Attach, Tell, Take, Detach, Ran, apply, changed, lets_go, steps_of, stop_told, told, whole, with_answer}
+use Rattle.cdp_host.specs.Histories.{Entry, Attach, Tell, Take, Detach, Ran, apply, changed, lets_go, steps_of, told, whole, with_answer}
 use Rattle.cdp_host.specs.Rules.{IsPausedThere, StepsAlone, StopsAtFirst, StopsExactly, ends_step}
 
 -- ---- one step alone

@@ -1,5 +1,5 @@
 -- By which rule a session names a stop, and what a stop and a resume do to it.
-use Rattle.std.specs.Prelude.{ℕ, List, [], ◌∷◌, Bool, false, ◌&&◌, not, codes, if◌then◌else◌, Option, Some, None}
+use Rattle.std.specs.Prelude.{ℕ, List, [], Bool, false, codes, if◌then◌else◌, Option, Some, None}
 use Rattle.cdp_text.specs.declared.position.Place.{Place}
 use Rattle.stepping.specs.declared.arrival.Arrival.{Arrival}
 use Rattle.stepping.specs.declared.cause.Cause.{Cause}
