@@ -1,9 +1,9 @@
 -- A journal's line is read as what it asks for, and no other text is.
-use Rattle.std.proofs.Common.{◌≡◌, ◌⊎◌, ◌<◌, ◌^◌, ℕ, List, ◌∷◌, ◌++◌, Bool, true, false, ◌&&◌, nat_lt, is_some, Option, Some, None, IfSome, refl, ap, sym, ◌∙◌, inl, inr, arith, codes, decimal, bytes_eq, if◌then◌else◌}
+use Rattle.std.proofs.Common.{◌≡◌, ◌⊎◌, ◌<◌, ◌≤◌, ◌^◌, ℕ, List, ◌∷◌, ◌++◌, length, Bool, true, false, ◌&&◌, nat_lt, nat_le, Option, Some, None, IfSome, refl, ap, sym, ◌∙◌, inl, inr, arith, codes, decimal, bytes_eq, if◌then◌else◌}
 use Rattle.std.specs.Option.{option_map, option_and_then}
 use Rattle.std.specs.Str.{IsUtf8, is_utf8}
 use Rattle.std.proofs.lemmas.Str.{is_utf8-from_IsUtf8, IsUtf8-from_is_utf8}
-use Rattle.std.proofs.lemmas.Bool.{and_parts, false_from_ne_true, lt-ltb}
+use Rattle.std.proofs.lemmas.Bool.{and_parts, false_from_ne_true, le-leb, leb-true, lt-ltb}
 use Rattle.std.proofs.lemmas.Bool.Decides.{Decides-ltb}
 use Rattle.std.proofs.lemmas.Option.{option_and_then_some, none-some, same_Some}
 use Rattle.std.proofs.lemmas.Slice.Eq.{bytes_eq-Decides}
@@ -11,10 +11,11 @@ use Rattle.cdp_text.specs.Decimal.{decimal_value}
 use Rattle.cdp_text.specs.Parts.{behind, halves}
 use Rattle.cdp_text.proofs.Decimals.{decimal_value-some, decimal_value-decimal}
 use Rattle.cdp_text.proofs.PartsLemmas.{behind-some, halves-some, halves-decimal}
-use Rattle.cdp_session.specs.Command.{command_of}
 use Rattle.command_line.specs.declared.line.Line.{Line as Held}
+use Rattle.command_line.specs.Escapes.{escaped, unescaped}
 use Rattle.command_line.specs.LineRead.{line_held}
-use Rattle.command_line.specs.Lines.{Line, Attach, Tell, Take, Run, line_text, IsInForm, IsLine, tell_at, tell_in, run_at, run_in, tell_rest, take_rest, run_rest, or_else, line_of, line_of_text}
+use Rattle.command_line.specs.Lines.{Line, Attach, Tell, Take, Run, line_text, IsInForm, IsLine, most_told, tell_text, tell_at, tell_in, run_at, run_in, tell_rest, take_rest, run_rest, or_else, line_of, line_of_text}
+use Rattle.command_line.proofs.UnescapeLemmas.{read-back, written-is}
 
 pub line_of-utf8 : (bytes : List ℕ) → IsUtf8 bytes → line_of bytes ≡ line_of_text bytes
 line_of-utf8 bytes is = rw (is_utf8-from_IsUtf8 bytes is) refl
@@ -24,8 +25,9 @@ line_of-other bytes isnt = rw (false_from_ne_true (is_utf8 bytes) (λ is. isnt (
 
 -- ---- the text of a line is read as that line
 
-tell-read : (s : ℕ) (text : List ℕ) → s < 2 ^ 64 → is_some (command_of text) ≡ true → tell_rest (decimal s ++ 32 ∷ text) ≡ Some (Tell s text)
-tell-read s text small early = rw (halves-decimal s 32 text small (λ digit. omega arith), decimal_value-decimal s small, early) refl
+tell-read : (s : ℕ) (text : List ℕ) → s < 2 ^ 64 → length text ≤ most_told → tell_rest (decimal s ++ 32 ∷ escaped text) ≡ Some (Tell s text)
+tell-read s text small short =
+    rw (halves-decimal s 32 (escaped text) small (λ digit. omega arith), decimal_value-decimal s small, read-back text, le-leb (length text) most_told short) refl
 
 take-read : (s : ℕ) → s < 2 ^ 64 → take_rest (decimal s) ≡ Some (Take s)
 take-read s small = rw (decimal_value-decimal s small) refl
@@ -54,13 +56,15 @@ pub choice-some : {A : Type 0} → (b : Bool) (x y : A) → (if b then Some x el
 choice-some true x y is = (refl, same_Some x y is)
 choice-some false x y is = absurd (none-some y is)
 
-tell-some : (rest : List ℕ) (line : Line) → tell_rest rest ≡ Some line → (s : ℕ) × (text : List ℕ) × (line ≡ Tell s text) × (s < 2 ^ 64) × (is_some (command_of text) ≡ true) × (rest ≡ decimal s ++ 32 ∷ text)
+tell-some : (rest : List ℕ) (line : Line) → tell_rest rest ≡ Some line → (s : ℕ) × (text : List ℕ) × (line ≡ Tell s text) × (s < 2 ^ 64) × (length text ≤ most_told) × (rest ≡ decimal s ++ 32 ∷ escaped text)
 tell-some rest line is =
     option_and_then_some tell_in (halves 32 rest) line is (λ parts parts_is told.
     option_and_then_some (tell_at parts.back) (decimal_value parts.front) line told (λ s s_is told_at.
-    let chosen = choice-some (is_some (command_of parts.back)) (Tell s parts.back) line told_at in
+    option_and_then_some (tell_text s) (unescaped parts.back) line told_at (λ text text_is told_text.
+    let chosen = choice-some (nat_le (length text) most_told) (Tell s text) line told_text in
     let digits = decimal_value-some parts.front s s_is in
-    (s, parts.back, sym chosen.1, digits.1, chosen.0, rw (halves-some 32 rest parts parts_is, digits.0) refl)))
+    let whole : rest ≡ decimal s ++ 32 ∷ parts.back = rw (halves-some 32 rest parts parts_is, digits.0) refl in
+    (s, text, sym chosen.1, digits.1, leb-true (length text) most_told chosen.0, whole ∙ ap (λ written. decimal s ++ 32 ∷ written) (written-is parts.back text text_is)))))
 
 run-some : (rest : List ℕ) (line : Line) → run_rest rest ≡ Some line
     → (most : ℕ) × (moment : ℕ) × (line ≡ Run most moment) × (most < 2 ^ 32) × (moment < 2 ^ 53) × (rest ≡ decimal most ++ 32 ∷ decimal moment)

@@ -5,7 +5,7 @@ use Rattle.cdp_text.specs.Parts.{behind}
 use Rattle.js_tree.specs.declared.script.Script.{Script}
 use Rattle.js_semantics.specs.Run.{Run as Program}
 use Rattle.cdp_host.specs.Programs.{plain, is_over, has_thrown, printed_of}
-use Rattle.cdp_host.specs.Meaning.{Meaning, begin, is_attached, is_named}
+use Rattle.cdp_host.specs.Meaning.{Meaning, begin, is_attached, is_named, is_paused}
 use Rattle.cdp_host.specs.Histories.{Entry, Attach, Tell, Take, Detach, Ran, apply, whole, steps_of, steps_made}
 use Rattle.cdp_host.specs.Rules.{AllStopExactly, PrintsAsPlain, texts_at}
 use Rattle.cdp_host.specs.States.{outbox_of}
@@ -22,7 +22,7 @@ to_front s = codes "to " ++ (decimal s ++ 32 ∷ [])
 
 -- the program is paused behind a run of so many steps: a session names the last of them, or it was paused where the run makes none
 abbrev pub is_stopped : List Script → List (List ℕ) → ℕ → Meaning Program → ℕ → Bool
-is_stopped scripts input made m zero = m.paused
+is_stopped scripts input made m zero = is_paused m
 is_stopped scripts input made m (suc n) = is_named scripts m (plain (made + suc n) scripts input)
 
 -- the word for where a run of so many steps leads, from the one that many steps in

@@ -1,11 +1,11 @@
 pub mod Words
 pub mod RequestHeld
 pub mod Files
+pub mod Escapes
 pub mod Lines
 pub mod LineRead
 pub mod Journal
 pub mod Applied
-pub mod Escapes
 pub mod Output
 pub mod Headline
 pub mod Played

@@ -1,16 +1,16 @@
 -- The lines of a journal.
-use Rattle.std.specs.Prelude.{◌≡◌, ◌<◌, ◌^◌, ℕ, List, ◌∷◌, ◌++◌, true, ◌&&◌, nat_lt, bytes_eq, is_some, if◌then◌else◌, codes, decimal, Option, Some, None}
+use Rattle.std.specs.Prelude.{◌≡◌, ◌<◌, ◌≤◌, ◌^◌, ℕ, List, ◌∷◌, ◌++◌, length, true, ◌&&◌, nat_lt, nat_le, bytes_eq, if◌then◌else◌, codes, decimal, Option, Some, None}
 use Rattle.std.specs.Option.{option_and_then, option_map}
 use Rattle.std.specs.Str.{is_utf8}
 use Rattle.cdp_text.specs.Decimal.{decimal_value}
 use Rattle.cdp_text.specs.Parts.{behind, Halves, halves}
-use Rattle.cdp_session.specs.Command.{command_of}
+use Rattle.command_line.specs.Escapes.{escaped, unescaped}
 
 -- what a line asks for
 pub data Line : Type 0 where
   -- attach a session
   Attach : Line
-  -- tell the session of this number a command's text
+  -- tell the session of this number this text
   Tell : ℕ → List ℕ → Line
   -- hand out the texts of the session of this number
   Take : ℕ → Line
@@ -20,14 +20,18 @@ pub data Line : Type 0 where
 -- the text of a line
 abbrev pub line_text : Line → List ℕ
 line_text Attach = codes "attach"
-line_text (Tell s text) = codes "tell " ++ (decimal s ++ 32 ∷ text)
+line_text (Tell s text) = codes "tell " ++ (decimal s ++ 32 ∷ escaped text)
 line_text (Take s) = codes "take " ++ decimal s
 line_text (Run most moment) = codes "run " ++ (decimal most ++ 32 ∷ decimal moment)
 
--- the numbers of a line are in range, and the text that is told is a command in its early form
+-- the greatest number of bytes of a text that is told
+abbrev pub most_told : ℕ
+most_told = 1048576
+
+-- the numbers of a line are in range, and the text that is told isn't too long
 abbrev pub IsInForm : Line → Type 0
 IsInForm Attach = Unit {0}
-IsInForm (Tell s text) = (s < 2 ^ 64) × (is_some (command_of text) ≡ true)
+IsInForm (Tell s text) = (s < 2 ^ 64) × (length text ≤ most_told)
 IsInForm (Take s) = s < 2 ^ 64
 IsInForm (Run most moment) = (most < 2 ^ 32) × (moment < 2 ^ 53)
 
@@ -37,9 +41,13 @@ pub record IsLine (text : List ℕ) (line : Line) : Type 0 where
   pub in_form : IsInForm line
   pub is : text ≡ line_text line
 
--- a session's number before a space, and a command's text behind it
+-- a text for this session, where it isn't too long
+abbrev pub tell_text : ℕ → List ℕ → Option Line
+tell_text s text = if nat_le (length text) most_told then Some (Tell s text) else None
+
+-- a session's number before a space, and behind it a text as it is written
 abbrev pub tell_at : List ℕ → ℕ → Option Line
-tell_at text s = if is_some (command_of text) then Some (Tell s text) else None
+tell_at written s = option_and_then (tell_text s) (unescaped written)
 
 abbrev pub tell_in : Halves → Option Line
 tell_in parts = option_and_then (tell_at parts.back) (decimal_value parts.front)

@@ -1,11 +1,10 @@
 // What a journal's line does to the host.
-ghost use Rattle.std.specs.Prelude.{◌≡◌, ℕ, List, false, true, is_some, IfOk, OnOk, map, string_bytes};
+ghost use Rattle.std.specs.Prelude.{◌≡◌, ℕ, List, false, IfOk, OnOk, map, string_bytes};
 ghost use Rattle.std.specs.Option.{option_map};
 ghost use Rattle.js_tree.specs.declared.script.Script.{Script};
-ghost use Rattle.cdp_session.specs.Command.{command_of};
 ghost use Rattle.cdp_host.specs.Histories.{Entry, whole};
 ghost use Rattle.cdp_host.specs.Hosts.{Stands};
-ghost use Rattle.command_line.specs.Lines.{IsInForm, Attach, Tell, Take, Run};
+ghost use Rattle.command_line.specs.Lines.{Attach, Tell, Take, Run};
 ghost use Rattle.command_line.specs.Journal.{entry_at};
 ghost use Rattle.command_line.specs.LineRead.{line_held};
 ghost use Rattle.command_line.specs.Played.{Acts};
@@ -19,17 +18,16 @@ use std::alloc::{AllocError, Global};
 pub(crate) fn act(
     alloc: Global,
     host: &mut Host,
-    line: Line<'_>,
+    line: Line,
 ) -> Result<Option<Vec<String>>, AllocError>
-    requires works { host.old.broken ≡ false }
-    requires in_form { IsInForm (line_held line) }
+    requires { host.old.broken ≡ false }
     ensures works { OnOk result (host.new.broken ≡ false) }
     ensures acts { IfOk result (λ lines. (scripts : List Script) (input : List (List ℕ)) (history : List Entry) → Stands scripts input host.old history
-        → Acts scripts input history (entry_at scripts (whole scripts input history) (line_held line.entry)) (option_map (λ all. map string_bytes all.items) lines) host.new) }
+        → Acts scripts input history (entry_at scripts (whole scripts input history) (line_held line)) (option_map (λ all. map string_bytes all.items) lines) host.new) }
 {
     match line {
         Line::Attach => attach(alloc, host),
-        Line::Tell(session, text) => tell(alloc, host, session, text),
+        Line::Tell(session, text) => tell(alloc, host, session, &text),
         Line::Take(session) => take(alloc, host, session),
         Line::Run(most, moment) => run(alloc, host, most, moment),
     }
@@ -50,15 +48,14 @@ fn attach(alloc: Global, host: &mut Host) -> Result<Option<Vec<String>>, AllocEr
     Ok(Some(vec![in alloc; line]?))
 }
 
-/// Tells a session a command's text.
+/// Tells a session a text.
 fn tell(
     alloc: Global,
     host: &mut Host,
     session: u64,
     text: &str,
 ) -> Result<Option<Vec<String>>, AllocError>
-    requires works { host.old.broken ≡ false }
-    requires early { is_some (command_of text.now) ≡ true }
+    requires { host.old.broken ≡ false }
     ensures works { OnOk result (host.new.broken ≡ false) }
     ensures acts { IfOk result (λ lines. (scripts : List Script) (input : List (List ℕ)) (history : List Entry) → Stands scripts input host.old history
         → Acts scripts input history (entry_at scripts (whole scripts input history) (Tell session text.now)) (option_map (λ all. map string_bytes all.items) lines) host.new) }

@@ -1,13 +1,14 @@
 // The lines of a journal.
-ghost use Rattle.std.specs.Prelude.{◌≡◌, ◌<◌, ℕ, Some, IfSome};
+ghost use Rattle.std.specs.Prelude.{◌≡◌, ◌<◌, ℕ, Some, IfOk, IfSome, string_bytes};
 ghost use Rattle.std.specs.Option.{option_map};
 ghost use Rattle.cdp_text.specs.Parts.{Halves};
-ghost use Rattle.command_line.specs.Lines.{Line as Meant, IsLine, IsInForm, line_text, line_of, line_of_text, tell_rest, take_rest, run_rest};
+ghost use Rattle.command_line.specs.Lines.{Line as Meant, IsLine, IsInForm, line_text, line_of, line_of_text, tell_rest, take_rest, run_rest, tell_at, tell_text};
 ghost use Rattle.command_line.specs.LineRead.{line_held};
 
-use cdp_session::command::is_early;
+use crate::escape::unescape;
 use cdp_text::decimal::read_decimal;
 use cdp_text::parts::{behind, halves};
+use std::alloc::{AllocError, Global};
 
 /// The first number of steps that a line doesn't hold.
 const STEPS_LIMIT: u64 = 1 << 32;
@@ -15,13 +16,16 @@ const STEPS_LIMIT: u64 = 1 << 32;
 /// The first moment that a line doesn't hold, in milliseconds since the epoch.
 const MOMENT_LIMIT: u64 = 1 << 53;
 
+/// The greatest number of bytes of a text that a line tells, once its `%` forms are replaced.
+const MOST_TOLD: usize = 1 << 20;
+
 /// What a line asks for.
-#[derive(Clone, Copy)]
-pub(crate) enum Line<'t> {
+#[derive(Drop)]
+pub(crate) enum Line {
     /// Attach a session.
     Attach,
-    /// Tell the session of this number a command's text.
-    Tell(u64, &'t str),
+    /// Tell the session of this number this text.
+    Tell(u64, String),
     /// Hand out the texts of the session of this number.
     Take(u64),
     /// Make at most so many steps, at this moment in milliseconds since the epoch.
@@ -29,49 +33,74 @@ pub(crate) enum Line<'t> {
 }
 
 /// The line of these bytes, without their LF: `attach`, `tell S TEXT`, `take S` or `run N MS`. None for all other bytes.
+///
+/// # Errors
+///
+/// There is no memory for the text that is told.
 #[tactic(auto, using(crate::proofs::LineLemmas::utf8))]
-pub(crate) fn read_line(bytes: &[u8]) -> Option<Line<'_>>
-    ensures value { option_map line_held result ≡ line_of bytes.now }
-    ensures is { IfSome result (λ line. IsLine bytes.now (line_held line)) }
-    ensures one { (line : Meant) → IsLine bytes.now line → option_map line_held result ≡ Some line }
+pub(crate) fn read_line(alloc: Global, bytes: &[u8]) -> Result<Option<Line>, AllocError>
+    ensures value { IfOk result (λ line. option_map line_held line ≡ line_of bytes.now) }
+    ensures is { IfOk result (λ read. IfSome read (λ line. IsLine bytes.now (line_held line))) }
+    ensures one { IfOk result (λ read. (line : Meant) → IsLine bytes.now line → option_map line_held read ≡ Some line) }
 {
     match str::from_utf8(bytes) {
-        Ok(text) => read_text(text),
-        Err(_) => None,
+        Ok(text) => read_text(alloc, text),
+        Err(_) => Ok(None),
     }
 }
 
 /// The line of this text.
-fn read_text(text: &str) -> Option<Line<'_>>
-    ensures { option_map line_held result ≡ line_of_text text.now }
+fn read_text(alloc: Global, text: &str) -> Result<Option<Line>, AllocError>
+    ensures { IfOk result (λ line. option_map line_held line ≡ line_of_text text.now) }
 {
     if text == "attach" {
-        Some(Line::Attach)
+        Ok(Some(Line::Attach))
     } else if let Some(rest) = behind(text, "tell ") {
-        read_tell(rest)
+        read_tell(alloc, rest)
     } else if let Some(rest) = behind(text, "take ") {
-        read_take(rest)
+        Ok(read_take(rest))
     } else if let Some(rest) = behind(text, "run ") {
-        read_run(rest)
+        Ok(read_run(rest))
     } else {
-        None
+        Ok(None)
     }
 }
 
 /// A session's number.
-fn read_take(rest: &str) -> Option<Line<'_>>
+fn read_take(rest: &str) -> Option<Line>
     ensures { option_map line_held result ≡ take_rest rest.now }
 {
     Some(Line::Take(read_decimal(rest)?))
 }
 
-/// A session's number, a space and a command's text.
-fn read_tell(rest: &str) -> Option<Line<'_>>
-    ensures { option_map line_held result ≡ tell_rest rest.now }
+/// A session's number, a space and a text as it is written.
+fn read_tell(alloc: Global, rest: &str) -> Result<Option<Line>, AllocError>
+    ensures { IfOk result (λ line. option_map line_held line ≡ tell_rest rest.now) }
 {
-    let (number, text) = halves(rest, ' ')?;
-    let session = read_decimal(number)?;
-    if is_early(text) {
+    let Some((number, written)) = halves(rest, ' ') else {
+        return Ok(None);
+    };
+    match read_decimal(number) {
+        Some(session) => read_told(alloc, session, written),
+        None => Ok(None),
+    }
+}
+
+/// A text for this session, as it is written.
+fn read_told(alloc: Global, session: u64, written: &str) -> Result<Option<Line>, AllocError>
+    ensures { IfOk result (λ line. option_map line_held line ≡ tell_at written.now session) }
+{
+    match unescape(alloc, written)? {
+        Some(text) => Ok(tell_text(session, text)),
+        None => Ok(None),
+    }
+}
+
+/// A text for this session, where it isn't too long.
+fn tell_text(session: u64, text: String) -> Option<Line>
+    ensures { option_map line_held result ≡ tell_text session (string_bytes text) }
+{
+    if text.len() <= MOST_TOLD {
         Some(Line::Tell(session, text))
     } else {
         None
@@ -79,7 +108,7 @@ fn read_tell(rest: &str) -> Option<Line<'_>>
 }
 
 /// A number of steps, a space and a moment.
-fn read_run(rest: &str) -> Option<Line<'_>>
+fn read_run(rest: &str) -> Option<Line>
     ensures { option_map line_held result ≡ run_rest rest.now }
 {
     let (most, moment) = halves(rest, ' ')?;

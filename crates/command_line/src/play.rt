@@ -85,8 +85,10 @@ fn play_line<O: Sink>(
     ensures memory { IsErrOf result LineFault.Memory → O.faults out.new ≡ O.faults out.old }
     ensures failed { IsErrOf result LineFault.CannotWrite → Rose (O.faults out.old) (O.faults out.new) }
 {
-    let Some(line) = read_line(text) else {
-        return Err(LineFault::Refused);
+    let line = match read_line(alloc, text) {
+        Err(_) => return Err(LineFault::Memory),
+        Ok(None) => return Err(LineFault::Refused),
+        Ok(Some(line)) => line,
     };
     let lines = match act(alloc, host, line) {
         Err(_) => return Err(LineFault::Memory),

@@ -1,17 +1,18 @@
 use Rattle.std.proofs.Common.{ap, sym, ◌∙◌}
+use Rattle.std.proofs.lemmas.Result.{IfOk-weaker}
 use Rattle.command_line.specs.Lines.{line_of_text}
 use Rattle.command_line.proofs.LineLemmas.{held-is, held-one, line-read, line_of-utf8, line_of-other}
 use Rattle.command_line.proofs.line.read_line.Goals as goal
 
 pub returns-in-Ok-clause-is : goal.returns-in-Ok-clause-is
 returns-in-Ok-clause-is c =
-    held-is c.args.bytes.now c.read_text.result
-    (c.read_text.ensures ∙ ap line_of_text c.in-Ok.ensures.cases.0 ∙ sym (line_of-utf8 c.args.bytes.now c.in-Ok.ensures.cases.1))
+    IfOk-weaker c.read_text.result _ _
+    (λ read is. held-is c.args.bytes.now read (is ∙ ap line_of_text c.in-Ok.ensures.cases.0 ∙ sym (line_of-utf8 c.args.bytes.now c.in-Ok.ensures.cases.1))) c.read_text.ensures
 
 pub returns-in-Ok-clause-one : goal.returns-in-Ok-clause-one
 returns-in-Ok-clause-one c =
-    held-one c.args.bytes.now c.read_text.result
-    (c.read_text.ensures ∙ ap line_of_text c.in-Ok.ensures.cases.0 ∙ sym (line_of-utf8 c.args.bytes.now c.in-Ok.ensures.cases.1))
+    IfOk-weaker c.read_text.result _ _
+    (λ read is. held-one c.args.bytes.now read (is ∙ ap line_of_text c.in-Ok.ensures.cases.0 ∙ sym (line_of-utf8 c.args.bytes.now c.in-Ok.ensures.cases.1))) c.read_text.ensures
 
 pub returns-in-Err-clause-one : goal.returns-in-Err-clause-one
 returns-in-Err-clause-one c line is =
