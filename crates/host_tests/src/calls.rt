@@ -658,7 +658,7 @@ fn calls_come_to_their_ends(rt: HostRuntime) -> Result<(), Fail> {
 }
 
 // Each of these lines is refused behind `attach` and a run.
-const REFUSED: [&[u8]; 47] = [
+const REFUSED: [&[u8]; 45] = [
     b"",
     b" ",
     b"attach",
@@ -694,18 +694,16 @@ const REFUSED: [&[u8]; 47] = [
     b"run 4294967296 0",
     b"run 1 9007199254740992",
     b"tell 1",
-    b"tell 1 ",
-    b"tell 1 {}",
     b"tell 0 {\"id\":1,\"method\":\"Debugger.enable\"}",
     b"tell 2 {\"id\":1,\"method\":\"Debugger.enable\"}",
     b"tell 01 {\"id\":1,\"method\":\"Debugger.enable\"}",
-    b"tell 1 {\"id\":01,\"method\":\"Debugger.enable\"}",
-    b"tell 1 {\"id\":9007199254740992,\"method\":\"Debugger.enable\"}",
-    b"tell 1 {\"id\":1,\"method\":\"\"}",
-    b"tell 1 {\"id\":1,\"method\":\"Debugger.\xc3\xa9\"}",
-    b"tell 1 {\"id\":1, \"method\":\"Debugger.enable\"}",
-    b"tell 1 {\"id\":1,\"method\":\"Debugger.enable\"} ",
-    b"tell 1 {\"id\":1,\"method\":\"Debugger.enable\",\"params\":{}}",
+    b"tell 1  {\"id\":1,\"method\":\"Debugger.enable\"}%",
+    b"tell 1 {\"id\":1,\"method\":\"Debugger.enable\"}\r",
+    b"tell 1 %2",
+    b"tell 1 %0a",
+    b"tell 1 %26",
+    b"tell 1 %%25",
+    b"tell 1 \xc3",
 ];
 
 // What such a journal comes to.

@@ -1,6 +1,5 @@
 // Each command in each state of its session.
 use cdp_host::host::{Host, Told};
-use cdp_session::command::is_early;
 use cdp_text::units::units_of;
 use js_parser::parse::parse_script;
 use std::alloc::Global;
@@ -80,7 +79,7 @@ fn bring(rt: &impl Abort, host: &mut Host, letters: &str) -> Result<(), Fail> {
             host.run(100)?;
         } else {
             let text = command(letter);
-            assert!(rt; is_early(text) && host.attached(1));
+            assert!(rt; host.attached(1));
             assert_eq!(rt; host.tell(1, text), Told::Kept);
         }
     }

@@ -8,6 +8,8 @@ mod calls;
 #[cfg(test)]
 mod commands;
 #[cfg(test)]
+mod debugging;
+#[cfg(test)]
 mod edges;
 #[cfg(test)]
 mod runs;
