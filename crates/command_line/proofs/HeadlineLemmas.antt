@@ -7,11 +7,12 @@ use Rattle.std.proofs.lemmas.List.{map-append}
 use Rattle.std.proofs.lemmas.Option.{same_Some}
 use Rattle.js_tree.specs.declared.script.Script.{Script}
 use Rattle.js_semantics.specs.Run.{Run as Program}
-use Rattle.cdp_session.specs.Kept.{Session}
-use Rattle.cdp_session.specs.Command.{Command, command_of}
-use Rattle.cdp_session.specs.Session.{emptied, stopped, answer_of}
-use Rattle.cdp_host.specs.Programs.{next, plain, is_over, has_thrown, printed_of}
-use Rattle.cdp_host.specs.Meaning.{Meaning, begin, step, after_steps, is_attached, is_named, longest}
+use Rattle.stepping.specs.declared.arrival.Arrival.{Arrival}
+use Rattle.cdp_session.specs.Sessions.{Session, emptied}
+use Rattle.cdp_session.specs.Stops.{stopped}
+use Rattle.cdp_session.specs.Replies.{answer_of}
+use Rattle.cdp_host.specs.Programs.{arrival_of, next, plain, is_over, has_thrown, printed_of}
+use Rattle.cdp_host.specs.Meaning.{Meaning, at_program, begin, behind, situation, step, after_steps, is_attached, is_named, is_paused, longest}
 use Rattle.cdp_host.specs.Histories.{Entry, Attach, Tell, Take, Detach, Ran, apply, told, with_answer, whole, steps_of, steps_made}
 use Rattle.cdp_host.specs.Rules.{StopsExactly, FitsEntry, FitsAll, handed_at, texts_at, printed_in}
 use Rattle.cdp_host.specs.States.{outbox_of, state_of}
@@ -50,10 +51,10 @@ out-sent s (text ∷ texts) = out-sent s texts
 out-at : (scripts : List Script) (m : Meaning Program) (entry : Entry) → FitsEntry scripts m entry
     → printed_of m.program ++ out_texts (output_at scripts m entry) ≡ printed_of (apply scripts m entry).program
 out-at scripts m Attach fits = append-nil (printed_of m.program)
-out-at scripts m (Tell s text) fits = append-nil (printed_of m.program) ∙ ap printed_of (sym (changed-program m (Tell s text)))
+out-at scripts m (Tell s text) fits = append-nil (printed_of m.program) ∙ ap printed_of (sym (changed-program scripts m (Tell s text)))
 out-at scripts m (Take s) fits =
     ap (λ xs. printed_of m.program ++ xs) (out-sent s (handed_at m (Take s))) ∙ append-nil (printed_of m.program)
-    ∙ ap printed_of (sym (changed-program m (Take s)))
+    ∙ ap printed_of (sym (changed-program scripts m (Take s)))
 out-at scripts m (Detach s) fits = absurd fits
 out-at scripts m (Ran n) fits =
     ap (λ xs. printed_of m.program ++ xs) (out-append (map Out (printed_in scripts n m)) _ ∙ append-nil _ ∙ out-printed (printed_in scripts n m)) ∙ steps-print n scripts m
@@ -73,24 +74,33 @@ out-all (entry ∷ history) scripts m fits =
 record IsBefore (m : Meaning Program) : Type 0 where
   pub none : m.attached ≡ 0 → m.session ≡ None
 
+behind-none : (a : Arrival) (b : Bool) (m : Meaning Program) → m.session ≡ None → (behind a b m).session ≡ None
+behind-none a true m none = ap (option_map (stopped a)) none
+behind-none a false m none = none
+
 step-none : (scripts : List Script) (m : Meaning Program) → m.session ≡ None → (step scripts m).session ≡ None
-step-none scripts m none = rw none refl
+step-none scripts m none = behind-none (arrival_of scripts (next scripts m.program)) (is_named scripts m (next scripts m.program)) (at_program (next scripts m.program) m) none
 
 after_steps-none : (n : ℕ) (scripts : List Script) (m : Meaning Program) → m.session ≡ None → (after_steps scripts n m).session ≡ None
 after_steps-none zero scripts m none = none
 after_steps-none (suc n) scripts m none = after_steps-none n scripts (step scripts m) (step-none scripts m none)
 
+behind-attached : (a : Arrival) (b : Bool) (m : Meaning Program) → (behind a b m).attached ≡ m.attached
+behind-attached a true m = refl
+behind-attached a false m = refl
+
 after_steps-attached : (n : ℕ) (scripts : List Script) (m : Meaning Program) → (after_steps scripts n m).attached ≡ m.attached
 after_steps-attached zero scripts m = refl
-after_steps-attached (suc n) scripts m = after_steps-attached n scripts (step scripts m)
+after_steps-attached (suc n) scripts m =
+    after_steps-attached n scripts (step scripts m)
+    ∙ behind-attached (arrival_of scripts (next scripts m.program)) (is_named scripts m (next scripts m.program)) (at_program (next scripts m.program) m)
 
-told-attached : (m : Meaning Program) (command : Command) (o : Option Session) → (option_map_or (λ x. with_answer m (answer_of m.paused x command)) o m).attached ≡ m.attached
-told-attached m command None = refl
-told-attached m command (Some x) = refl
+told-attached : (scripts : List Script) (m : Meaning Program) (text : List ℕ) (o : Option Session) → (option_map_or (λ x. with_answer m (answer_of (situation scripts m) x text)) o m).attached ≡ m.attached
+told-attached scripts m text None = refl
+told-attached scripts m text (Some x) = refl
 
-tell-attached : (m : Meaning Program) (o : Option Command) → (option_map_or (λ command. told command m) o m).attached ≡ m.attached
-tell-attached m None = refl
-tell-attached m (Some command) = told-attached m command m.session
+tell-attached : (scripts : List Script) (m : Meaning Program) (text : List ℕ) → (told scripts text m).attached ≡ m.attached
+tell-attached scripts m text = told-attached scripts m text m.session
 
 choice-attached : (b : Bool) (k m : Meaning Program) → k.attached ≡ m.attached → (if b then k else m).attached ≡ m.attached
 choice-attached true k m is = is
@@ -102,7 +112,7 @@ before-next m k before same keeps = record { none = λ zero. keeps (before.none 
 -- the entry of a line fits
 tell-fits : (scripts : List Script) (m : Meaning Program) (s : ℕ) (text : List ℕ) → IsBefore m → IsBefore (apply scripts m (Tell s text))
 tell-fits scripts m s text before =
-    before-next m (apply scripts m (Tell s text)) before (choice-attached (is_attached m s) _ m (tell-attached m (command_of text))) (λ none. rw none refl)
+    before-next m (apply scripts m (Tell s text)) before (choice-attached (is_attached m s) (told scripts text m) m (tell-attached scripts m text)) (λ none. rw none refl)
 
 take-fits : (scripts : List Script) (m : Meaning Program) (s : ℕ) → IsBefore m → IsBefore (apply scripts m (Take s))
 take-fits scripts m s before =
@@ -152,7 +162,7 @@ name_by false false true = refl
 name_by false false false = refl
 
 stopped-is : (scripts : List Script) (input : List (List ℕ)) (made n : ℕ) (m : Meaning Program) → StopsExactly scripts input made m n
-    → (after_steps scripts n m).paused ≡ is_stopped scripts input made m n
+    → is_paused (after_steps scripts n m) ≡ is_stopped scripts input made m n
 stopped-is scripts input made zero m stops = refl
 stopped-is scripts input made (suc n) m stops = stops.stops_there (omega arith)
 
@@ -218,23 +228,27 @@ sent-at scripts m (Ran n) s s_small small fits =
     to_of-append s (map Out (printed_in scripts n m)) _ ∙ append-nil _ ∙ to-printed s (printed_in scripts n m) ∙ none-escaped (is_attached m s)
 
 -- a session that is attached stays so
-step_some_by : (b : Bool) (o : Option Session) → is_some (if b then option_map stopped o else o) ≡ is_some o
-step_some_by true None = refl
-step_some_by true (Some x) = refl
-step_some_by false o = refl
+stopped-some : (a : Arrival) (o : Option Session) → is_some (option_map (stopped a) o) ≡ is_some o
+stopped-some a None = refl
+stopped-some a (Some x) = refl
+
+behind-some : (a : Arrival) (b : Bool) (m : Meaning Program) → is_some (behind a b m).session ≡ is_some m.session
+behind-some a true m = stopped-some a m.session
+behind-some a false m = refl
 
 after_steps-some : (n : ℕ) (scripts : List Script) (m : Meaning Program) → is_some (after_steps scripts n m).session ≡ is_some m.session
 after_steps-some zero scripts m = refl
-after_steps-some (suc n) scripts m = after_steps-some n scripts (step scripts m) ∙ step_some_by (is_named scripts m (next scripts m.program)) m.session
+after_steps-some (suc n) scripts m =
+    after_steps-some n scripts (step scripts m)
+    ∙ behind-some (arrival_of scripts (next scripts m.program)) (is_named scripts m (next scripts m.program)) (at_program (next scripts m.program) m)
 
-told-some : (m : Meaning Program) (command : Command) (o : Option Session) → m.session ≡ o
-    → is_some (option_map_or (λ x. with_answer m (answer_of m.paused x command)) o m).session ≡ is_some m.session
-told-some m command None is = refl
-told-some m command (Some x) is = rw is refl
+told-some : (scripts : List Script) (m : Meaning Program) (text : List ℕ) (o : Option Session) → m.session ≡ o
+    → is_some (option_map_or (λ x. with_answer m (answer_of (situation scripts m) x text)) o m).session ≡ is_some m.session
+told-some scripts m text None is = refl
+told-some scripts m text (Some x) is = rw is refl
 
-tell-some : (m : Meaning Program) (o : Option Command) → is_some (option_map_or (λ command. told command m) o m).session ≡ is_some m.session
-tell-some m None = refl
-tell-some m (Some command) = told-some m command m.session refl
+tell-some : (scripts : List Script) (m : Meaning Program) (text : List ℕ) → is_some (told scripts text m).session ≡ is_some m.session
+tell-some scripts m text = told-some scripts m text m.session refl
 
 emptied-some : (o : Option Session) → is_some (option_map emptied o) ≡ is_some o
 emptied-some None = refl
@@ -261,8 +275,8 @@ goes scripts input made m entry s is fits same =
 
 tell-same : (scripts : List Script) (m : Meaning Program) (n s : ℕ) (text : List ℕ) → is_attached (apply scripts m (Tell n text)) s ≡ is_attached m s
 tell-same scripts m n s text =
-    same-attached m (apply scripts m (Tell n text)) s (choice-is_some (is_attached m n) _ m (tell-some m (command_of text)))
-    (choice-attached (is_attached m n) _ m (tell-attached m (command_of text)))
+    same-attached m (apply scripts m (Tell n text)) s (choice-is_some (is_attached m n) (told scripts text m) m (tell-some scripts m text))
+    (choice-attached (is_attached m n) (told scripts text m) m (tell-attached scripts m text))
 
 take-same : (scripts : List Script) (m : Meaning Program) (n s : ℕ) → is_attached (apply scripts m (Take n)) s ≡ is_attached m s
 take-same scripts m n s =
@@ -284,7 +298,7 @@ waits-at scripts input made m (Ran n) s is fits = goes scripts input made m (Ran
 one-more : (scripts : List Script) (m : Meaning Program) (entry : Entry) → m.attached ≤ 1 → FitsEntry scripts m entry → (apply scripts m entry).attached ≤ 1
 one-more scripts m Attach one fits = omega (arith, fits.0)
 one-more scripts m (Tell s text) one fits =
-    let same : (apply scripts m (Tell s text)).attached ≡ m.attached = choice-attached (is_attached m s) _ m (tell-attached m (command_of text)) in rw same one
+    let same : (apply scripts m (Tell s text)).attached ≡ m.attached = choice-attached (is_attached m s) (told scripts text m) m (tell-attached scripts m text) in rw same one
 one-more scripts m (Take s) one fits = rw (choice-attached (is_attached m s) (record m { session = option_map emptied m.session }) m refl) one
 one-more scripts m (Detach s) one fits = absurd fits
 one-more scripts m (Ran n) one fits = rw (after_steps-attached n scripts m) one

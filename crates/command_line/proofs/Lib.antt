@@ -1,4 +1,5 @@
 pub mod WordLemmas
+pub mod UnescapeLemmas
 pub mod LineLemmas
 pub mod OneLineLemmas
 pub mod EscapeLemmas
