@@ -79,7 +79,7 @@ known scripts = record {
   raises = ⊥;
 }
 
-number-at : (n : ℕ) (ss : List Script) (i : ℕ) (other : Script) → AreNumbered n ss → i < length ss → (slice_index_or ss i other).number ≡ n + i
+pub number-at : (n : ℕ) (ss : List Script) (i : ℕ) (other : Script) → AreNumbered n ss → i < length ss → (slice_index_or ss i other).number ≡ n + i
 number-at n [] i other h l = absurd (omega (arith, l))
 number-at n (s ∷ ss) zero other h l = omega (arith, h.0)
 number-at n (s ∷ ss) (suc i) other h l = let k : (slice_index_or ss i other).number ≡ (n + 1) + i = number-at (n + 1) ss i other h.1 (omega (arith, l)) in omega (arith, k)

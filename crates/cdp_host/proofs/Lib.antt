@@ -1,5 +1,6 @@
 pub mod ProgramLemmas
 pub mod ArrivalLemmas
+pub mod PlaceLemmas
 pub mod PartLemmas
 pub mod StateLemmas
 pub mod StepLemmas

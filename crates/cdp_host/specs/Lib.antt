@@ -1,5 +1,6 @@
 pub mod Arrivals
 pub mod Programs
+pub mod Places
 pub mod Meaning
 pub mod Histories
 pub mod States

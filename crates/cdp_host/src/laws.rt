@@ -2,11 +2,19 @@
 
 ghost use Rattle.std.specs.Prelude.{◌≡◌, ◌++◌, ℕ, List};
 ghost use Rattle.js_tree.specs.declared.script.Script.{Script};
+ghost use Rattle.arrivals.specs.Arrivals.{AreNumbered};
 ghost use Rattle.cdp_host.specs.Programs.{plain};
+ghost use Rattle.cdp_host.specs.Places.{ArrivesAtLocations};
 ghost use Rattle.cdp_host.specs.Meaning.{begin};
 ghost use Rattle.cdp_host.specs.Histories.{Entry, whole, steps_made};
 ghost use Rattle.cdp_host.specs.States.{outbox_of};
 ghost use Rattle.cdp_host.specs.Rules.{PrintsAsPlain, AllStopExactly, IsPausedThere, FitsAll, handed_of, texts_of};
+
+/// Where a program whose scripts have the numbers 1, 2 and so on has arrived, the place by which the rules of stopping go is a
+/// break location of one of its scripts.
+pub fn a_program_arrives_at_break_locations()
+    ensures { (k : ℕ) (scripts : List Script) (input : List (List ℕ)) → AreNumbered 1 scripts → ArrivesAtLocations scripts (plain k scripts input) }
+{}
 
 /// Behind a history the program is where as many steps lead that nobody watches.
 pub fn a_history_goes_the_plain_way()
