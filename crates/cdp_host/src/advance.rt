@@ -10,7 +10,7 @@ ghost use Rattle.cdp_host.specs.Meaning.{names};
 ghost use Rattle.cdp_host.specs.Programs.{code_of, is_over};
 ghost use Rattle.cdp_host.specs.Ran.{Advances, HasMade, IsStretch};
 
-use crate::arrivals::{arrival_at, arrival_of};
+use crate::arrival::{arrival_at, arrival_of};
 use cdp_session::session::Session;
 use cdp_text::line_table::LineTable;
 use cdp_text::units::Units;

@@ -2,7 +2,7 @@
 #![tactic(auto)]
 
 mod advance;
-mod arrivals;
+mod arrival;
 pub mod host;
 pub mod laws;
 mod lines;

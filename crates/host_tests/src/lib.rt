@@ -2,8 +2,6 @@
 #![tactic(auto)]
 
 #[cfg(test)]
-mod arrivals;
-#[cfg(test)]
 mod calls;
 #[cfg(test)]
 mod commands;
@@ -13,5 +11,7 @@ mod debugging;
 mod edges;
 #[cfg(test)]
 mod runs;
+#[cfg(test)]
+mod standing;
 #[cfg(test)]
 mod texts;

@@ -4,7 +4,7 @@ use Rattle.js_heap.specs.BuiltIns.{first_world}
 use Rattle.js_machine.specs.Standing.{source_of}
 use Rattle.cdp_host.specs.Arrivals.{is_uncaught, place_at}
 use Rattle.cdp_host.proofs.ArrivalLemmas.{same-arrival}
-use Rattle.cdp_host.proofs.arrivals.arrival_of.Goals as goal
+use Rattle.cdp_host.proofs.arrival.arrival_of.Goals as goal
 
 pub returns : goal.returns
 returns c =
