@@ -8,6 +8,7 @@ pub mod MessageForm
 pub mod Messages
 pub mod Methods
 pub mod Parameters
+pub mod Parts
 pub mod ReadBack
 pub mod Refusals
 pub mod Views

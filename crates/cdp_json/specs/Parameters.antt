@@ -106,6 +106,24 @@ possible_of d = possible_from (required location_of (codes "start") d) (optional
 abbrev pub source_of : Data → Option Params
 source_of d = option_map params.GetScriptSource (required text_of (codes "scriptId") d)
 
+-- `objectId, ownProperties?, generatePreview?`; the flags are read, and don't change what is answered
+abbrev pub properties_from : Option (List ℕ) → Option (Option Bool) → Option (Option Bool) → Option Params
+properties_from None own preview = None
+properties_from (Some id) None preview = None
+properties_from (Some id) (Some own) None = None
+properties_from (Some id) (Some own) (Some preview) = Some (params.GetProperties id)
+
+abbrev pub properties_of : Data → Option Params
+properties_of d = properties_from (required text_of (codes "objectId") d) (optional as_bool (codes "ownProperties") d) (optional as_bool (codes "generatePreview") d)
+
+-- `objectId`
+abbrev pub release_of : Data → Option Params
+release_of d = option_map params.ReleaseObject (required text_of (codes "objectId") d)
+
+-- `objectGroup`
+abbrev pub release_group_of : Data → Option Params
+release_group_of d = option_map params.ReleaseObjectGroup (required text_of (codes "objectGroup") d)
+
 -- the parameters of a method
 abbrev pub params_of : Method → Data → Option Params
 params_of methods.DebuggerEnable d = Some params.DebuggerEnable
@@ -125,3 +143,6 @@ params_of methods.SetPauseOnExceptions d = state_of d
 params_of methods.SetAsyncCallStackDepth d = depth_of d
 params_of methods.GetPossibleBreakpoints d = possible_of d
 params_of methods.GetScriptSource d = source_of d
+params_of methods.GetProperties d = properties_of d
+params_of methods.ReleaseObject d = release_of d
+params_of methods.ReleaseObjectGroup d = release_group_of d

@@ -10,6 +10,7 @@ mod message;
 pub mod method;
 mod parameters;
 pub mod params;
+pub mod parts;
 pub mod refusal;
 pub mod value;
 

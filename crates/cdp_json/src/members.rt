@@ -4,7 +4,7 @@ ghost use Rattle.std.specs.Prelude.{◌≡◌, IfOk, codes};
 ghost use Rattle.std.specs.Option.{option_map};
 ghost use Rattle.serde_json.specs.View.{view};
 ghost use Rattle.serde_json.specs.Find.{get, as_bool, as_str};
-ghost use Rattle.cdp_json.specs.Members.{required, text_of, coordinate_of, column_of, position_of, is_integer};
+ghost use Rattle.cdp_json.specs.Members.{required, optional, text_of, coordinate_of, column_of, position_of, is_integer};
 
 use cdp_text::position::Pos;
 use cdp_text::units::{Units, units_of};
@@ -48,6 +48,16 @@ pub(crate) fn bool_at(value: &Value, name: &str) -> Option<bool>
     match value.get(name) {
         Some(member) => member.as_bool(),
         None => None,
+    }
+}
+
+/// The truth value of a member that may be absent.
+pub(crate) fn optional_bool_at(value: &Value, name: &str) -> Option<Option<bool>>
+    ensures { result ≡ optional as_bool name.now (view value.now) }
+{
+    match value.get(name) {
+        Some(member) => member.as_bool().map(Some),
+        None => Some(None),
     }
 }
 

@@ -23,6 +23,9 @@ pub enum Method {
     SetAsyncCallStackDepth,
     GetPossibleBreakpoints,
     GetScriptSource,
+    GetProperties,
+    ReleaseObject,
+    ReleaseObjectGroup,
 }
 
 /// The method of this name, as `Debugger.enable`.
@@ -47,6 +50,9 @@ pub(crate) fn method_named(name: &str) -> Option<Method>
         "Debugger.setAsyncCallStackDepth" => Some(Method::SetAsyncCallStackDepth),
         "Debugger.getPossibleBreakpoints" => Some(Method::GetPossibleBreakpoints),
         "Debugger.getScriptSource" => Some(Method::GetScriptSource),
+        "Runtime.getProperties" => Some(Method::GetProperties),
+        "Runtime.releaseObject" => Some(Method::ReleaseObject),
+        "Runtime.releaseObjectGroup" => Some(Method::ReleaseObjectGroup),
         _ => None,
     }
 }

@@ -6,9 +6,9 @@ ghost use Rattle.std.specs.Prelude.{◌≡◌, IfOk, Some, codes, option_map, op
 ghost use Rattle.serde_json.specs.View.{view};
 ghost use Rattle.serde_json.specs.Find.{as_str};
 ghost use Rattle.cdp_json.specs.Members.{required, optional};
-ghost use Rattle.cdp_json.specs.Parameters.{location_from, location_of, unless_empty, condition_of, continue_of, by_url_from, by_url_of, at_location_from, at_location_of, remove_of, active_of, skip_of, state_named, state_of, depth_of, possible_from, possible_of, source_of, params_of};
+ghost use Rattle.cdp_json.specs.Parameters.{location_from, location_of, unless_empty, condition_of, continue_of, by_url_from, by_url_of, at_location_from, at_location_of, remove_of, active_of, skip_of, state_named, state_of, depth_of, possible_from, possible_of, source_of, properties_from, properties_of, release_of, release_group_of, params_of};
 
-use crate::members::{bool_at, is_whole, position, str_at, text, text_at};
+use crate::members::{bool_at, is_whole, optional_bool_at, position, str_at, text, text_at};
 use crate::method::Method;
 use crate::params::{ExceptionPauses, Location, Params};
 use cdp_text::position::Pos;
@@ -289,6 +289,56 @@ fn source(alloc: Global, value: &Value) -> Result<Option<Params>, AllocError>
     }
 }
 
+/// The parameters of a list of properties, where all are of their kinds.
+fn made_properties(
+    object_id: Option<Units>,
+    own: Option<Option<bool>>,
+    preview: Option<Option<bool>>,
+) -> Option<Params>
+    ensures { result ≡ properties_from object_id own preview }
+{
+    match object_id {
+        Some(object_id) => match own {
+            Some(_) => match preview {
+                Some(_) => Some(Params::GetProperties { object_id }),
+                None => None,
+            },
+            None => None,
+        },
+        None => None,
+    }
+}
+
+/// `objectId, ownProperties?, generatePreview?`
+fn properties(alloc: Global, value: &Value) -> Result<Option<Params>, AllocError>
+    ensures { IfOk result (λ params. params ≡ properties_of (view value.now)) }
+{
+    let object_id = text_at(alloc, value, "objectId")?;
+    let own = optional_bool_at(value, "ownProperties");
+    let preview = optional_bool_at(value, "generatePreview");
+    Ok(made_properties(object_id, own, preview))
+}
+
+/// `objectId`
+fn release(alloc: Global, value: &Value) -> Result<Option<Params>, AllocError>
+    ensures { IfOk result (λ params. params ≡ release_of (view value.now)) }
+{
+    match text_at(alloc, value, "objectId")? {
+        Some(object_id) => Ok(Some(Params::ReleaseObject { object_id })),
+        None => Ok(None),
+    }
+}
+
+/// `objectGroup`
+fn release_group(alloc: Global, value: &Value) -> Result<Option<Params>, AllocError>
+    ensures { IfOk result (λ params. params ≡ release_group_of (view value.now)) }
+{
+    match text_at(alloc, value, "objectGroup")? {
+        Some(object_group) => Ok(Some(Params::ReleaseObjectGroup { object_group })),
+        None => Ok(None),
+    }
+}
+
 /// The parameters of a method, read off the members of a JSON value.
 pub(crate) fn params(
     alloc: Global,
@@ -315,5 +365,8 @@ pub(crate) fn params(
         Method::SetAsyncCallStackDepth => Ok(stack_depth(value)),
         Method::GetPossibleBreakpoints => possible(alloc, value),
         Method::GetScriptSource => source(alloc, value),
+        Method::GetProperties => properties(alloc, value),
+        Method::ReleaseObject => release(alloc, value),
+        Method::ReleaseObjectGroup => release_group(alloc, value),
     }
 }

@@ -62,4 +62,13 @@ pub enum Params {
     GetScriptSource {
         script_id: Units,
     },
+    GetProperties {
+        object_id: Units,
+    },
+    ReleaseObject {
+        object_id: Units,
+    },
+    ReleaseObjectGroup {
+        object_group: Units,
+    },
 }
