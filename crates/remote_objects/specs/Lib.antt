@@ -1,0 +1,7 @@
+pub mod Ids
+pub mod Sights
+pub mod Values
+pub mod Making
+pub mod Remote
+pub mod Descriptors
+pub mod CallFrames

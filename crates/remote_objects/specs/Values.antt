@@ -1,0 +1,85 @@
+-- What a value is described as (Chrome DevTools Protocol 1.3, `Runtime.RemoteObject`), but for the id of its handle.
+use Rattle.std.specs.Prelude.{ℕ, ◌-◌, List, [], ◌∷◌, ◌++◌, length, take, drop, codes, decimal, nat_eq, slice_get, if◌then◌else◌, Option, Some, None}
+use Rattle.std.specs.Fmt.{signed_decimal}
+use Rattle.js_tree.specs.declared.script.Script.{Script}
+use Rattle.js_tree.specs.declared.node.Span.{Span}
+use Rattle.js_tree.specs.Spans.{span_of}
+use Rattle.js_heap.specs.declared.built_in.Code.{Code}
+use Rattle.js_heap.specs.declared.built_in.Code.TheVariants as codes_of
+use Rattle.js_heap.specs.declared.built_in.ErrorClass.{ErrorClass}
+use Rattle.js_heap.specs.declared.cell.Cell.{Cell}
+use Rattle.js_heap.specs.declared.cell.Cell.TheVariants as cells
+use Rattle.js_heap.specs.declared.value.Value.{Value}
+use Rattle.js_heap.specs.declared.value.Value.TheVariants as values
+use Rattle.js_heap.specs.Values.{units_at, class_text, cell_text}
+use Rattle.js_heap.specs.World.{World, read_cell}
+use Rattle.cdp_json.specs.Json.{null, boolean, number, text}
+use Rattle.cdp_json.specs.Parts.{Pair}
+
+-- ---- functions
+
+-- the units of a span
+abbrev pub units_in : Span → List ℕ → List ℕ
+units_in s units = take (s.end - s.start) (drop s.start units)
+
+-- the source of a node of a script; of no script it is empty
+abbrev pub node_source : Option Script → ℕ → List ℕ
+node_source None node = []
+node_source (Some s) node = units_in (span_of s.spans node) s.source
+
+-- the script of a number; scripts are counted from 1
+abbrev pub numbered : List Script → ℕ → Option Script
+numbered scripts n = if nat_eq n 0 then None else slice_get scripts (n - 1)
+
+-- what is shown of a function without a source (ECMA-262, 20.2.3.5)
+abbrev pub native_text : List ℕ → List ℕ
+native_text name = codes "function " ++ (name ++ codes "() { [native code] }")
+
+-- the source of a function: that of its node. An evaluation's functions are of no script.
+abbrev pub function_text : List Script → Code → List ℕ → List ℕ
+function_text scripts (codes_of.Script n node) name = node_source (numbered scripts n) node
+function_text scripts (codes_of.Kept at node) name = []
+function_text scripts (codes_of.BuiltIn f) name = native_text name
+
+-- ---- objects
+
+abbrev pub array_text : ℕ → List ℕ
+array_text n = codes "Array(" ++ (decimal n ++ codes ")")
+
+-- an object: its class, what is shown of it, and a subtype where it has one
+abbrev pub object_pairs : List ℕ → List ℕ → List Pair → List ℕ → List Pair
+object_pairs class shown subtype type = (codes "className", text class) ∷ (codes "description", text shown) ∷ subtype ++ (codes "type", text type) ∷ []
+
+abbrev pub subtyped : List ℕ → List Pair
+subtyped name = (codes "subtype", text name) ∷ []
+
+-- a plain object, a scope among them
+abbrev pub plain_pairs : List Pair
+plain_pairs = object_pairs (codes "Object") (codes "Object") [] (codes "object")
+
+-- a cell as an object
+abbrev pub cell_pairs : World → List Script → Option Cell → List Pair
+cell_pairs w scripts (Some (cells.Error class ps)) = object_pairs (class_text class) (cell_text w (Some (cells.Error class ps))) (subtyped (codes "error")) (codes "object")
+cell_pairs w scripts (Some (cells.Array vs)) = object_pairs (codes "Array") (array_text (length vs)) (subtyped (codes "array")) (codes "object")
+cell_pairs w scripts (Some (cells.Function code name len scope receiver)) = object_pairs (codes "Function") (function_text scripts code name) [] (codes "function")
+cell_pairs w scripts cell = plain_pairs
+
+-- ---- primitive values
+
+abbrev pub undefined_pairs : List Pair
+undefined_pairs = (codes "type", text (codes "undefined")) ∷ []
+
+abbrev pub null_pairs : List Pair
+null_pairs = subtyped (codes "null") ++ (codes "type", text (codes "object")) ∷ (codes "value", null) ∷ []
+
+abbrev pub text_pairs : List ℕ → List Pair
+text_pairs units = (codes "type", text (codes "string")) ∷ (codes "value", text units) ∷ []
+
+-- a value; what is said of an object is behind its address
+abbrev pub value_pairs : World → List Script → Value → List Pair
+value_pairs w scripts values.Undefined = undefined_pairs
+value_pairs w scripts values.Null = null_pairs
+value_pairs w scripts (values.Bool b) = (codes "type", text (codes "boolean")) ∷ (codes "value", boolean b) ∷ []
+value_pairs w scripts (values.Number z) = (codes "description", text (signed_decimal z)) ∷ (codes "type", text (codes "number")) ∷ (codes "value", number z) ∷ []
+value_pairs w scripts (values.Text a) = text_pairs (units_at w a)
+value_pairs w scripts (values.Object a) = cell_pairs w scripts (read_cell w a)
