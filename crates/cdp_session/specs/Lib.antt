@@ -1,7 +1,9 @@
 pub mod Situations
 pub mod Sessions
 pub mod Results
+pub mod Pauses
 pub mod Stops
+pub mod Objects
 pub mod Rows
 pub mod Replies
 pub mod Finding

@@ -24,10 +24,13 @@ has_condition (params.SetBreakpointByUrl url p condition) = is_some condition
 has_condition (params.SetBreakpoint at condition) = is_some condition
 has_condition other = false
 
--- all methods but these want the debugger enabled
+-- all methods of the domain Debugger but these want it enabled
 abbrev pub wants_enabled : Params → Bool
 wants_enabled params.DebuggerEnable = false
 wants_enabled params.DebuggerDisable = false
+wants_enabled (params.GetProperties id) = false
+wants_enabled (params.ReleaseObject id) = false
+wants_enabled (params.ReleaseObjectGroup group) = false
 wants_enabled other = true
 
 -- these want the program paused

@@ -1,40 +1,19 @@
--- The JSON values of results and events (Chrome DevTools Protocol 1.3, domain Debugger).
-use Rattle.std.specs.Prelude.{ℕ, pos, List, [], ◌∷◌, ◌++◌, map, codes, decimal, Option, Some, None}
+-- The JSON values of results and events (Chrome DevTools Protocol 1.3, domains Debugger and Runtime).
+use Rattle.std.specs.Prelude.{ℕ, List, [], ◌∷◌, ◌++◌, map, codes, Option, Some, None}
 use Rattle.cdp_text.specs.declared.position.Place.{Place}
-use Rattle.cdp_json.specs.Json.{Json, number, text, list, object, items_of, members_of}
+use Rattle.cdp_json.specs.Json.{Json, text}
+use Rattle.cdp_json.specs.Parts.{Pair, object_of, list_of, nothing, place_pairs, location}
 use Rattle.cdp_json.specs.Messages.{event_text}
 use Rattle.locations.specs.declared.spot.Spot.{Spot}
 use Rattle.locations.specs.declared.spot.SpotKind.{SpotKind}
 use Rattle.locations.specs.declared.spot.SpotKind.TheVariants as kinds
 use Rattle.breakpoints.specs.Resolving.{place_in}
 
--- a key with its value
-abbrev pub Pair : Type 0
-Pair = List ℕ × Json
-
-abbrev pub object_of : List Pair → Json
-object_of pairs = object (members_of pairs)
-
-abbrev pub list_of : List Json → Json
-list_of values = list (items_of values)
-
--- a result without members
-abbrev pub nothing : Json
-nothing = object_of []
-
 -- that of enabling the debugger
 abbrev pub debugger_id : Json
 debugger_id = object_of ((codes "debuggerId", text (codes "1")) ∷ [])
 
 -- ---- locations
-
--- the members of a place: its column, its line and the id of its script
-abbrev pub place_pairs : Place → List Pair
-place_pairs p =
-    (codes "columnNumber", number (pos p.pos.col)) ∷ (codes "lineNumber", number (pos p.pos.line)) ∷ (codes "scriptId", text (decimal p.script)) ∷ []
-
-abbrev pub location : Place → Json
-location p = object_of (place_pairs p)
 
 -- the name of a kind of break locations; a plain one has none
 abbrev pub kind_name : SpotKind → Option (List ℕ)
@@ -74,15 +53,22 @@ set_at id place = object_of ((codes "actualLocation", location place) ∷ (codes
 abbrev pub script_source : List ℕ → Json
 script_source source = object_of ((codes "scriptSource", text source) ∷ [])
 
+-- ---- objects
+
+-- the properties of an object, in order
+abbrev pub properties : List Json → Json
+properties values = object_of ((codes "result", list_of values) ∷ [])
+
 -- ---- events
 
--- the program stopped: the ids of the breakpoints that it hit, and why; its frames aren't listed yet
-abbrev pub paused_params : List (List ℕ) → List ℕ → Json
-paused_params hits reason =
-    object_of ((codes "callFrames", list_of []) ∷ (codes "hitBreakpoints", list_of (map text hits)) ∷ (codes "reason", text reason) ∷ [])
+-- The program stopped: its frames from the top one outward, the value that was thrown, where the session is told of one, the ids
+-- of the breakpoints that it hit, and why.
+abbrev pub paused_params : List Json → List Pair → List (List ℕ) → List ℕ → Json
+paused_params frames data hits reason =
+    object_of ((codes "callFrames", list_of frames) ∷ (data ++ ((codes "hitBreakpoints", list_of (map text hits)) ∷ (codes "reason", text reason) ∷ [])))
 
-abbrev pub paused_text : List (List ℕ) → List ℕ → List ℕ
-paused_text hits reason = event_text (codes "Debugger.paused") (paused_params hits reason)
+abbrev pub paused_text : List Json → List Pair → List (List ℕ) → List ℕ → List ℕ
+paused_text frames data hits reason = event_text (codes "Debugger.paused") (paused_params frames data hits reason)
 
 -- the program went on
 abbrev pub resumed_text : List ℕ

@@ -1,5 +1,5 @@
 -- What each method does to its session, and what it answers (Chrome DevTools Protocol 1.3).
-use Rattle.std.specs.Prelude.{ℕ, List, [], ◌∷◌, Bool, true, not, ◌&&◌, codes, filter, is_some, if◌then◌else◌, Option, Some, None}
+use Rattle.std.specs.Prelude.{ℕ, List, [], Bool, true, filter, is_some, if◌then◌else◌, Option, Some, None}
 use Rattle.cdp_text.specs.declared.position.Pos.{Pos}
 use Rattle.cdp_text.specs.declared.position.Place.{Place}
 use Rattle.js_tree.specs.declared.script.Script.{Script}
@@ -24,8 +24,15 @@ use Rattle.breakpoints.specs.Resolving.{resolved_at, resolved_by_url, resolved_i
 use Rattle.breakpoints.specs.declared.fault.AddFault.{AddFault}
 use Rattle.breakpoints.specs.declared.fault.AddFault.TheVariants as faults
 use Rattle.cdp_session.specs.Situations.{Situation, script_of}
-use Rattle.cdp_session.specs.Sessions.{Session, with_rules, with_breakpoints}
-use Rattle.cdp_session.specs.Results.{nothing, debugger_id, set_by_url, set_at, spot_locations, script_source, paused_text}
+use Rattle.object_groups.specs.Handles.{without, without_group}
+use Rattle.object_groups.specs.declared.handle.Handle.{Handle}
+use Rattle.cdp_json.specs.Parts.{nothing}
+use Rattle.remote_objects.specs.Descriptors.{descriptors}
+use Rattle.remote_objects.specs.Making.{Made}
+use Rattle.cdp_session.specs.Objects.{handle_of}
+use Rattle.cdp_session.specs.Pauses.{enabling_told, sight_of}
+use Rattle.cdp_session.specs.Sessions.{Session, with_rules, with_breakpoints, with_handles, without_backtrace}
+use Rattle.cdp_session.specs.Results.{debugger_id, set_by_url, set_at, spot_locations, script_source, properties}
 use Rattle.cdp_session.specs.declared.situation.Pause.{Pause}
 use Rattle.cdp_session.specs.declared.asks.Asks.{Asks}
 use Rattle.cdp_session.specs.declared.asks.Asks.TheVariants.{Nothing, Resume, Leave}
@@ -63,15 +70,15 @@ resumes x = asking Resume x
 -- enabling it anew while the program is paused tells of the pause, which none of the session's rules named
 abbrev pub enable : Situation → Session → Row
 enable s x = Does (record {
-  session = with_rules (record x.rules { enabled = true }) x;
+  session = with_rules (record x.rules { enabled = true }) (with_handles (enabling_told s s.paused x.rules.enabled x).handles x);
   result = debugger_id;
-  events = if is_some s.paused && not x.rules.enabled then paused_text [] (codes "other") ∷ [] else [];
+  events = (enabling_told s s.paused x.rules.enabled x).made;
   asks = Nothing;
 })
 
--- disabling it forgets what the session asked for, and the program isn't paused for this session any more
+-- disabling it forgets what the session asked for and the objects of the stop; the program isn't paused for this session any more
 abbrev pub disable : Session → Row
-disable x = asking Leave (with_rules no_rules (with_breakpoints none_set x))
+disable x = asking Leave (with_rules no_rules (with_breakpoints none_set (without_backtrace x)))
 
 -- a pause is asked for, unless the program is paused
 abbrev pub pause : Situation → Session → Row
@@ -167,6 +174,31 @@ throws_of pauses.All = throws.All
 abbrev pub set_throws : Session → ExceptionPauses → Row
 set_throws x state = does (with_rules (record x.rules { exceptions = throws_of state }) x)
 
+-- ---- objects
+
+-- the properties of what a handle stands for, with new handles in its group, if it is in one
+abbrev pub lists : Session → Made (List Json) → Row
+lists x m = answers (properties m.made) (with_handles m.handles x)
+
+abbrev pub properties_of : Situation → Session → Option Handle → Row
+properties_of s x None = Refuses refusals.UnknownObject
+properties_of s x (Some h) = lists x (descriptors (sight_of s x) h.group h.target x.handles)
+
+abbrev pub get_properties : Situation → Session → List ℕ → Row
+get_properties s x id = properties_of s x (handle_of x id)
+
+-- a handle ends
+abbrev pub releases : Session → Option Handle → Row
+releases x None = Refuses refusals.UnknownObject
+releases x (Some h) = does (with_handles (without h.number x.handles) x)
+
+abbrev pub release : Session → List ℕ → Row
+release x id = releases x (handle_of x id)
+
+-- the handles of a group end; a group that has none changes nothing
+abbrev pub release_group : Session → List ℕ → Row
+release_group x group = does (with_handles (without_group group x.handles) x)
+
 -- ---- all of them
 
 abbrev pub row : Situation → Session → Params → Row
@@ -187,3 +219,6 @@ row s x (params.SetPauseOnExceptions state) = set_throws x state
 row s x params.SetAsyncCallStackDepth = does x
 row s x (params.GetPossibleBreakpoints start end) = possible s x start end
 row s x (params.GetScriptSource id) = source s x id
+row s x (params.GetProperties id) = get_properties s x id
+row s x (params.ReleaseObject id) = release x id
+row s x (params.ReleaseObjectGroup group) = release_group x group

@@ -1,21 +1,31 @@
--- What a command sees of the program.
+-- What a session sees of the program.
 use Rattle.std.specs.Prelude.{◌≡◌, ℕ, List, [], ◌∷◌, map, Option, Some, None, bytes_eq, decimal, if◌then◌else◌}
+use Rattle.js_heap.specs.World.{World}
+use Rattle.js_heap.specs.declared.value.Value.{Value}
 use Rattle.js_tree.specs.declared.script.Script.{Script}
 use Rattle.locations.specs.Locations.{break_locations}
+use Rattle.call_frames.specs.Frames.{ShownFrame}
 use Rattle.cdp_session.specs.declared.situation.Pause.{Pause}
 use Rattle.cdp_session.specs.declared.situation.Situation.{Situation as Held}
 
--- its scripts, and where it is paused, if it is
+-- how it stands: its cells, its active frames from the top one outward, and the value of a throw that stands, if one does
+pub record Standing : Type 0 where
+  pub world : World
+  pub frames : List ShownFrame
+  pub thrown : Option Value
+
+-- its scripts, where it is paused, if it is, and how it stands
 pub record Situation : Type 0 where
   pub scripts : List Script
   pub paused : Option Pause
+  pub standing : Standing
 
--- that which is lent
-abbrev pub seen : Held → Situation
-seen s = record { scripts = s.scripts.now; paused = s.paused }
+-- that which is lent, of a program that stands so
+abbrev pub seen : {P : Type 0} → (P → Standing) → Held P → Situation
+seen standing s = record { scripts = s.scripts.now; paused = s.paused; standing = standing s.program.now }
 
 -- the break locations that are lent are those of the scripts
-abbrev pub HasSpots : Held → Type 0
+abbrev pub HasSpots : {P : Type 0} → Held P → Type 0
 HasSpots s = s.spots.now ≡ map break_locations s.scripts.now
 
 -- the first script of this id, which is its number as a decimal

@@ -1,0 +1,40 @@
+//! The program that a session debugs, where it stands still.
+
+use call_frames::CallFrame;
+use js_heap::value::Value;
+use js_world::heap::BaseHeap;
+use js_world::names::Names;
+use std::alloc::{AllocError, Global};
+
+/// The cells of a program, with the table of its names.
+#[derive(Clone, Copy)]
+pub struct ProgramCells<'p> {
+    pub heap: &'p BaseHeap,
+    pub names: &'p Names,
+}
+
+/// What a session asks of a program that stands still. Contracts see how it stands.
+pub trait Program {
+    ghost use Rattle.std.specs.Prelude.{◌≡◌, map, IfOk};
+    ghost use Rattle.call_frames.specs.Views.{frame_of};
+    ghost use Rattle.cdp_session.specs.Situations.{Standing};
+    ghost use Rattle.js_world.specs.Heaps.{heap_world};
+
+    ghost standing: { Self → Standing };
+
+    /// Its cells. Takes no memory.
+    fn cells(&self) -> ProgramCells<'_>
+        ensures { heap_world result.names.now result.heap.now ≡ (standing self.now).world };
+
+    /// Its active frames, from the top one outward.
+    ///
+    /// # Errors
+    ///
+    /// There is no memory for them.
+    fn call_frames(&self, alloc: Global) -> Result<Vec<CallFrame<'_>>, AllocError>
+        ensures { IfOk result (λ frames. map frame_of frames.items ≡ (standing self.now).frames) };
+
+    /// The value of a throw that stands, if one does. Takes no memory.
+    fn thrown(&self) -> Option<Value>
+        ensures { result ≡ (standing self.now).thrown };
+}
