@@ -6,9 +6,10 @@ ghost use Rattle.js_heap.specs.World.{World as AnyWorld};
 ghost use Rattle.js_semantics.specs.Next.{next};
 ghost use Rattle.js_semantics.specs.Run.{over, step_in, steps_in};
 ghost use Rattle.js_semantics.specs.Sources.{terms_of_scripts};
+ghost use Rattle.js_code.specs.Trees.{IsTable};
 ghost use Rattle.js_terms.specs.Views.{terms_view};
 ghost use Rattle.js_steps.specs.Running.{IsRunning, RunsFor, CountsAs, IsAsked, HasPassed, passed_steps};
-ghost use Rattle.js_steps.specs.Stepping.{Tells, finish_of};
+ghost use Rattle.js_steps.specs.Stepping.{StandsIn, Tells, finish_of};
 ghost use Rattle.js_machine.specs.Machines.{program_of, term_of, state_of, run_at, IsGoing, IsKept, finish_at, end_of, end_of_run, HasSameCode};
 ghost use Rattle.js_machine.specs.Starts.{IsStarted};
 
@@ -68,7 +69,7 @@ pub struct Started {
 }
 
 /// The scope of the scripts, around all that they do.
-fn script_scope() -> Addr
+pub fn script_scope() -> Addr
     ensures { result ≡ script_scope }
 {
     Addr::Base(1)
@@ -252,5 +253,35 @@ impl Machine {
         ensures { result.now ≡ self.now.names }
     {
         &self.names
+    }
+
+    /// Its code, which is in order.
+    pub fn table(&self) -> &NodeTable
+        ensures table { result.now ≡ self.now.table }
+        ensures in_order { IsTable result.now }
+    {
+        &self.table
+    }
+
+    /// What a step threads beside the world, the active calls among it.
+    pub fn context(&self) -> &Context
+        ensures { result.now ≡ self.now.context }
+    {
+        &self.context
+    }
+
+    /// The tasks. Until the run has ended they stand in the code, each in its scope.
+    pub fn stack(&self) -> &Stack
+        ensures tasks { result.now ≡ self.now.tasks }
+        ensures standing { self.now.ended ≡ None → StandsIn self.now.table script_scope result.now self.now.point }
+    {
+        &self.stack
+    }
+
+    /// Where it stands in the innermost task.
+    pub fn point(&self) -> Point
+        ensures { result ≡ self.now.point }
+    {
+        self.point
     }
 }
