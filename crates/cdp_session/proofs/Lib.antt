@@ -1,2 +1,3 @@
 pub mod OrderedLemmas
 pub mod OutboxLemmas
+pub mod PauseLemmas

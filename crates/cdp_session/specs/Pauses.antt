@@ -16,8 +16,11 @@ use Rattle.cdp_session.specs.Situations.{Situation}
 use Rattle.cdp_session.specs.declared.situation.Pause.{Pause}
 
 -- what the values of the program are described to a session by
+abbrev pub sight_for : Situation → ℕ → Sight
+sight_for s number = record { world = s.standing.world; scripts = s.scripts; session = number }
+
 abbrev pub sight_of : Situation → Session → Sight
-sight_of s x = record { world = s.standing.world; scripts = s.scripts; session = x.number }
+sight_of s x = sight_for s x.number
 
 -- why the program stopped, as its session is told
 abbrev pub reason_of : Option Cause → List ℕ
