@@ -1,11 +1,8 @@
 //! How a session is told that the program is paused.
 
 ghost use Rattle.std.specs.Prelude.{◌≡◌, map, IfOk, OnOk, Some, option_to_list, string_bytes};
-ghost use Rattle.js_world.specs.Heaps.{heap_world};
 ghost use Rattle.cdp_json.specs.Views.{json_view, member_view};
-ghost use Rattle.remote_objects.specs.Describers.{sight_of as described_by};
-ghost use Rattle.cdp_session.specs.Pauses as pauses;
-ghost use Rattle.cdp_session.specs.Pauses.{data_made, data_told, enabling_told, frames_told, pause_told, reason_of, sight_for, sight_of, value_told};
+ghost use Rattle.cdp_session.specs.Pauses.{data_made, described_by, enabling_told, frames_told, pause_told, reason_of, sight_for, sight_of, value_told};
 ghost use Rattle.cdp_session.specs.Sessions.{with_handles};
 ghost use Rattle.cdp_session.specs.Situations.{seen};
 
@@ -49,12 +46,12 @@ fn data_member(
     value: Option<Value>,
     handles: &mut Handles,
 ) -> Result<Option<Member>, AllocError>
-    ensures made { IfOk result (λ m. map member_view (option_to_list m) ≡ (data_made (described_by heap_world describer.now) value handles.old).made) }
-    ensures held { OnOk result (handles.new ≡ (data_made (described_by heap_world describer.now) value handles.old).handles) }
+    ensures made { IfOk result (λ m. map member_view (option_to_list m) ≡ (data_made (described_by describer.now) value handles.old).made) }
+    ensures held { OnOk result (handles.new ≡ (data_made (described_by describer.now) value handles.old).handles) }
 {
     match value {
         Some(value) => {
-            let described = describer.remote(value, Some(backtrace()), handles)?;
+            let described = describer.remote(value, handles, Some(backtrace()))?;
             Ok(Some(member(describer.alloc, b"data", described)?))
         }
         None => Ok(None),
@@ -67,7 +64,7 @@ pub(crate) fn describer<'p, P: Program>(
     situation: &Situation<'p, P>,
     session: u64,
 ) -> Describer<'p, BaseHeap>
-    ensures { described_by heap_world result ≡ sight_for (seen P.standing situation.now) session }
+    ensures { described_by result ≡ sight_for (seen P.standing situation.now) session }
 {
     let cells = situation.program.cells();
     Describer {
