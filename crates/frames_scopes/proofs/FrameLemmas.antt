@@ -12,7 +12,8 @@ use Rattle.js_frames.specs.Sources.{spans_in}
 use Rattle.std.specs.Iterator.{YieldsFirstBy}
 use Rattle.frames_scopes.specs.declared.frames.FrameView.{FrameView}
 use Rattle.frames_scopes.specs.FrameViews.{frame_shown}
-use Rattle.frames_scopes.specs.Frames.{ShownFrame, arrived, here_at, shown_frame, listed_frames, walk}
+use Rattle.call_frames.specs.Frames.{ShownFrame}
+use Rattle.frames_scopes.specs.Frames.{arrived, here_at, shown_frame, listed_frames, walk}
 
 -- ---- lists
 

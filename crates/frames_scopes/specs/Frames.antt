@@ -2,7 +2,6 @@
 use Rattle.std.specs.Prelude.{ℕ, zero, suc, List, [], ◌∷◌, Option, Some, None, map}
 use Rattle.cdp_text.specs.declared.position.Place.{Place}
 use Rattle.js_heap.specs.declared.value.Addr.{Addr}
-use Rattle.js_heap.specs.declared.value.Value.{Value}
 use Rattle.js_heap.specs.declared.built_in.Code.{Code}
 use Rattle.js_heap.specs.declared.built_in.Code.TheVariants as code
 use Rattle.js_heap.specs.declared.cell.Cell.{Cell}
@@ -17,15 +16,8 @@ use Rattle.js_semantics.specs.State.{Frame, State, spot_of}
 use Rattle.js_semantics.specs.Frames.{at, frames}
 use Rattle.js_frames.specs.Sources.{spans_in}
 use Rattle.frames_scopes.specs.Places.{place_of}
-use Rattle.frames_scopes.specs.Scopes.{ShownScope, shown_scopes}
-
--- an active frame: the name of its function, where it stands, where its function begins, its `this`, and its scopes
-pub record ShownFrame : Type 0 where
-  pub name : List ℕ
-  pub place : Place
-  pub function_place : Option Place
-  pub receiver : Value
-  pub scopes : List ShownScope
+use Rattle.call_frames.specs.Frames.{ShownFrame}
+use Rattle.frames_scopes.specs.Scopes.{shown_scopes}
 
 -- ---- functions
 

@@ -58,7 +58,8 @@ impl<'m> Model for Frames<'m> {
     ghost use Rattle.js_world.specs.Heaps.{heap_world};
     ghost use Rattle.js_operations.specs.Contexts.{state_of};
     ghost use Rattle.js_steps.specs.Points.{term_at};
-    ghost use Rattle.frames_scopes.specs.Frames.{ShownFrame, walk};
+    ghost use Rattle.call_frames.specs.Frames.{ShownFrame};
+    ghost use Rattle.frames_scopes.specs.Frames.{walk};
     ghost use Rattle.frames_scopes.specs.Standings.{CanWalk};
 
     ghost Value = { List ShownFrame };

@@ -1,11 +1,13 @@
 //! The active frames of a machine from the top down, each with its scopes from the innermost one outward. They are lent from
-//! where they are kept: nothing is copied, and walking takes no memory.
+//! where they are kept: nothing is copied, and walking takes no memory. Where they are wanted all at once, `Standing::call_frames`
+//! puts them into a list, which takes memory; their names are lent all the same.
 #![tactic(auto)]
 
 mod cells;
 pub mod frames;
 pub mod laws;
 pub mod lines;
+mod listing;
 pub mod name;
 mod places;
 pub mod scopes;

@@ -1,4 +1,4 @@
-//! The lines of scripts, found once; the one call here that takes memory.
+//! The lines of scripts, found once.
 
 ghost use Rattle.std.specs.Prelude.{◌≡◌, map, IfOk};
 ghost use Rattle.frames_scopes.specs.Places.{lines_of};

@@ -8,6 +8,7 @@ ghost use Rattle.js_world.specs.Cells.{name_text};
 
 use crate::cells::scope_at;
 use crate::name::Name;
+use call_frames::ListedKind;
 use js_heap::cell::ScopeKind;
 use js_heap::value::Addr;
 use js_world::heap::BaseHeap;
@@ -15,23 +16,6 @@ use js_world::names::Names;
 use js_world::stored::FunctionName;
 use js_world::world::World;
 use std::marker::Model;
-
-/// How a scope of a frame is listed.
-#[derive(Clone, Copy, Debug, PartialEq, Eq)]
-pub enum ListedKind {
-    /// A block or a loop.
-    Block,
-    /// A `catch` with a name.
-    Catch,
-    /// The call that the frame is.
-    Local,
-    /// The call of an outer function, or the name of a function expression.
-    Closure,
-    /// The scripts.
-    Script,
-    /// The global scope.
-    Global,
-}
 
 /// A scope of a frame.
 #[derive(Drop)]
@@ -57,7 +41,8 @@ pub struct Scopes<'m> {
 impl<'m> Model for Scopes<'m> {
     ghost use Rattle.std.specs.Prelude.{List};
     ghost use Rattle.js_world.specs.Heaps.{heap_world};
-    ghost use Rattle.frames_scopes.specs.Scopes.{ShownScope, scopes_from};
+    ghost use Rattle.call_frames.specs.Frames.{ShownScope};
+    ghost use Rattle.frames_scopes.specs.Scopes.{scopes_from};
 
     ghost Value = { List ShownScope };
 
