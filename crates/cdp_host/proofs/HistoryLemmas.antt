@@ -7,36 +7,41 @@ use Rattle.js_tree.specs.declared.script.Script.{Script}
 use Rattle.js_semantics.specs.Run.{Run}
 use Rattle.cdp_session.specs.Sessions.{Session, emptied}
 use Rattle.cdp_session.specs.Replies.{answer_of}
+use Rattle.cdp_session.specs.Situations.{Standing}
 use Rattle.cdp_host.specs.Programs.{printed_of}
 use Rattle.cdp_host.specs.Meaning.{Meaning, mapped, begin, is_attached, situation, after_steps}
 use Rattle.cdp_host.specs.Histories.{Entry, Attach, Tell, Take, Detach, Ran, changed, apply, whole, told, with_answer, steps_of}
-use Rattle.cdp_host.specs.Hosts.{HostState, Stands, after, run_with, meaning_with}
+use Rattle.cdp_host.specs.Hosts.{HostState, Stands, after, parts_standing, run_with, meaning_with}
+use Rattle.cdp_host.specs.Standings.{standing_of}
 use Rattle.cdp_host.proofs.ProgramLemmas.{start-prints}
 use Rattle.cdp_host.proofs.RuleLemmas.{changed-program}
 use Rattle.cdp_host.proofs.PartLemmas.{run-printed}
+use Rattle.cdp_host.proofs.StandingLemmas.{standing-taken}
 
 -- a history with one more entry means what that entry makes of it
 pub whole-more : (scripts : List Script) (input : List (List ℕ)) (history : List Entry) (entry : Entry)
     → whole scripts input (history ++ entry ∷ []) ≡ apply scripts (whole scripts input history) entry
 whole-more scripts input history entry = fold-append (apply scripts) (begin scripts input) history (entry ∷ [])
 
--- ---- what an entry does beside making steps doesn't look at the program
+-- ---- what an entry does beside making steps looks at how the program stands alone
 
-told_mapped : {A B : Type 0} (f : A → B) (scripts : List Script) (m : Meaning A) (text : List ℕ) (o : Option Session)
-    → mapped f (option_map_or (λ x. with_answer m (answer_of (situation scripts m) x text)) o m) ≡ option_map_or (λ x. with_answer (mapped f m) (answer_of (situation scripts m) x text)) o (mapped f m)
-told_mapped f scripts m text None = refl
-told_mapped f scripts m text (Some x) = refl
+told_mapped : {A B : Type 0} (f : A → B) (stands : A → Standing) (seen : B → Standing) (scripts : List Script) (m : Meaning A) (text : List ℕ) (o : Option Session) → stands m.program ≡ seen (f m.program)
+    → mapped f (option_map_or (λ x. with_answer m (answer_of (situation stands scripts m) x text)) o m)
+    ≡ option_map_or (λ x. with_answer (mapped f m) (answer_of (situation seen scripts (mapped f m)) x text)) o (mapped f m)
+told_mapped f stands seen scripts m text None same = refl
+told_mapped f stands seen scripts m text (Some x) same = ap (λ d. with_answer (mapped f m) (answer_of (record { scripts = scripts; paused = m.stop; standing = d }) x text)) same
 
 choice_mapped : {A B : Type 0} (f : A → B) (b : Bool) (k m : Meaning A) (n : Meaning B) → mapped f k ≡ n → mapped f (if b then k else m) ≡ (if b then n else mapped f m)
 choice_mapped f true k m n is = is
 choice_mapped f false k m n is = refl
 
-pub changed-mapped : {A B : Type 0} (f : A → B) (scripts : List Script) (m : Meaning A) (entry : Entry) → mapped f (changed scripts m entry) ≡ changed scripts (mapped f m) entry
-changed-mapped f scripts m Attach = refl
-changed-mapped f scripts m (Tell s text) = choice_mapped f (is_attached m s) (told scripts text m) m _ (told_mapped f scripts m text m.session)
-changed-mapped f scripts m (Take s) = choice_mapped f (is_attached m s) (record m { session = option_map emptied m.session }) m _ refl
-changed-mapped f scripts m (Detach s) = choice_mapped f (is_attached m s) (record m { stop = None; session = None }) m _ refl
-changed-mapped f scripts m (Ran n) = refl
+pub changed-mapped : {A B : Type 0} (f : A → B) (stands : A → Standing) (seen : B → Standing) (scripts : List Script) (m : Meaning A) (entry : Entry) → stands m.program ≡ seen (f m.program)
+    → mapped f (changed stands scripts m entry) ≡ changed seen scripts (mapped f m) entry
+changed-mapped f stands seen scripts m Attach same = refl
+changed-mapped f stands seen scripts m (Tell s text) same = choice_mapped f (is_attached m s) (told stands scripts text m) m _ (told_mapped f stands seen scripts m text m.session same)
+changed-mapped f stands seen scripts m (Take s) same = choice_mapped f (is_attached m s) (record m { session = option_map emptied m.session }) m _ refl
+changed-mapped f stands seen scripts m (Detach s) same = choice_mapped f (is_attached m s) (record m { stop = None; session = None }) m _ refl
+changed-mapped f stands seen scripts m (Ran n) same = refl
 
 -- ---- standing for a history
 
@@ -54,17 +59,17 @@ pub stands-more : (scripts : List Script) (input : List (List ℕ)) (old new : H
     → new ≡ after old entry → steps_of entry ≡ 0 → old.broken ≡ false → Stands scripts input old history → Stands scripts input new (history ++ entry ∷ [])
 stands-more scripts input old new history entry is none works stood =
     let m : Meaning Run = whole scripts input history in
-    let one : whole scripts input (history ++ entry ∷ []) ≡ changed scripts m entry = whole-more scripts input history entry ∙ ap (λ k. after_steps scripts k (changed scripts m entry)) none in
+    let one : whole scripts input (history ++ entry ∷ []) ≡ changed (standing_of scripts) scripts m entry = whole-more scripts input history entry ∙ ap (λ k. after_steps scripts k (changed (standing_of scripts) scripts m entry)) none in
     let taken : List (List ℕ) = printed_of m.program in
-    let same : printed_of (whole scripts input (history ++ entry ∷ [])).program ≡ taken = ap (λ k. printed_of k.program) one ∙ ap printed_of (changed-program scripts m entry) in
+    let same : printed_of (whole scripts input (history ++ entry ∷ [])).program ≡ taken = ap (λ k. printed_of k.program) one ∙ ap printed_of (changed-program (standing_of scripts) scripts m entry) in
     record {
       runs = ap (λ h. h.scripts) is ∙ stood.runs;
       means = λ _.
           ap (meaning_with new) same
           ∙ ap (λ h. meaning_with h taken) is
-          ∙ changed-mapped (run_with taken) old.scripts old.meaning entry
-          ∙ ap (λ ss. changed ss (meaning_with old taken) entry) stood.runs
-          ∙ ap (λ k. changed scripts k entry) (stood.means works)
+          ∙ changed-mapped (run_with taken) (parts_standing old.scripts) (standing_of old.scripts) old.scripts old.meaning entry (standing-taken old.scripts old.meaning.program taken)
+          ∙ ap (λ ss. changed (standing_of ss) ss (meaning_with old taken) entry) stood.runs
+          ∙ ap (λ k. changed (standing_of scripts) scripts k entry) (stood.means works)
           ∙ sym one;
       alone = λ fails. let still : new.broken ≡ old.broken = ap (λ h. h.broken) is in cc;
     }

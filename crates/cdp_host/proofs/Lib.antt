@@ -6,6 +6,7 @@ pub mod StateLemmas
 pub mod StepLemmas
 pub mod RunLemmas
 pub mod AdvanceLemmas
+pub mod StandingLemmas
 pub mod StartLemmas
 pub mod RuleLemmas
 pub mod HistoryLemmas

@@ -5,7 +5,10 @@ use Rattle.js_tree.specs.declared.script.Script.{Script}
 use Rattle.js_semantics.specs.Run.{Run}
 use Rattle.stepping.specs.declared.arrival.Arrival.{Arrival}
 use Rattle.cdp_session.specs.declared.situation.Pause.{Pause}
+use Rattle.cdp_session.specs.Sessions.{Session}
+use Rattle.cdp_session.specs.Situations.{Standing}
 use Rattle.cdp_host.specs.Programs.{arrival_of, plain, next, is_over}
+use Rattle.cdp_host.specs.Standings.{standing_of}
 use Rattle.cdp_host.specs.Meaning.{Meaning, at_program, behind, is_paused, step, after_steps, is_ready, is_named, longest, IsLongest}
 use Rattle.cdp_host.specs.Ran.{HasMade}
 use Rattle.cdp_host.specs.Rules.{StopsExactly}
@@ -18,12 +21,12 @@ unpaused None is = refl
 unpaused (Some p) is = absurd cc
 
 -- behind an arrival a program is paused exactly where it stops
-paused-behind : (a : Arrival) (b : Bool) (m : Meaning Run) → is_paused (behind a b m) ≡ b
-paused-behind a true m = refl
-paused-behind a false m = refl
+paused-behind : (scripts : List Script) (d : Standing) (a : Arrival) (b : Bool) (m : Meaning Run) → is_paused (behind scripts d a b m) ≡ b
+paused-behind scripts d a true m = refl
+paused-behind scripts d a false m = refl
 
 pub step-paused : (scripts : List Script) (m : Meaning Run) → is_paused (step scripts m) ≡ is_named scripts m (next scripts m.program)
-step-paused scripts m = paused-behind (arrival_of scripts (next scripts m.program)) (is_named scripts m (next scripts m.program)) (at_program (next scripts m.program) m)
+step-paused scripts m = paused-behind scripts (standing_of scripts (next scripts m.program)) (arrival_of scripts (next scripts m.program)) (is_named scripts m (next scripts m.program)) (at_program (next scripts m.program) m)
 
 -- ---- steps behind others
 
@@ -113,12 +116,12 @@ is-longest scripts most k m is = longest-one scripts most k (longest scripts mos
 -- ---- where a run stops
 
 -- a stop leaves the program as it is
-behind-program : (a : Arrival) (b : Bool) (m : Meaning Run) → (behind a b m).program ≡ m.program
-behind-program a true m = refl
-behind-program a false m = refl
+behind-program : (scripts : List Script) (d : Standing) (a : Arrival) (b : Bool) (m : Meaning Run) → (behind scripts d a b m).program ≡ m.program
+behind-program scripts d a true m = refl
+behind-program scripts d a false m = refl
 
 pub step-program : (scripts : List Script) (m : Meaning Run) → (step scripts m).program ≡ next scripts m.program
-step-program scripts m = behind-program (arrival_of scripts (next scripts m.program)) (is_named scripts m (next scripts m.program)) (at_program (next scripts m.program) m)
+step-program scripts m = behind-program scripts (standing_of scripts (next scripts m.program)) (arrival_of scripts (next scripts m.program)) (is_named scripts m (next scripts m.program)) (at_program (next scripts m.program) m)
 
 -- the program goes its plain way, whatever stops it
 pub after_steps-plain : (n : ℕ) (scripts : List Script) (input : List (List ℕ)) (made : ℕ) (m : Meaning Run) → m.program ≡ plain made scripts input
@@ -128,21 +131,39 @@ after_steps-plain (suc n) scripts input made m is =
     let e : suc made + n ≡ made + suc n = omega arith in
     after_steps-plain n scripts input (suc made) (step scripts m) (step-program scripts m ∙ ap (next scripts) is ∙ plain-next made scripts input) ∙ ap (λ k. plain k scripts input) e
 
--- a step that no session names leaves the session as it was
+-- a step that no session names leaves the session and the count of stops as they were
 step-session : (scripts : List Script) (m : Meaning Run) → is_named scripts m (next scripts m.program) ≡ false → (step scripts m).session ≡ m.session
 step-session scripts m unnamed = rw unnamed refl
+
+step-stops : (scripts : List Script) (m : Meaning Run) → is_named scripts m (next scripts m.program) ≡ false → (step scripts m).stops ≡ m.stops
+step-stops scripts m unnamed = rw unnamed refl
 
 -- a ready program isn't paused
 pub ready-paused : (m : Meaning Run) → is_ready m ≡ true → is_paused m ≡ false
 ready-paused m go = not-true (is_paused m) (and_parts (not (is_paused m)) (not (is_over m.program)) go).0
 
--- while the program is ready, no step was named, so the session is as it was
-pub quiet : (j : ℕ) (scripts : List Script) (m : Meaning Run) (n : ℕ) → ((i : ℕ) → i < n → is_ready (after_steps scripts i m) ≡ true) → j < n → (after_steps scripts j m).session ≡ m.session
-quiet zero scripts m n ready below = refl
-quiet (suc j) scripts m n ready below =
+-- while the program is ready, no step was named, so what such a step leaves as it was is as it was
+unnamed-keep : {X : Type 0} (g : Meaning Run → X) (j : ℕ) (scripts : List Script) (m : Meaning Run) (n : ℕ) → ((k : Meaning Run) → is_named scripts k (next scripts k.program) ≡ false → g (step scripts k) ≡ g k)
+    → ((i : ℕ) → i < n → is_ready (after_steps scripts i m) ≡ true) → j < n → g (after_steps scripts j m) ≡ g m
+unnamed-keep g zero scripts m n keeps ready below = refl
+unnamed-keep g (suc j) scripts m n keeps ready below =
     let now : after_steps scripts (suc j) m ≡ step scripts (after_steps scripts j m) = after_steps-suc j scripts m in
     let unnamed = sym (step-paused scripts (after_steps scripts j m)) ∙ sym (ap is_paused now) ∙ ready-paused (after_steps scripts (suc j) m) (ready (suc j) below) in
-    ap (λ k. k.session) now ∙ step-session scripts (after_steps scripts j m) unnamed ∙ quiet j scripts m n ready (omega arith)
+    ap g now ∙ keeps (after_steps scripts j m) unnamed ∙ unnamed-keep g j scripts m n keeps ready (omega arith)
+
+session_kept : Meaning Run → Option Session
+session_kept k = k.session
+
+stops_kept : Meaning Run → ℕ
+stops_kept k = k.stops
+
+-- so is the session
+pub quiet : (j : ℕ) (scripts : List Script) (m : Meaning Run) (n : ℕ) → ((i : ℕ) → i < n → is_ready (after_steps scripts i m) ≡ true) → j < n → (after_steps scripts j m).session ≡ m.session
+quiet j scripts m n ready below = unnamed-keep session_kept j scripts m n (step-session scripts) ready below
+
+-- and the count of stops
+pub quiet-stops : (j : ℕ) (scripts : List Script) (m : Meaning Run) (n : ℕ) → ((i : ℕ) → i < n → is_ready (after_steps scripts i m) ≡ true) → j < n → (after_steps scripts j m).stops ≡ m.stops
+quiet-stops j scripts m n ready below = unnamed-keep stops_kept j scripts m n (step-stops scripts) ready below
 
 -- where the session is the same, it names the same stops
 same-names : (scripts : List Script) (m n : Meaning Run) (r q : Run) → m.session ≡ n.session → r ≡ q → is_named scripts m r ≡ is_named scripts n q

@@ -14,6 +14,7 @@ use Rattle.cdp_session.specs.Sessions.{Session, emptied}
 use Rattle.cdp_session.specs.Stops.{is_hit_at}
 use Rattle.cdp_session.specs.Replies.{answer_of}
 use Rattle.cdp_host.specs.Programs.{arrival_of, plain, next}
+use Rattle.cdp_host.specs.Standings.{standing_of}
 use Rattle.cdp_host.specs.Meaning.{Meaning, at_program, begin, behind, is_attached, is_named, names, situation, step, after_steps}
 use Rattle.cdp_host.specs.Histories.{Entry, Attach, Tell, Take, Detach, Ran, apply, changed, lets_go, steps_of, told, whole, with_answer}
 use Rattle.cdp_host.specs.Rules.{IsPausedThere, StepsAlone, StopsAtFirst, StopsExactly, ends_step}
@@ -48,7 +49,7 @@ steps-stop scripts input made n m x kind depth stops is alone = record {
 
 -- ---- the depth of a pause
 
-behind_paused : (scripts : List Script) (r : Run) (b : Bool) (m : Meaning Run) → IsPausedThere scripts (behind (arrival_of scripts r) b (at_program r m))
+behind_paused : (scripts : List Script) (r : Run) (b : Bool) (m : Meaning Run) → IsPausedThere scripts (behind scripts (standing_of scripts r) (arrival_of scripts r) b (at_program r m))
 behind_paused scripts r true m p is = ap (λ o. option_map_or (λ q. q.depth) o 0) (sym is)
 behind_paused scripts r false m p is = absurd cc
 
@@ -61,17 +62,17 @@ answer_paused scripts m true p there is = absurd cc
 answer_paused scripts m false p there is = there p is
 
 told_paused : (scripts : List Script) (m : Meaning Run) (text : List ℕ) (o : Option Session) → IsPausedThere scripts m
-    → IsPausedThere scripts (option_map_or (λ x. with_answer m (answer_of (situation scripts m) x text)) o m)
+    → IsPausedThere scripts (option_map_or (λ x. with_answer m (answer_of (situation (standing_of scripts) scripts m) x text)) o m)
 told_paused scripts m text None there = there
-told_paused scripts m text (Some x) there = λ p is. answer_paused scripts m (lets_go m.stop (answer_of (situation scripts m) x text)) p there is
+told_paused scripts m text (Some x) there = λ p is. answer_paused scripts m (lets_go m.stop (answer_of (situation (standing_of scripts) scripts m) x text)) p there is
 
 choice_paused : (scripts : List Script) (b : Bool) (k m : Meaning Run) → IsPausedThere scripts k → IsPausedThere scripts m → IsPausedThere scripts (if b then k else m)
 choice_paused scripts true k m new old = new
 choice_paused scripts false k m new old = old
 
-changed_paused : (scripts : List Script) (m : Meaning Run) (entry : Entry) → IsPausedThere scripts m → IsPausedThere scripts (changed scripts m entry)
+changed_paused : (scripts : List Script) (m : Meaning Run) (entry : Entry) → IsPausedThere scripts m → IsPausedThere scripts (changed (standing_of scripts) scripts m entry)
 changed_paused scripts m Attach there = there
-changed_paused scripts m (Tell s text) there = choice_paused scripts (is_attached m s) (told scripts text m) m (told_paused scripts m text m.session there) there
+changed_paused scripts m (Tell s text) there = choice_paused scripts (is_attached m s) (told (standing_of scripts) scripts text m) m (told_paused scripts m text m.session there) there
 changed_paused scripts m (Take s) there = choice_paused scripts (is_attached m s) (record m { session = option_map emptied m.session }) m there there
 changed_paused scripts m (Detach s) there = choice_paused scripts (is_attached m s) (record m { stop = None; session = None }) m (λ p is. absurd cc) there
 changed_paused scripts m (Ran n) there = there
@@ -79,7 +80,7 @@ changed_paused scripts m (Ran n) there = there
 fold_paused : (history : List Entry) (scripts : List Script) (m : Meaning Run) → IsPausedThere scripts m → IsPausedThere scripts (fold (apply scripts) m history)
 fold_paused [] scripts m there = there
 fold_paused (entry ∷ history) scripts m there =
-    fold_paused history scripts (apply scripts m entry) (steps_paused (steps_of entry) scripts (changed scripts m entry) (changed_paused scripts m entry there))
+    fold_paused history scripts (apply scripts m entry) (steps_paused (steps_of entry) scripts (changed (standing_of scripts) scripts m entry) (changed_paused scripts m entry there))
 
 -- behind any history
 pub whole-paused : (scripts : List Script) (input : List (List ℕ)) (history : List Entry) → IsPausedThere scripts (whole scripts input history)

@@ -8,9 +8,11 @@ use Rattle.cdp_session.specs.declared.asks.Asks.TheVariants.{Nothing, Resume, Le
 use Rattle.cdp_session.specs.declared.situation.Pause.{Pause}
 use Rattle.cdp_session.specs.Sessions.{Session, fresh, emptied, if_enabled}
 use Rattle.cdp_session.specs.Results.{resumed_text}
+use Rattle.cdp_session.specs.Situations.{Standing}
 use Rattle.cdp_session.specs.Stops.{resumed}
 use Rattle.cdp_session.specs.Replies.{Answer, answer_of, answer_texts, outcome_of}
 use Rattle.cdp_host.specs.Meaning.{Meaning, begin, is_attached, situation, after_steps}
+use Rattle.cdp_host.specs.Standings.{standing_of}
 
 -- what may befall a host
 pub data Entry : Type 0 where
@@ -45,17 +47,17 @@ stop_told stop answer = if lets_go stop answer then None else stop
 abbrev pub with_answer : {A : Type 0} → Meaning A → Answer → Meaning A
 with_answer m answer = record m { stop = stop_told m.stop answer; session = Some (session_told m.stop answer) }
 
--- a command of the session that is attached
-abbrev pub told : {A : Type 0} → List Script → List ℕ → Meaning A → Meaning A
-told scripts text m = option_map_or (λ x. with_answer m (answer_of (situation scripts m) x text)) m.session m
+-- a command of the session that is attached, where this is how programs stand
+abbrev pub told : {A : Type 0} → (A → Standing) → List Script → List ℕ → Meaning A → Meaning A
+told stands scripts text m = option_map_or (λ x. with_answer m (answer_of (situation stands scripts m) x text)) m.session m
 
 -- an entry of a session that isn't attached changes nothing; without a session that has the debugger enabled a paused program goes on
-abbrev pub changed : {A : Type 0} → List Script → Meaning A → Entry → Meaning A
-changed scripts m Attach = record m { attached = m.attached + 1; session = Some fresh }
-changed scripts m (Tell s text) = if is_attached m s then told scripts text m else m
-changed scripts m (Take s) = if is_attached m s then record m { session = option_map emptied m.session } else m
-changed scripts m (Detach s) = if is_attached m s then record m { stop = None; session = None } else m
-changed scripts m (Ran n) = m
+abbrev pub changed : {A : Type 0} → (A → Standing) → List Script → Meaning A → Entry → Meaning A
+changed stands scripts m Attach = record m { attached = m.attached + 1; session = Some (fresh (m.attached + 1)) }
+changed stands scripts m (Tell s text) = if is_attached m s then told stands scripts text m else m
+changed stands scripts m (Take s) = if is_attached m s then record m { session = option_map emptied m.session } else m
+changed stands scripts m (Detach s) = if is_attached m s then record m { stop = None; session = None } else m
+changed stands scripts m (Ran n) = m
 
 -- ---- the texts of a command
 
@@ -65,10 +67,10 @@ resume_texts true x = if_enabled x resumed_text
 resume_texts false x = []
 
 -- the answer to a command, and the event where the program goes on
-abbrev pub told_texts : {A : Type 0} → List Script → List ℕ → Meaning A → Session → List (List ℕ)
-told_texts scripts text m x =
-    answer_texts (outcome_of (situation scripts m) x text)
-    ++ resume_texts (lets_go m.stop (answer_of (situation scripts m) x text)) (answer_of (situation scripts m) x text).session
+abbrev pub told_texts : {A : Type 0} → (A → Standing) → List Script → List ℕ → Meaning A → Session → List (List ℕ)
+told_texts stands scripts text m x =
+    answer_texts (outcome_of (situation stands scripts m) x text)
+    ++ resume_texts (lets_go m.stop (answer_of (situation stands scripts m) x text)) (answer_of (situation stands scripts m) x text).session
 
 -- ---- histories
 
@@ -82,7 +84,7 @@ steps_of (Ran n) = n
 
 -- one entry after another
 abbrev pub apply : List Script → Meaning Run → Entry → Meaning Run
-apply scripts m entry = after_steps scripts (steps_of entry) (changed scripts m entry)
+apply scripts m entry = after_steps scripts (steps_of entry) (changed (standing_of scripts) scripts m entry)
 
 -- what a whole history means, from the beginning of the scripts with their input
 abbrev pub whole : List Script → List (List ℕ) → List Entry → Meaning Run

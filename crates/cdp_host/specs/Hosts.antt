@@ -13,10 +13,12 @@ use Rattle.locations.specs.Locations.{break_locations}
 use Rattle.stepping.specs.declared.arrival.Arrival.{Arrival}
 use Rattle.cdp_session.specs.declared.situation.Pause.{Pause}
 use Rattle.cdp_session.specs.Sessions.{Session}
+use Rattle.cdp_session.specs.Situations.{Situation, Standing}
 use Rattle.cdp_session.specs.Stops.{stopped}
 use Rattle.cdp_host.specs.Arrivals.{place_at, is_uncaught, starts_of, IsShort}
 use Rattle.cdp_host.specs.Programs.{code_of, printed_of}
 use Rattle.cdp_host.specs.Meaning.{Meaning, mapped, names, next_number}
+use Rattle.cdp_host.specs.Standings.{standing_of}
 use Rattle.cdp_host.specs.Histories.{Entry, changed, whole}
 use Rattle.cdp_host.specs.States.{state_of}
 use Rattle.cdp_host.specs.declared.state.State.{State}
@@ -43,6 +45,13 @@ machine_arrival scripts m = record {
   raised = option_map is_uncaught (until_end m.ended (thrown (term_of m)));
 }
 
+-- how a program stands that a host keeps; the texts that were handed out don't show
+abbrev pub machine_standing : List Script → Machine → Heap → Standing
+machine_standing scripts m h = standing_of scripts (machine_run m h [])
+
+abbrev pub parts_standing : List Script → Parts → Standing
+parts_standing scripts p = machine_standing scripts p.machine p.heap
+
 -- what a machine and its heap mean together with these
 abbrev pub meant : Machine → Heap → Option Pause → ℕ → ℕ → Option Session → List (List ℕ) → Meaning Run
 meant m h stop stops attached session taken = record { program = machine_run m h taken; stop = stop; stops = stops; attached = attached; session = session }
@@ -60,9 +69,9 @@ stops_from stops (Some depth) = next_number stops
 abbrev pub depth_of : Arrival → Option Session → Option ℕ
 depth_of a o = if names a o then Some a.depth else None
 
--- what a session is behind that
-abbrev pub session_behind : Arrival → Option Session → Option Session
-session_behind a o = if names a o then option_map (stopped a) o else o
+-- what a session is behind that, where it sees the program so and the stop has this number
+abbrev pub session_behind : Situation → ℕ → Arrival → Option Session → Option Session
+session_behind s number a o = if names a o then option_map (stopped s number a) o else o
 
 -- the numbers are where the lines of scripts begin whose positions are of 32 bits
 pub record AreLines (scripts : List Script) (lines : List (List ℕ)) : Type 0 where
@@ -85,7 +94,7 @@ state_at host taken = if host.broken then Broken else state_of (meaning_with hos
 
 -- a host with one more entry that makes no steps
 abbrev pub after : HostState → Entry → HostState
-after host entry = record host { meaning = changed host.scripts host.meaning entry }
+after host entry = record host { meaning = changed (parts_standing host.scripts) host.scripts host.meaning entry }
 
 -- A host stands for a history of its scripts with this input, whose runs have handed out all that they printed; a broken one
 -- for each history that leaves no session.

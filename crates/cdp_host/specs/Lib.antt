@@ -1,6 +1,7 @@
 pub mod Arrivals
 pub mod Programs
 pub mod Places
+pub mod Standings
 pub mod Meaning
 pub mod Histories
 pub mod States

@@ -5,10 +5,11 @@ use Rattle.js_tree.specs.declared.script.Script.{Script}
 use Rattle.js_semantics.specs.Run.{Run}
 use Rattle.stepping.specs.declared.arrival.Arrival.{Arrival}
 use Rattle.cdp_session.specs.declared.situation.Pause.{Pause}
-use Rattle.cdp_session.specs.Situations.{Situation}
+use Rattle.cdp_session.specs.Situations.{Situation, Standing}
 use Rattle.cdp_session.specs.Sessions.{Session}
 use Rattle.cdp_session.specs.Stops.{cause_of, stopped}
 use Rattle.cdp_host.specs.Programs.{start, next, arrival_of, is_over}
+use Rattle.cdp_host.specs.Standings.{standing_of}
 
 -- A program of some type; where it is paused, if it is, and how many stops there were; how many sessions were attached so far, and the last
 -- of them while it is attached.
@@ -35,9 +36,9 @@ is_attached m s = is_some m.session && (s == m.attached)
 abbrev pub is_paused : {A : Type 0} → Meaning A → Bool
 is_paused m = is_some m.stop
 
--- what a command sees of it
-abbrev pub situation : {A : Type 0} → List Script → Meaning A → Situation
-situation scripts m = record { scripts = scripts; paused = m.stop }
+-- what a command sees of it, where this is how programs stand
+abbrev pub situation : {A : Type 0} → (A → Standing) → List Script → Meaning A → Situation
+situation stands scripts m = record { scripts = scripts; paused = m.stop; standing = stands m.program }
 
 -- ---- stops
 
@@ -53,14 +54,18 @@ names a o = option_map_or (λ x. is_some (cause_of a x)) o false
 abbrev pub is_named : {A : Type 0} → List Script → Meaning A → Run → Bool
 is_named scripts m r = names (arrival_of scripts r) m.session
 
--- behind a step that leads to this arrival: whether it stops there
-abbrev pub behind : {A : Type 0} → Arrival → Bool → Meaning A → Meaning A
-behind a true m = record m {
+-- what a session sees of a program that stands so and stops there
+abbrev pub stopping : List Script → Standing → Situation
+stopping scripts standing = record { scripts = scripts; paused = None; standing = standing }
+
+-- behind a step that leads to this arrival: whether it stops there, and how the program stands
+abbrev pub behind : {A : Type 0} → List Script → Standing → Arrival → Bool → Meaning A → Meaning A
+behind scripts standing a true m = record m {
   stop = Some (record { number = next_number m.stops; depth = a.depth });
   stops = next_number m.stops;
-  session = option_map (stopped a) m.session;
+  session = option_map (stopped (stopping scripts standing) (next_number m.stops) a) m.session;
 }
-behind a false m = record m { stop = None }
+behind scripts standing a false m = record m { stop = None }
 
 -- ---- steps
 
@@ -70,7 +75,7 @@ at_program r m = record { program = r; stop = m.stop; stops = m.stops; attached 
 
 -- one step of the program, which stops exactly where a session names it
 abbrev pub step : List Script → Meaning Run → Meaning Run
-step scripts m = behind (arrival_of scripts (next scripts m.program)) (is_named scripts m (next scripts m.program)) (at_program (next scripts m.program) m)
+step scripts m = behind scripts (standing_of scripts (next scripts m.program)) (arrival_of scripts (next scripts m.program)) (is_named scripts m (next scripts m.program)) (at_program (next scripts m.program) m)
 
 -- that many steps
 abbrev pub after_steps : List Script → ℕ → Meaning Run → Meaning Run

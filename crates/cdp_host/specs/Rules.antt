@@ -14,7 +14,8 @@ use Rattle.cdp_session.specs.declared.situation.Pause.{Pause}
 use Rattle.cdp_session.specs.Sessions.{Session}
 use Rattle.cdp_session.specs.Stops.{stop_texts}
 use Rattle.cdp_host.specs.Programs.{arrival_of, plain, printed_of, is_over}
-use Rattle.cdp_host.specs.Meaning.{Meaning, after_steps, is_attached, is_named, is_paused, longest}
+use Rattle.cdp_host.specs.Meaning.{Meaning, after_steps, is_attached, is_named, is_paused, longest, next_number, stopping}
+use Rattle.cdp_host.specs.Standings.{standing_of}
 use Rattle.cdp_host.specs.States.{outbox_of}
 use Rattle.cdp_host.specs.Histories.{Entry, Attach, Tell, Take, Detach, Ran, apply, steps_of, told_texts}
 
@@ -76,11 +77,11 @@ IsPausedThere scripts m = (p : Pause) → m.stop ≡ Some p → p.depth ≡ (arr
 
 -- the texts of the answer to a command of the session that is attached, and of the resume that it asks for
 abbrev pub tell_texts : List Script → Meaning Run → List ℕ → List (List ℕ)
-tell_texts scripts m text = option_map_or (told_texts scripts text m) m.session []
+tell_texts scripts m text = option_map_or (told_texts (standing_of scripts) scripts text m) m.session []
 
--- the event of a stop, for the session that is attached
-abbrev pub stops_texts : Arrival → Option Session → List (List ℕ)
-stops_texts a o = option_map_or (stop_texts a) o []
+-- the event of the stop of this number, where the program stands so, for the session that is attached
+abbrev pub stops_texts : List Script → Run → ℕ → Option Session → List (List ℕ)
+stops_texts scripts r number o = option_map_or (stop_texts (stopping scripts (standing_of scripts r)) number (arrival_of scripts r)) o []
 
 -- the texts that an entry makes for the session: the answers to its commands, and the event of a stop
 abbrev pub texts_at : List Script → List (List ℕ) → ℕ → Meaning Run → Entry → List (List ℕ)
@@ -88,7 +89,7 @@ texts_at scripts input made m Attach = []
 texts_at scripts input made m (Tell s text) = if is_attached m s then tell_texts scripts m text else []
 texts_at scripts input made m (Take s) = []
 texts_at scripts input made m (Detach s) = []
-texts_at scripts input made m (Ran n) = if nat_lt 0 n && is_named scripts m (plain (made + n) scripts input) then stops_texts (arrival_of scripts (plain (made + n) scripts input)) m.session else []
+texts_at scripts input made m (Ran n) = if nat_lt 0 n && is_named scripts m (plain (made + n) scripts input) then stops_texts scripts (plain (made + n) scripts input) (next_number m.stops) m.session else []
 
 -- the texts that a history makes, in order
 abbrev pub texts_of : List Script → List (List ℕ) → ℕ → Meaning Run → List Entry → List (List ℕ)

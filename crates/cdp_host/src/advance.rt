@@ -8,10 +8,16 @@ ghost use Rattle.cdp_host.specs.Arrivals.{arrival_at};
 ghost use Rattle.cdp_host.specs.Hosts.{depth_of, machine_arrival, machine_run, meant, pause_from, session_behind, stops_from, AreLines};
 ghost use Rattle.cdp_host.specs.Meaning.{names};
 ghost use Rattle.cdp_host.specs.Programs.{code_of, is_over};
+ghost use Rattle.cdp_session.specs.Situations.{seen};
 ghost use Rattle.cdp_host.specs.Ran.{Advances, HasMade, IsStretch};
 
 use crate::arrival::{arrival_at, arrival_of};
+use crate::debuggee::Debuggee;
+use crate::stops::next_number;
+use breakpoints::script_spots::ScriptSpots;
+use cdp_session::program::Program;
 use cdp_session::session::Session;
+use cdp_session::situation::Situation;
 use cdp_text::line_table::LineTable;
 use cdp_text::units::Units;
 use js_code::table::NodeTable;
@@ -188,27 +194,32 @@ fn make_steps_and_print(
 }
 
 /// Stops the program where the session names a stop behind the step that led to this arrival; answers the depth at which it
-/// did.
+/// did. The stop has this number.
 ///
 /// # Errors
 ///
 /// There is no memory for the text that tells it.
-fn stop_at(arrival: &Arrival, session: &mut Option<Session>) -> Result<Option<usize>, AllocError>
+fn stop_at<P: Program>(
+    situation: &Situation<'_, P>,
+    number: u64,
+    arrival: &Arrival,
+    session: &mut Option<Session>,
+) -> Result<Option<usize>, AllocError>
     ensures stopped { IfOk result (λ depth. depth ≡ depth_of arrival.now session.old) }
-    ensures session { OnOk result (session.new ≡ session_behind arrival.now session.old) }
+    ensures session { OnOk result (session.new ≡ session_behind (seen P.standing situation.now) number arrival.now session.old) }
 {
     if !names(session, arrival) {
         return Ok(None);
     }
     if let Some(mut stopped) = session.take() {
-        stopped.stopped(arrival)?;
+        stopped.stopped(situation, number, arrival)?;
         *session = Some(stopped);
     }
     Ok(Some(arrival.depth))
 }
 
 /// Makes steps of a program that isn't paused, at least one, until it stops, raises, prints or ends, or until so many are made;
-/// what it prints comes behind the other texts.
+/// what it prints comes behind the other texts. There were so many stops before.
 ///
 /// # Errors
 ///
@@ -218,6 +229,8 @@ pub(crate) fn advance(
     heap: &mut BaseHeap,
     scripts: &[Script],
     lines: &[LineTable],
+    spots: &ScriptSpots,
+    stops: u64,
     session: &mut Option<Session>,
     most: u64,
     printed: &mut Vec<Units>,
@@ -227,7 +240,7 @@ pub(crate) fn advance(
     requires code { program_of machine.old ≡ code_of scripts.now }
     requires lines { AreLines scripts.now lines.now }
     requires some { 0 < most }
-    ensures made { IfOk result (λ a. (taken : List (List ℕ)) (stops attached : ℕ) → HasMade scripts.now (meant machine.old heap.old None stops attached session.old (taken ++ printed.old.items)) (meant machine.new heap.new (pause_from stops a.stopped) (stops_from stops a.stopped) attached session.new (taken ++ printed.new.items)) a.steps) }
+    ensures made { IfOk result (λ a. (taken : List (List ℕ)) (attached : ℕ) → HasMade scripts.now (meant machine.old heap.old None stops attached session.old (taken ++ printed.old.items)) (meant machine.new heap.new (pause_from stops a.stopped) (stops_from stops a.stopped) attached session.new (taken ++ printed.new.items)) a.steps) }
     ensures counts { IfOk result (λ a. IsStretch most a.steps) }
     ensures kept { OnOk result (IsKept machine.new.ended) }
     ensures handed { OnOk result (machine.new.context.printed ≡ []) }
@@ -235,6 +248,18 @@ pub(crate) fn advance(
 {
     let steps = make_steps_and_print(machine, heap, scripts, lines, session, most, printed)?;
     let arrival = arrival_of(machine, scripts, lines);
-    let stopped = stop_at(&arrival, session)?;
+    let program = Debuggee {
+        machine,
+        heap,
+        scripts,
+        lines,
+    };
+    let situation = Situation {
+        scripts,
+        spots,
+        paused: None,
+        program: &program,
+    };
+    let stopped = stop_at(&situation, next_number(stops), &arrival, session)?;
     Ok(Advanced { steps, stopped })
 }

@@ -8,16 +8,18 @@ ghost use Rattle.cdp_json.specs.declared.refusal.Refusal.{Refusal};
 ghost use Rattle.cdp_session.specs.Replies.{outcome_of, IsRefused};
 ghost use Rattle.cdp_session.specs.Sessions.{Session as Kept, sent};
 ghost use Rattle.cdp_host.specs.Programs.{plain, is_over, has_thrown};
-ghost use Rattle.cdp_host.specs.Meaning.{begin, is_attached, is_paused, is_ready, next_number, situation, after_steps, longest, IsLongest};
+ghost use Rattle.cdp_host.specs.Meaning.{begin, is_attached, is_paused, is_ready, situation, after_steps, longest, IsLongest};
 ghost use Rattle.cdp_host.specs.Histories.{Entry, Attach, Tell, Take, Detach, Ran as RanEntry};
-ghost use Rattle.cdp_host.specs.Hosts.{Stands, after, meaning_with, pause_from, state_at, stops_from};
+ghost use Rattle.cdp_host.specs.Hosts.{Stands, after, meaning_with, parts_standing, pause_from, state_at, stops_from};
 ghost use Rattle.cdp_host.specs.Ran.{HasMade, IsStretch};
 ghost use Rattle.cdp_host.specs.Rules.{StopsAtFirst, StopsExactly, StepsAlone, printed_in};
 ghost use Rattle.cdp_host.specs.States.{outbox_of};
 
 use crate::advance::{Advanced, advance};
+use crate::debuggee::Debuggee;
 use crate::lines::lines_of_all;
 use crate::state::State;
+use crate::stops::{pause_from, stops_from};
 use crate::telling::tell_session;
 use breakpoints::script_spots::ScriptSpots;
 use cdp_session::session::Session;
@@ -64,43 +66,6 @@ impl Model for Host {
     } };
 
     ghost invariant = { λ a. IsSound a.scripts.items a.lines.items a.spots a.machine a.broken a.session };
-}
-
-/// The greatest number of a stop.
-const GREATEST_STOP: u64 = 1 << 62;
-
-/// The number of the stop behind so many.
-fn next_number(stops: u64) -> u64
-    ensures { result ≡ next_number stops }
-{
-    if stops < GREATEST_STOP {
-        stops + 1
-    } else {
-        stops
-    }
-}
-
-/// The pause behind so many stops, where the program stopped at this depth, if it did.
-fn pause_from(stops: u64, stopped: Option<usize>) -> Option<Pause>
-    ensures { result ≡ pause_from stops stopped }
-{
-    match stopped {
-        Some(depth) => Some(Pause {
-            number: next_number(stops),
-            depth,
-        }),
-        None => None,
-    }
-}
-
-/// How many stops there are behind so many, where the program stopped at this depth, if it did.
-fn stops_from(stops: u64, stopped: Option<usize>) -> u64
-    ensures { result ≡ stops_from stops stopped }
-{
-    match stopped {
-        Some(_) => next_number(stops),
-        None => stops,
-    }
 }
 
 /// What a run did.
@@ -173,7 +138,7 @@ impl Host {
             return Err(AllocError);
         }
         self.attached = 1;
-        self.session = Some(Session::new(self.alloc));
+        self.session = Some(Session::new(self.alloc, self.attached));
         Ok(1)
     }
 
@@ -242,7 +207,7 @@ impl Host {
         ensures memory { result ≡ Told.Memory → self.new ≡ after self.old (Detach s) }
         // a refused command changes only the texts that wait
         ensures refused { result ≡ Told.Kept → (x : Kept) (id : Option ℕ) (refusal : Refusal) → self.old.meaning.session ≡ Some x
-            → outcome_of (situation self.old.scripts self.old.meaning) x text.now ≡ IsRefused id refusal
+            → outcome_of (situation (parts_standing self.old.scripts) self.old.scripts self.old.meaning) x text.now ≡ IsRefused id refusal
             → self.new.meaning ≡ record self.old.meaning { session = Some (sent (refusal_text id refusal ∷ []) x) } }
         ensures stands_kept { result ≡ Told.Kept → (scripts : List AnyScript) (input : List (List ℕ)) (history : List Entry) → Stands scripts input self.old history
             → Stands scripts input self.new (history ++ Tell s text.now ∷ []) }
@@ -252,10 +217,17 @@ impl Host {
         let Some(mut session) = self.session.take() else {
             return Told::Kept;
         };
+        let program = Debuggee {
+            machine: &self.machine,
+            heap: &self.heap,
+            scripts: self.scripts.as_slice(),
+            lines: self.lines.as_slice(),
+        };
         let situation = Situation {
             scripts: self.scripts.as_slice(),
             spots: &self.spots,
             paused: self.stop,
+            program: &program,
         };
         match tell_session(&mut session, &situation, text) {
             Ok(stop) => {
@@ -329,6 +301,8 @@ impl Host {
             &mut self.heap,
             self.scripts.as_slice(),
             self.lines.as_slice(),
+            &self.spots,
+            self.stops,
             &mut self.session,
             most,
             printed,

@@ -3,8 +3,10 @@
 
 mod advance;
 mod arrival;
+mod debuggee;
 pub mod host;
 pub mod laws;
 mod lines;
 pub mod state;
+mod stops;
 mod telling;

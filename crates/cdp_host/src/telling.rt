@@ -6,6 +6,7 @@ ghost use Rattle.cdp_session.specs.Situations.{HasSpots, seen};
 ghost use Rattle.cdp_host.specs.Histories.{goes_on, session_told, stop_told};
 
 use cdp_session::asks::Asks;
+use cdp_session::program::Program;
 use cdp_session::session::Session;
 use cdp_session::situation::{Pause, Situation};
 use std::alloc::AllocError;
@@ -26,14 +27,14 @@ fn goes_on(asks: Asks) -> bool
 /// # Errors
 ///
 /// There is no memory for a text. The session is to be dropped.
-pub(crate) fn tell_session(
+pub(crate) fn tell_session<P: Program>(
     session: &mut Session,
-    situation: &Situation<'_>,
+    situation: &Situation<'_, P>,
     text: &str,
 ) -> Result<Option<Pause>, AllocError>
     requires { HasSpots situation.now }
-    ensures session { OnOk result (session.new ≡ session_told situation.now.paused (answer_of (seen situation.now) session.old text.now)) }
-    ensures stop { IfOk result (λ stop. stop ≡ stop_told situation.now.paused (answer_of (seen situation.now) session.old text.now)) }
+    ensures session { OnOk result (session.new ≡ session_told situation.now.paused (answer_of (seen P.standing situation.now) session.old text.now)) }
+    ensures stop { IfOk result (λ stop. stop ≡ stop_told situation.now.paused (answer_of (seen P.standing situation.now) session.old text.now)) }
 {
     let asks = session.tell(situation, text)?;
     if situation.paused.is_some() && goes_on(asks) {

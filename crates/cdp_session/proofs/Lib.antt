@@ -1,2 +1,4 @@
 pub mod OrderedLemmas
 pub mod OutboxLemmas
+pub mod PauseLemmas
+pub mod ObjectLemmas

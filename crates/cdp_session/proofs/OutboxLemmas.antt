@@ -13,10 +13,12 @@ use Rattle.cdp_json.specs.Commands.{reading_of}
 use Rattle.serde_json.specs.Read.{read}
 use Rattle.breakpoints.specs.declared.fault.AddFault.{AddFault}
 use Rattle.stepping.specs.declared.rules.StepKind.{StepKind}
+use Rattle.object_groups.specs.declared.handle.Handle.{Handle}
+use Rattle.cdp_session.specs.Objects.{handle_of}
 use Rattle.cdp_session.specs.declared.situation.Pause.{Pause}
 use Rattle.cdp_session.specs.Situations.{Situation, script_of}
 use Rattle.cdp_session.specs.Sessions.{Session, with_rules}
-use Rattle.cdp_session.specs.Rows.{Row, Refuses, Does, does, row, step_from, in_script, continue_at, adds, adds_at}
+use Rattle.cdp_session.specs.Rows.{Row, Refuses, Does, does, row, step_from, in_script, continue_at, adds, adds_at, properties_of, releases}
 use Rattle.cdp_session.specs.Replies.{IsDone, refusal_of, comes_to, outcome_by, outcome_for, outcome_of, answer_by, answer_texts, answer_of}
 
 -- the session that a row leaves has the texts that waited
@@ -48,6 +50,14 @@ pause_keeps : (o : Option Pause) (x : Session) → KeepsOutbox (does (if is_some
 pause_keeps None x = refl
 pause_keeps (Some at) x = refl
 
+properties_keep : (s : Situation) (x : Session) (o : Option Handle) → KeepsOutbox (properties_of s x o) x
+properties_keep s x None = tt
+properties_keep s x (Some h) = refl
+
+release_keeps : (x : Session) (o : Option Handle) → KeepsOutbox (releases x o) x
+release_keeps x None = tt
+release_keeps x (Some h) = refl
+
 row_keeps : (s : Situation) (x : Session) (ps : Params) → KeepsOutbox (row s x ps) x
 row_keeps s x params.DebuggerEnable = refl
 row_keeps s x params.DebuggerDisable = refl
@@ -66,6 +76,9 @@ row_keeps s x (params.SetPauseOnExceptions state) = refl
 row_keeps s x params.SetAsyncCallStackDepth = refl
 row_keeps s x (params.GetPossibleBreakpoints start end) = script_keeps (script_of start.script_id s.scripts) start.script_id _ x (λ script. refl)
 row_keeps s x (params.GetScriptSource id) = script_keeps (script_of id s.scripts) id _ x (λ script. refl)
+row_keeps s x (params.GetProperties id) = properties_keep s x (handle_of x id)
+row_keeps s x (params.ReleaseObject id) = release_keeps x (handle_of x id)
+row_keeps s x (params.ReleaseObjectGroup group) = refl
 
 -- ---- answers
 

@@ -10,14 +10,24 @@ use Rattle.remote_objects.specs.CallFrames.{backtrace, frames_made}
 use Rattle.remote_objects.specs.Making.{Made}
 use Rattle.remote_objects.specs.Remote.{remote}
 use Rattle.remote_objects.specs.Sights.{Sight}
+use Rattle.remote_objects.specs.Views as views
+use Rattle.remote_objects.specs.declared.describer.Describer.{Describer}
+use Rattle.js_world.specs.Heaps.{Heap, heap_world}
 use Rattle.cdp_session.specs.Results.{paused_text}
 use Rattle.cdp_session.specs.Sessions.{Session}
 use Rattle.cdp_session.specs.Situations.{Situation}
 use Rattle.cdp_session.specs.declared.situation.Pause.{Pause}
 
 -- what the values of the program are described to a session by
+abbrev pub sight_for : Situation → ℕ → Sight
+sight_for s number = record { world = s.standing.world; scripts = s.scripts; session = number }
+
+-- the same as it is lent
+abbrev pub described_by : Describer Heap → Sight
+described_by d = views.sight_of (heap_world d.names.now d.world.now) d.scripts.now d.session
+
 abbrev pub sight_of : Situation → Session → Sight
-sight_of s x = record { world = s.standing.world; scripts = s.scripts; session = x.number }
+sight_of s x = sight_for s x.number
 
 -- why the program stopped, as its session is told
 abbrev pub reason_of : Option Cause → List ℕ

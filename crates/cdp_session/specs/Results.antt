@@ -64,11 +64,11 @@ properties values = object_of ((codes "result", list_of values) ∷ [])
 -- The program stopped: its frames from the top one outward, the value that was thrown, where the session is told of one, the ids
 -- of the breakpoints that it hit, and why.
 abbrev pub paused_params : List Json → List Pair → List (List ℕ) → List ℕ → Json
-paused_params frames data hits reason =
-    object_of ((codes "callFrames", list_of frames) ∷ (data ++ ((codes "hitBreakpoints", list_of (map text hits)) ∷ (codes "reason", text reason) ∷ [])))
+paused_params frames thrown hits reason =
+    object_of ((codes "callFrames", list_of frames) ∷ (thrown ++ ((codes "hitBreakpoints", list_of (map text hits)) ∷ (codes "reason", text reason) ∷ [])))
 
 abbrev pub paused_text : List Json → List Pair → List (List ℕ) → List ℕ → List ℕ
-paused_text frames data hits reason = event_text (codes "Debugger.paused") (paused_params frames data hits reason)
+paused_text frames thrown hits reason = event_text (codes "Debugger.paused") (paused_params frames thrown hits reason)
 
 -- the program went on
 abbrev pub resumed_text : List ℕ

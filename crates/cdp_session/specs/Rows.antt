@@ -1,5 +1,5 @@
 -- What each method does to its session, and what it answers (Chrome DevTools Protocol 1.3).
-use Rattle.std.specs.Prelude.{ℕ, List, [], Bool, true, filter, is_some, if◌then◌else◌, Option, Some, None}
+use Rattle.std.specs.Prelude.{ℕ, List, [], ◌∷◌, Bool, true, filter, is_some, if◌then◌else◌, Option, Some, None}
 use Rattle.cdp_text.specs.declared.position.Pos.{Pos}
 use Rattle.cdp_text.specs.declared.position.Place.{Place}
 use Rattle.js_tree.specs.declared.script.Script.{Script}
@@ -24,7 +24,8 @@ use Rattle.breakpoints.specs.Resolving.{resolved_at, resolved_by_url, resolved_i
 use Rattle.breakpoints.specs.declared.fault.AddFault.{AddFault}
 use Rattle.breakpoints.specs.declared.fault.AddFault.TheVariants as faults
 use Rattle.cdp_session.specs.Situations.{Situation, script_of}
-use Rattle.object_groups.specs.Handles.{without, without_group}
+use Rattle.object_groups.specs.Handles as handles
+use Rattle.object_groups.specs.Handles.{without_group}
 use Rattle.object_groups.specs.declared.handle.Handle.{Handle}
 use Rattle.cdp_json.specs.Parts.{nothing}
 use Rattle.remote_objects.specs.Descriptors.{descriptors}
@@ -190,7 +191,7 @@ get_properties s x id = properties_of s x (handle_of x id)
 -- a handle ends
 abbrev pub releases : Session → Option Handle → Row
 releases x None = Refuses refusals.UnknownObject
-releases x (Some h) = does (with_handles (without h.number x.handles) x)
+releases x (Some h) = does (with_handles (handles.without h.number x.handles) x)
 
 abbrev pub release : Session → List ℕ → Row
 release x id = releases x (handle_of x id)

@@ -1,19 +1,20 @@
 //! The events that a session is sent (Chrome DevTools Protocol 1.3, domain Debugger).
 
-ghost use Rattle.std.specs.Prelude.{◌≡◌, map, IfOk, string_bytes};
+ghost use Rattle.std.specs.Prelude.{◌≡◌, ◌++◌, ◌∷◌, [], map, IfOk, string_bytes, option_to_list};
 ghost use Rattle.cdp_json.specs.Json as json;
-ghost use Rattle.cdp_json.specs.Views.{json_view};
+ghost use Rattle.cdp_json.specs.Parts as parts;
+ghost use Rattle.cdp_json.specs.Views.{json_view, member_view};
 ghost use Rattle.cdp_session.specs.Results as results;
 
-use crate::results::{ascii_text, member, nothing};
 use cdp_json::event_text;
-use cdp_json::value::{Json, list, object, text};
+use cdp_json::parts::{ascii_text, member, nothing};
+use cdp_json::value::{Json, Member, list, object, text};
 use cdp_text::units::Units;
 use std::alloc::{AllocError, Global};
 
 /// Texts, in order.
 fn texts(alloc: Global, ids: Vec<Units>) -> Result<Json, AllocError>
-    ensures { IfOk result (λ j. json_view j ≡ results.list_of (map json.text ids.items)) }
+    ensures { IfOk result (λ j. json_view j ≡ parts.list_of (map json.text ids.items)) }
 {
     let mut values = Vec::with_capacity(alloc, ids.len())?;
     for id in ids {
@@ -22,27 +23,53 @@ fn texts(alloc: Global, ids: Vec<Units>) -> Result<Json, AllocError>
     Ok(list(values))
 }
 
-/// What `Debugger.paused` says: the ids of the breakpoints that were hit, and why the program stopped.
-fn paused_params(alloc: Global, hits: Vec<Units>, reason: &[u8]) -> Result<Json, AllocError>
-    ensures { IfOk result (λ j. json_view j ≡ results.paused_params hits.items reason.now) }
+/// The members of `Debugger.paused`: one of them is there only where the session is told of a value that was thrown.
+fn paused_members(
+    alloc: Global,
+    frames: Member,
+    thrown: Option<Member>,
+    hits: Member,
+    reason: Member,
+) -> Result<Vec<Member>, AllocError>
+    ensures { IfOk result (λ ms. map member_view ms.items ≡ member_view frames ∷ (map member_view (option_to_list thrown) ++ (member_view hits ∷ member_view reason ∷ []))) }
 {
-    let ids = texts(alloc, hits)?;
-    let second = member(alloc, b"hitBreakpoints", ids)?;
-    let first = member(alloc, b"callFrames", list(Vec::new(alloc)))?;
-    let why = ascii_text(alloc, reason)?;
-    let third = member(alloc, b"reason", why)?;
-    Ok(object(vec![in alloc; first, second, third]?))
+    match thrown {
+        Some(thrown) => Ok(vec![in alloc; frames, thrown, hits, reason]?),
+        None => Ok(vec![in alloc; frames, hits, reason]?),
+    }
 }
 
-/// The event `Debugger.paused`, of a stop for this reason at breakpoints of these ids.
+/// What `Debugger.paused` says: the frames, the value that was thrown, where the session is told of one, the ids of the
+/// breakpoints that were hit, and why the program stopped.
+fn paused_params(
+    alloc: Global,
+    frames: Vec<Json>,
+    thrown: Option<Member>,
+    hits: Vec<Units>,
+    reason: &[u8],
+) -> Result<Json, AllocError>
+    ensures { IfOk result (λ j. json_view j ≡ results.paused_params (map json_view frames.items) (map member_view (option_to_list thrown)) hits.items reason.now) }
+{
+    let ids = texts(alloc, hits)?;
+    let hit = member(alloc, b"hitBreakpoints", ids)?;
+    let listed = member(alloc, b"callFrames", list(frames))?;
+    let why = ascii_text(alloc, reason)?;
+    let because = member(alloc, b"reason", why)?;
+    let members = paused_members(alloc, listed, thrown, hit, because)?;
+    Ok(object(members))
+}
+
+/// The event `Debugger.paused`.
 pub(crate) fn paused_text(
     alloc: Global,
+    frames: Vec<Json>,
+    thrown: Option<Member>,
     hits: Vec<Units>,
     reason: &[u8],
 ) -> Result<String, AllocError>
-    ensures { IfOk result (λ t. string_bytes t ≡ results.paused_text hits.items reason.now) }
+    ensures { IfOk result (λ t. string_bytes t ≡ results.paused_text (map json_view frames.items) (map member_view (option_to_list thrown)) hits.items reason.now) }
 {
-    let params = paused_params(alloc, hits, reason)?;
+    let params = paused_params(alloc, frames, thrown, hits, reason)?;
     event_text(alloc, "Debugger.paused", &params)
 }
 

@@ -7,6 +7,7 @@ ghost use Rattle.cdp_session.specs.Finding.{Finds, found_script};
 
 use crate::done::Fault;
 use crate::found::FoundScript;
+use crate::program::Program;
 use crate::situation::Situation;
 use breakpoints::script_spots::ScriptSpots;
 use cdp_json::refusal::Refusal;
@@ -37,9 +38,9 @@ fn with_spots<'p>(
 }
 
 /// The first script of an id, if there is one.
-fn first_script<'p>(
+fn first_script<'p, P: Program>(
     alloc: Global,
-    situation: &Situation<'p>,
+    situation: &Situation<'p, P>,
     id: &[u16],
 ) -> Result<Option<FoundScript<'p>>, AllocError>
     requires { HasSpots situation.now }
@@ -55,9 +56,9 @@ fn first_script<'p>(
 }
 
 /// The first script of an id. It is refused where there is none.
-pub(crate) fn find_script<'p>(
+pub(crate) fn find_script<'p, P: Program>(
     alloc: Global,
-    situation: &Situation<'p>,
+    situation: &Situation<'p, P>,
     id: Units,
 ) -> Result<FoundScript<'p>, Fault>
     requires { HasSpots situation.now }

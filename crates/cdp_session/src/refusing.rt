@@ -23,6 +23,9 @@ pub(crate) fn wants_enabled(params: &Params) -> bool
     match params {
         Params::DebuggerEnable => false,
         Params::DebuggerDisable => false,
+        Params::GetProperties { .. } => false,
+        Params::ReleaseObject { .. } => false,
+        Params::ReleaseObjectGroup { .. } => false,
         _ => true,
     }
 }

@@ -1,68 +1,16 @@
-//! The JSON values of results (Chrome DevTools Protocol 1.3, domain Debugger).
+//! The JSON values of results (Chrome DevTools Protocol 1.3, domains Debugger and Runtime).
 
-ghost use Rattle.std.specs.Prelude.{◌≡◌, ◌∷◌, ◌++◌, [], pos, map, decimal, IfOk, OnOk, option_map};
-ghost use Rattle.cdp_json.specs.Json as json;
+ghost use Rattle.std.specs.Prelude.{◌≡◌, ◌++◌, map, IfOk, OnOk, option_map};
 ghost use Rattle.cdp_json.specs.Views.{json_view, member_view};
+ghost use Rattle.cdp_json.specs.Parts as parts;
 ghost use Rattle.cdp_session.specs.Results as results;
 
-use cdp_json::value::{Json, Member, list, number, object, text};
-use cdp_text::position::{Place, Pos};
-use cdp_text::units::{Units, ascii};
+use cdp_json::parts::{ascii_text, copied_text, location, member, object_of_one, place_members};
+use cdp_json::value::{Json, Member, list, object, text};
+use cdp_text::position::Place;
+use cdp_text::units::Units;
 use locations::spot::{Spot, SpotKind};
 use std::alloc::{AllocError, Global};
-
-// ---- parts
-
-/// A text of ASCII.
-pub(crate) fn ascii_text(alloc: Global, bytes: &[u8]) -> Result<Json, AllocError>
-    ensures { IfOk result (λ j. json_view j ≡ json.text bytes.now) }
-{
-    Ok(text(ascii(alloc, bytes)?))
-}
-
-/// A copy of a text.
-fn copied_text(alloc: Global, units: &[u16]) -> Result<Json, AllocError>
-    ensures { IfOk result (λ j. json_view j ≡ json.text units.now) }
-{
-    Ok(text(Units::from_slice(alloc, units)?))
-}
-
-/// A member of this key, which is ASCII.
-pub(crate) fn member(alloc: Global, key: &[u8], value: Json) -> Result<Member, AllocError>
-    ensures { IfOk result (λ m. member_view m ≡ (key.now, json_view value)) }
-{
-    let key = ascii(alloc, key)?;
-    Ok(Member::new(key, value))
-}
-
-/// A member whose value is a line or a column.
-fn coordinate(alloc: Global, key: &[u8], value: u32) -> Result<Member, AllocError>
-    ensures { IfOk result (λ m. member_view m ≡ (key.now, json.number (pos value))) }
-{
-    member(alloc, key, number(i64::from(value)))
-}
-
-/// The id of a script.
-fn script_id(alloc: Global, script: u32) -> Result<Json, AllocError>
-    ensures { IfOk result (λ j. json_view j ≡ json.text (decimal script)) }
-{
-    let digits = format!(in alloc; "{script}")?;
-    ascii_text(alloc, digits.as_bytes())
-}
-
-/// An object of one member.
-pub(crate) fn object_of_one(alloc: Global, only: Member) -> Result<Json, AllocError>
-    ensures { IfOk result (λ j. json_view j ≡ results.object_of (member_view only ∷ [])) }
-{
-    Ok(object(vec![in alloc; only]?))
-}
-
-/// A result without members.
-pub(crate) fn nothing(alloc: Global) -> Json
-    ensures { json_view result ≡ results.nothing }
-{
-    object(Vec::new(alloc))
-}
 
 /// The result of enabling the debugger.
 pub(crate) fn debugger_id(alloc: Global) -> Result<Json, AllocError>
@@ -74,27 +22,9 @@ pub(crate) fn debugger_id(alloc: Global) -> Result<Json, AllocError>
 
 // ---- locations
 
-/// The members of a place: its column, its line and the id of its script.
-fn place_members(alloc: Global, place: Place) -> Result<Vec<Member>, AllocError>
-    ensures { IfOk result (λ ms. map member_view ms.items ≡ results.place_pairs place) }
-{
-    let id = script_id(alloc, place.script)?;
-    let script = member(alloc, b"scriptId", id)?;
-    let line = coordinate(alloc, b"lineNumber", place.pos.line)?;
-    let column = coordinate(alloc, b"columnNumber", place.pos.col)?;
-    Ok(vec![in alloc; column, line, script]?)
-}
-
-/// A place.
-fn location(alloc: Global, place: Place) -> Result<Json, AllocError>
-    ensures { IfOk result (λ j. json_view j ≡ results.location place) }
-{
-    Ok(object(place_members(alloc, place)?))
-}
-
 /// Places, in order.
 fn locations(alloc: Global, places: &[Place]) -> Result<Json, AllocError>
-    ensures { IfOk result (λ j. json_view j ≡ results.list_of (map results.location places.now)) }
+    ensures { IfOk result (λ j. json_view j ≡ parts.list_of (map parts.location places.now)) }
 {
     let mut values = Vec::with_capacity(alloc, places.len())?;
     for place in places {
@@ -139,7 +69,7 @@ fn spot_location(alloc: Global, script: u32, spot: &Spot) -> Result<Json, AllocE
 
 /// Break locations of the script of this number, in order.
 fn spot_list(alloc: Global, script: u32, spots: &[Spot]) -> Result<Json, AllocError>
-    ensures { IfOk result (λ j. json_view j ≡ results.list_of (map (results.spot_location script) spots.now)) }
+    ensures { IfOk result (λ j. json_view j ≡ parts.list_of (map (results.spot_location script) spots.now)) }
 {
     let mut values = Vec::with_capacity(alloc, spots.len())?;
     for spot in spots {
@@ -186,4 +116,13 @@ pub(crate) fn script_source(alloc: Global, source: &[u16]) -> Result<Json, Alloc
 {
     let copy = copied_text(alloc, source)?;
     object_of_one(alloc, member(alloc, b"scriptSource", copy)?)
+}
+
+// ---- objects
+
+/// The result that lists properties.
+pub(crate) fn properties(alloc: Global, values: Vec<Json>) -> Result<Json, AllocError>
+    ensures { IfOk result (λ j. json_view j ≡ results.properties (map json_view values.items)) }
+{
+    object_of_one(alloc, member(alloc, b"result", list(values))?)
 }

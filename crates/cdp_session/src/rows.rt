@@ -1,19 +1,25 @@
 //! What each method does (Chrome DevTools Protocol 1.3, domain Debugger).
 
-ghost use Rattle.std.specs.Prelude.{◌≡◌, ◌&&◌, [], not, codes, map, IfOk, if◌then◌else◌, option_to_list, string_bytes, ◌∷◌};
+ghost use Rattle.std.specs.Prelude.{◌≡◌};
 ghost use Rattle.cdp_session.specs.Situations.{HasSpots, seen};
 ghost use Rattle.breakpoints.specs.Resolving.{resolved_at};
 ghost use Rattle.cdp_json.specs.Views.{json_view};
-ghost use Rattle.cdp_session.specs.Results as results;
+ghost use Rattle.cdp_json.specs.Parts as parts;
+ghost use Rattle.remote_objects.specs.Descriptors.{descriptors};
+ghost use Rattle.cdp_session.specs.Pauses.{sight_of};
 ghost use Rattle.cdp_session.specs.Made.{made_fault, KeepsIfRefused, Makes};
 ghost use Rattle.cdp_session.specs.Rows as rows;
 ghost use Rattle.cdp_session.specs.Rows.{end_of, throws_of};
 
 use crate::asks::Asks;
 use crate::done::{Done, Fault};
-use crate::events::paused_text;
 use crate::finding::find_script;
-use crate::results::{debugger_id, nothing, script_source, set_at, set_by_url, spot_locations};
+use crate::objects::group_of;
+use crate::pausing::describer;
+use crate::program::Program;
+use crate::results::{
+    debugger_id, properties, script_source, set_at, set_by_url, spot_locations,
+};
 use crate::session::Session;
 use crate::situation::{Pause, Situation};
 use breakpoints::breakpoints::Breakpoints;
@@ -21,9 +27,12 @@ use breakpoints::fault::AddFault;
 use breakpoints::ids::{place_id, url_id};
 use cdp_json::params::{ExceptionPauses, Location, Params};
 use cdp_json::refusal::Refusal;
+use cdp_json::parts::nothing;
 use cdp_json::value::Json;
 use cdp_text::position::{Place, Pos};
 use cdp_text::units::Units;
+use object_groups::Handle;
+use remote_objects::backtrace;
 use locations::spot::{between, first_at_or_after};
 use std::alloc::{AllocError, Global};
 use stepping::rules::{Exceptions, Rules, StepKind, StepRequest};
@@ -74,7 +83,7 @@ fn answering(answer: Json) -> Done
 
 /// Done, with nothing to answer.
 fn done(alloc: Global) -> Done
-    ensures answer { json_view result.answer ≡ results.nothing }
+    ensures answer { json_view result.answer ≡ parts.nothing }
     ensures event { result.event ≡ None }
     ensures asks { result.asks ≡ Asks.Nothing }
 {
@@ -83,7 +92,7 @@ fn done(alloc: Global) -> Done
 
 /// Done, with nothing to answer, and this is asked of the program.
 fn asking(alloc: Global, asks: Asks) -> Done
-    ensures answer { json_view result.answer ≡ results.nothing }
+    ensures answer { json_view result.answer ≡ parts.nothing }
     ensures event { result.event ≡ None }
     ensures asks { result.asks ≡ asks }
 {
@@ -94,22 +103,11 @@ fn asking(alloc: Global, asks: Asks) -> Done
     }
 }
 
-/// What is told of a pause by enabling the debugger, where it wasn't enabled.
-fn pause_told(alloc: Global, paused: bool, enabled: bool) -> Result<Option<String>, AllocError>
-    ensures { IfOk result (λ event. map string_bytes (option_to_list event) ≡ (if paused && not enabled then results.paused_text [] (codes "other") ∷ [] else [])) }
-{
-    if paused && !enabled {
-        Ok(Some(paused_text(alloc, Vec::new(alloc), b"other")?))
-    } else {
-        Ok(None)
-    }
-}
-
 impl Session {
     /// Does what a command asks for that isn't refused for the state of its session or of the program.
-    pub(crate) fn act(&mut self, situation: &Situation<'_>, params: Params) -> Result<Done, Fault>
+    pub(crate) fn act<P: Program>(&mut self, situation: &Situation<'_, P>, params: Params) -> Result<Done, Fault>
         requires { HasSpots situation.now }
-        ensures made { Makes result self.new (rows.row (seen situation.now) self.old params) }
+        ensures made { Makes result self.new (rows.row (seen P.standing situation.now) self.old params) }
         ensures kept { KeepsIfRefused result self.old self.new }
     {
         match params {
@@ -137,15 +135,18 @@ impl Session {
             Params::SetAsyncCallStackDepth => Ok(done(self.alloc)),
             Params::GetPossibleBreakpoints { start, end } => self.possible(situation, start, end),
             Params::GetScriptSource { script_id } => self.source(situation, script_id),
+            Params::GetProperties { object_id } => self.get_properties(situation, &object_id),
+            Params::ReleaseObject { object_id } => self.release(&object_id),
+            Params::ReleaseObjectGroup { object_group } => self.release_group(&object_group),
         }
     }
 
     /// `Debugger.enable`
-    fn enable(&mut self, situation: &Situation<'_>) -> Result<Done, Fault>
-        ensures made { Makes result self.new (rows.enable (seen situation.now) self.old) }
+    fn enable<P: Program>(&mut self, situation: &Situation<'_, P>) -> Result<Done, Fault>
+        ensures made { Makes result self.new (rows.enable (seen P.standing situation.now) self.old) }
         ensures kept { KeepsIfRefused result self.old self.new }
     {
-        let event = pause_told(self.alloc, situation.paused.is_some(), self.rules.enabled)?;
+        let event = self.enabling_told(situation, situation.paused, self.rules.enabled)?;
         let answer = debugger_id(self.alloc)?;
         self.rules.enabled = true;
         Ok(Done {
@@ -162,12 +163,13 @@ impl Session {
     {
         self.rules = Rules::new();
         self.breakpoints = Breakpoints::new(self.alloc);
+        self.handles.release_group(backtrace());
         Ok(asking(self.alloc, Asks::Leave))
     }
 
     /// `Debugger.pause`
-    fn pause(&mut self, situation: &Situation<'_>) -> Result<Done, Fault>
-        ensures made { Makes result self.new (rows.pause (seen situation.now) self.old) }
+    fn pause<P: Program>(&mut self, situation: &Situation<'_, P>) -> Result<Done, Fault>
+        ensures made { Makes result self.new (rows.pause (seen P.standing situation.now) self.old) }
         ensures kept { KeepsIfRefused result self.old self.new }
     {
         if situation.paused.is_none() {
@@ -194,9 +196,9 @@ impl Session {
     }
 
     /// `Debugger.continueToLocation`
-    fn continue_to(&mut self, situation: &Situation<'_>, location: Location) -> Result<Done, Fault>
+    fn continue_to<P: Program>(&mut self, situation: &Situation<'_, P>, location: Location) -> Result<Done, Fault>
         requires { HasSpots situation.now }
-        ensures made { Makes result self.new (rows.continue_to (seen situation.now) self.old location) }
+        ensures made { Makes result self.new (rows.continue_to (seen P.standing situation.now) self.old location) }
         ensures kept { KeepsIfRefused result self.old self.new }
     {
         let Location {
@@ -217,15 +219,15 @@ impl Session {
     }
 
     /// `Debugger.setBreakpointByUrl`
-    fn add_by_url(
+    fn add_by_url<P: Program>(
         &mut self,
-        situation: &Situation<'_>,
+        situation: &Situation<'_, P>,
         url: Units,
         position: Pos,
         condition: Option<Units>,
     ) -> Result<Done, Fault>
         requires { HasSpots situation.now }
-        ensures made { Makes result self.new (rows.add_by_url (seen situation.now) self.old url position condition) }
+        ensures made { Makes result self.new (rows.add_by_url (seen P.standing situation.now) self.old url position condition) }
         ensures kept { KeepsIfRefused result self.old self.new }
     {
         let id = url_id(self.alloc, position, url.as_slice())?;
@@ -242,14 +244,14 @@ impl Session {
     }
 
     /// `Debugger.setBreakpoint`
-    fn add_at(
+    fn add_at<P: Program>(
         &mut self,
-        situation: &Situation<'_>,
+        situation: &Situation<'_, P>,
         location: Location,
         condition: Option<Units>,
     ) -> Result<Done, Fault>
         requires { HasSpots situation.now }
-        ensures made { Makes result self.new (rows.add_at (seen situation.now) self.old location condition) }
+        ensures made { Makes result self.new (rows.add_at (seen P.standing situation.now) self.old location condition) }
         ensures kept { KeepsIfRefused result self.old self.new }
     {
         let Location {
@@ -265,9 +267,9 @@ impl Session {
     }
 
     /// The same at a place.
-    fn add_in(
+    fn add_in<P: Program>(
         &mut self,
-        situation: &Situation<'_>,
+        situation: &Situation<'_, P>,
         place: Place,
         condition: Option<Units>,
     ) -> Result<Done, Fault>
@@ -322,14 +324,14 @@ impl Session {
     }
 
     /// `Debugger.getPossibleBreakpoints`
-    fn possible(
+    fn possible<P: Program>(
         &mut self,
-        situation: &Situation<'_>,
+        situation: &Situation<'_, P>,
         start: Location,
         end: Option<Location>,
     ) -> Result<Done, Fault>
         requires { HasSpots situation.now }
-        ensures made { Makes result self.new (rows.possible (seen situation.now) self.old start end) }
+        ensures made { Makes result self.new (rows.possible (seen P.standing situation.now) self.old start end) }
         ensures kept { KeepsIfRefused result self.old self.new }
     {
         let Location {
@@ -342,12 +344,65 @@ impl Session {
     }
 
     /// `Debugger.getScriptSource`
-    fn source(&mut self, situation: &Situation<'_>, script_id: Units) -> Result<Done, Fault>
+    fn source<P: Program>(&mut self, situation: &Situation<'_, P>, script_id: Units) -> Result<Done, Fault>
         requires { HasSpots situation.now }
-        ensures made { Makes result self.new (rows.source (seen situation.now) self.old script_id) }
+        ensures made { Makes result self.new (rows.source (seen P.standing situation.now) self.old script_id) }
         ensures kept { KeepsIfRefused result self.old self.new }
     {
         let found = find_script(self.alloc, situation, script_id)?;
         Ok(answering(script_source(self.alloc, found.script.source.as_slice())?))
+    }
+
+    /// `Runtime.getProperties`
+    fn get_properties<P: Program>(
+        &mut self,
+        situation: &Situation<'_, P>,
+        object_id: &Units,
+    ) -> Result<Done, Fault>
+        ensures made { Makes result self.new (rows.get_properties (seen P.standing situation.now) self.old object_id.now) }
+        ensures kept { KeepsIfRefused result self.old self.new }
+    {
+        match self.handle_of(object_id)? {
+            Some(object) => self.list(situation, &object),
+            None => Err(Fault::Refused(Refusal::UnknownObject)),
+        }
+    }
+
+    /// The properties of an object that the session holds.
+    fn list<P: Program>(
+        &mut self,
+        situation: &Situation<'_, P>,
+        object: &Handle,
+    ) -> Result<Done, Fault>
+        ensures made { Makes result self.new (rows.lists self.old (descriptors (sight_of (seen P.standing situation.now) self.old) object.now.group object.now.target self.old.handles)) }
+        ensures kept { KeepsIfRefused result self.old self.new }
+    {
+        let describer = describer(self.alloc, situation, self.number);
+        let group = group_of(object);
+        let values = describer.descriptors(object.target, group, &mut self.handles)?;
+        Ok(answering(properties(self.alloc, values)?))
+    }
+
+    /// `Runtime.releaseObject`
+    fn release(&mut self, object_id: &Units) -> Result<Done, Fault>
+        ensures made { Makes result self.new (rows.release self.old object_id.now) }
+        ensures kept { KeepsIfRefused result self.old self.new }
+    {
+        match self.handle_of(object_id)? {
+            Some(object) => {
+                self.handles.release(object.number);
+                Ok(done(self.alloc))
+            }
+            None => Err(Fault::Refused(Refusal::UnknownObject)),
+        }
+    }
+
+    /// `Runtime.releaseObjectGroup`
+    fn release_group(&mut self, group: &Units) -> Result<Done, Fault>
+        ensures made { Makes result self.new (rows.release_group self.old group.now) }
+        ensures kept { KeepsIfRefused result self.old self.new }
+    {
+        self.handles.release_group(group.as_slice());
+        Ok(done(self.alloc))
     }
 }

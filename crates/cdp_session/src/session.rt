@@ -2,14 +2,15 @@
 
 ghost use Rattle.std.specs.Prelude.{◌≡◌, ◌∷◌, [], ◌++◌, map, IfOk, OnOk, option_to_list, string_bytes};
 ghost use Rattle.cdp_session.specs.Situations.{HasSpots, seen};
-ghost use Rattle.cdp_session.specs.Sessions.{emptied, fresh, is_silent, sent};
-ghost use Rattle.cdp_session.specs.Stops.{cause_of, hit_ids, ids_where, is_hit_at, reason_of, resumed, stop_text, stopped};
+ghost use Rattle.cdp_session.specs.Sessions.{emptied, fresh, is_silent, sent, with_handles, without_backtrace};
+ghost use Rattle.cdp_session.specs.Stops.{cause_of, hit_ids, ids_where, is_hit_at, resumed, stop_told, stopped};
 ghost use Rattle.cdp_session.specs.Replies.{answer_by, answer_of, comes_to, outcome_by, refusal_of, IsRefused};
 ghost use Rattle.cdp_session.specs.Made.{done_texts, KeepsIfRefused, Makes};
 
 use crate::asks::Asks;
 use crate::done::{Done, Fault};
-use crate::events::{paused_text, resumed_text};
+use crate::events::resumed_text;
+use crate::program::Program;
 use crate::refusing::{has_condition, wants_enabled, wants_pause};
 use crate::situation::Situation;
 use breakpoints::breakpoints::Breakpoints;
@@ -19,6 +20,8 @@ use cdp_json::refusal::Refusal;
 use cdp_json::{read_command, refusal_text, result_text};
 use cdp_text::position::Place;
 use cdp_text::units::Units;
+use object_groups::Handles;
+use remote_objects::backtrace;
 use std::alloc::{AllocError, Global};
 use std::marker::Model;
 use stepping::arrival::Arrival;
@@ -26,12 +29,14 @@ use stepping::cause::Cause;
 use stepping::names::names;
 use stepping::rules::Rules;
 
-/// One client: what it asks for, its breakpoints, and the texts that wait for it.
+/// One client: what it asks for, its breakpoints, the objects that it holds, and the texts that wait for it.
 #[derive(Drop)]
 pub struct Session {
     pub(crate) alloc: Global,
+    pub(crate) number: u64,
     pub(crate) rules: Rules,
     pub(crate) breakpoints: Breakpoints,
+    pub(crate) handles: Handles,
     outbox: Vec<String>,
 }
 
@@ -41,7 +46,7 @@ impl Model for Session {
 
     ghost Value = { Kept };
 
-    ghost view = { λ x. record { rules = x.rules; breakpoints = x.breakpoints; outbox = map string_bytes x.outbox.items } };
+    ghost view = { λ x. record { number = x.number; rules = x.rules; breakpoints = x.breakpoints; handles = x.handles; outbox = map string_bytes x.outbox.items } };
 }
 
 /// Whether an active breakpoint stands where the program arrived, if it did.
@@ -68,25 +73,17 @@ fn ids_where(
     }
 }
 
-/// Why the program stopped, as its session is told.
-fn reason_of(cause: Option<Cause>) -> &'static [u8]
-    ensures { result.now ≡ reason_of cause }
-{
-    match cause {
-        Some(Cause::Exception) => b"exception",
-        _ => b"other",
-    }
-}
-
 impl Session {
-    /// A session that asks for nothing. It takes no memory.
-    pub fn new(alloc: Global) -> Session
-        ensures { result ≡ fresh }
+    /// A session of this number that asks for nothing. It takes no memory.
+    pub fn new(alloc: Global, number: u64) -> Session
+        ensures { result ≡ fresh number }
     {
         Session {
             alloc,
+            number,
             rules: Rules::new(),
             breakpoints: Breakpoints::new(alloc),
+            handles: Handles::new(alloc),
             outbox: Vec::new(alloc),
         }
     }
@@ -144,33 +141,45 @@ impl Session {
         ids_where(self.alloc, &self.breakpoints, arrival.place)
     }
 
-    /// The event that tells of a stop.
-    fn stop_text(&self, arrival: &Arrival) -> Result<String, AllocError>
-        ensures { IfOk result (λ text. string_bytes text ≡ stop_text arrival.now self.now) }
+    /// The event that tells of the stop of this number. The objects that it names are held from then on.
+    fn stop_told<P: Program>(
+        &mut self,
+        situation: &Situation<'_, P>,
+        number: u64,
+        arrival: &Arrival,
+    ) -> Result<String, AllocError>
+        ensures made { IfOk result (λ text. string_bytes text ≡ (stop_told (seen P.standing situation.now) number arrival.now self.old).made) }
+        ensures held { OnOk result (self.new ≡ with_handles (stop_told (seen P.standing situation.now) number arrival.now self.old).handles self.old) }
     {
         let hits = self.hit_ids(arrival)?;
-        paused_text(self.alloc, hits, reason_of(self.names(arrival)))
+        let cause = self.names(arrival);
+        self.pause_told(situation, number, hits, cause)
     }
 
-    /// The program stopped behind a step that led to this arrival: the session's requests end, and where it has the
-    /// debugger enabled it is told.
+    /// The program stopped behind a step that led to this arrival, and the stop has this number: the session's requests end,
+    /// and where it has the debugger enabled it is told.
     ///
     /// # Errors
     ///
     /// There is no memory for the text. The session is to be dropped.
-    pub fn stopped(&mut self, arrival: &Arrival) -> Result<(), AllocError>
-        ensures { OnOk result (self.new ≡ stopped arrival.now self.old) }
+    pub fn stopped<P: Program>(
+        &mut self,
+        situation: &Situation<'_, P>,
+        number: u64,
+        arrival: &Arrival,
+    ) -> Result<(), AllocError>
+        ensures { OnOk result (self.new ≡ stopped (seen P.standing situation.now) number arrival.now self.old) }
     {
         if !self.rules.enabled {
             self.rules.clear_requests();
             return Ok(());
         }
-        let text = self.stop_text(arrival)?;
+        let text = self.stop_told(situation, number, arrival)?;
         self.rules.clear_requests();
         self.send(text)
     }
 
-    /// The program goes on: where the session has the debugger enabled it is told.
+    /// The program goes on: the objects of the stop end, and where the session has the debugger enabled it is told.
     ///
     /// # Errors
     ///
@@ -178,6 +187,7 @@ impl Session {
     pub fn resumed(&mut self) -> Result<(), AllocError>
         ensures { OnOk result (self.new ≡ resumed self.old) }
     {
+        self.handles.release_group(backtrace());
         if !self.rules.enabled {
             return Ok(());
         }
@@ -193,10 +203,10 @@ impl Session {
     /// # Errors
     ///
     /// There is no memory for the answer. The session is to be dropped.
-    pub fn tell(&mut self, situation: &Situation<'_>, text: &str) -> Result<Asks, AllocError>
+    pub fn tell<P: Program>(&mut self, situation: &Situation<'_, P>, text: &str) -> Result<Asks, AllocError>
         requires { HasSpots situation.now }
-        ensures session { OnOk result (self.new ≡ (answer_of (seen situation.now) self.old text.now).session) }
-        ensures asks { IfOk result (λ asks. asks ≡ (answer_of (seen situation.now) self.old text.now).asks) }
+        ensures session { OnOk result (self.new ≡ (answer_of (seen P.standing situation.now) self.old text.now).session) }
+        ensures asks { IfOk result (λ asks. asks ≡ (answer_of (seen P.standing situation.now) self.old text.now).asks) }
     {
         match read_command(self.alloc, text) {
             Reading::Command { id, params, .. } => self.answer(situation, id, params),
@@ -216,15 +226,15 @@ impl Session {
     }
 
     /// Answers a command.
-    fn answer(
+    fn answer<P: Program>(
         &mut self,
-        situation: &Situation<'_>,
+        situation: &Situation<'_, P>,
         id: u64,
         params: Params,
     ) -> Result<Asks, AllocError>
         requires { HasSpots situation.now }
-        ensures session { OnOk result (self.new ≡ (answer_by self.old (outcome_by id (comes_to (seen situation.now) self.old params))).session) }
-        ensures asks { IfOk result (λ asks. asks ≡ (answer_by self.old (outcome_by id (comes_to (seen situation.now) self.old params))).asks) }
+        ensures session { OnOk result (self.new ≡ (answer_by self.old (outcome_by id (comes_to (seen P.standing situation.now) self.old params))).session) }
+        ensures asks { IfOk result (λ asks. asks ≡ (answer_by self.old (outcome_by id (comes_to (seen P.standing situation.now) self.old params))).asks) }
     {
         match self.perform(situation, params) {
             Ok(done) => self.reply(id, done),
@@ -260,9 +270,9 @@ impl Session {
     }
 
     /// Does what a command asks for, unless it is refused.
-    fn perform(&mut self, situation: &Situation<'_>, params: Params) -> Result<Done, Fault>
+    fn perform<P: Program>(&mut self, situation: &Situation<'_, P>, params: Params) -> Result<Done, Fault>
         requires { HasSpots situation.now }
-        ensures made { Makes result self.new (comes_to (seen situation.now) self.old params) }
+        ensures made { Makes result self.new (comes_to (seen P.standing situation.now) self.old params) }
         ensures kept { KeepsIfRefused result self.old self.new }
     {
         if let Some(refusal) = self.refusal(situation, &params) {
@@ -272,8 +282,8 @@ impl Session {
     }
 
     /// Why a command is refused before it acts, if it is.
-    fn refusal(&self, situation: &Situation<'_>, params: &Params) -> Option<Refusal>
-        ensures { result ≡ refusal_of (seen situation.now) self.now params.now }
+    fn refusal<P: Program>(&self, situation: &Situation<'_, P>, params: &Params) -> Option<Refusal>
+        ensures { result ≡ refusal_of (seen P.standing situation.now) self.now params.now }
     {
         if has_condition(params) {
             Some(Refusal::InvalidParameters)

@@ -1,5 +1,6 @@
 //! What a command sees of the program.
 
+use crate::program::Program;
 use breakpoints::script_spots::ScriptSpots;
 use js_tree::script::Script;
 
@@ -13,12 +14,14 @@ pub struct Pause {
 }
 
 /// What a command sees of the program.
-#[derive(Clone, Copy)]
-pub struct Situation<'p> {
+#[derive(Drop)]
+pub struct Situation<'p, P: Program> {
     /// Its scripts, in order.
     pub scripts: &'p [Script],
     /// The break locations of the scripts.
     pub spots: &'p ScriptSpots,
     /// Where it is paused, if it is.
     pub paused: Option<Pause>,
+    /// How it stands.
+    pub program: &'p P,
 }

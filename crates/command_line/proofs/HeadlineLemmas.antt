@@ -9,10 +9,12 @@ use Rattle.js_tree.specs.declared.script.Script.{Script}
 use Rattle.js_semantics.specs.Run.{Run as Program}
 use Rattle.stepping.specs.declared.arrival.Arrival.{Arrival}
 use Rattle.cdp_session.specs.Sessions.{Session, emptied}
+use Rattle.cdp_session.specs.Situations.{Situation, Standing}
 use Rattle.cdp_session.specs.Stops.{stopped}
 use Rattle.cdp_session.specs.Replies.{answer_of}
 use Rattle.cdp_host.specs.Programs.{arrival_of, next, plain, is_over, has_thrown, printed_of}
-use Rattle.cdp_host.specs.Meaning.{Meaning, at_program, begin, behind, situation, step, after_steps, is_attached, is_named, is_paused, longest}
+use Rattle.cdp_host.specs.Meaning.{Meaning, at_program, begin, behind, next_number, situation, step, after_steps, is_attached, is_named, is_paused, longest, stopping}
+use Rattle.cdp_host.specs.Standings.{standing_of}
 use Rattle.cdp_host.specs.Histories.{Entry, Attach, Tell, Take, Detach, Ran, apply, told, with_answer, whole, steps_of, steps_made}
 use Rattle.cdp_host.specs.Rules.{StopsExactly, FitsEntry, FitsAll, handed_at, texts_at, printed_in}
 use Rattle.cdp_host.specs.States.{outbox_of, state_of}
@@ -51,10 +53,10 @@ out-sent s (text ∷ texts) = out-sent s texts
 out-at : (scripts : List Script) (m : Meaning Program) (entry : Entry) → FitsEntry scripts m entry
     → printed_of m.program ++ out_texts (output_at scripts m entry) ≡ printed_of (apply scripts m entry).program
 out-at scripts m Attach fits = append-nil (printed_of m.program)
-out-at scripts m (Tell s text) fits = append-nil (printed_of m.program) ∙ ap printed_of (sym (changed-program scripts m (Tell s text)))
+out-at scripts m (Tell s text) fits = append-nil (printed_of m.program) ∙ ap printed_of (sym (changed-program (standing_of scripts) scripts m (Tell s text)))
 out-at scripts m (Take s) fits =
     ap (λ xs. printed_of m.program ++ xs) (out-sent s (handed_at m (Take s))) ∙ append-nil (printed_of m.program)
-    ∙ ap printed_of (sym (changed-program scripts m (Take s)))
+    ∙ ap printed_of (sym (changed-program (standing_of scripts) scripts m (Take s)))
 out-at scripts m (Detach s) fits = absurd fits
 out-at scripts m (Ran n) fits =
     ap (λ xs. printed_of m.program ++ xs) (out-append (map Out (printed_in scripts n m)) _ ∙ append-nil _ ∙ out-printed (printed_in scripts n m)) ∙ steps-print n scripts m
@@ -74,32 +76,32 @@ out-all (entry ∷ history) scripts m fits =
 record IsBefore (m : Meaning Program) : Type 0 where
   pub none : m.attached ≡ 0 → m.session ≡ None
 
-behind-none : (a : Arrival) (b : Bool) (m : Meaning Program) → m.session ≡ None → (behind a b m).session ≡ None
-behind-none a true m none = ap (option_map (stopped a)) none
-behind-none a false m none = none
+behind-none : (scripts : List Script) (d : Standing) (a : Arrival) (b : Bool) (m : Meaning Program) → m.session ≡ None → (behind scripts d a b m).session ≡ None
+behind-none scripts d a true m none = ap (option_map (stopped (stopping scripts d) (next_number m.stops) a)) none
+behind-none scripts d a false m none = none
 
 step-none : (scripts : List Script) (m : Meaning Program) → m.session ≡ None → (step scripts m).session ≡ None
-step-none scripts m none = behind-none (arrival_of scripts (next scripts m.program)) (is_named scripts m (next scripts m.program)) (at_program (next scripts m.program) m) none
+step-none scripts m none = behind-none scripts (standing_of scripts (next scripts m.program)) (arrival_of scripts (next scripts m.program)) (is_named scripts m (next scripts m.program)) (at_program (next scripts m.program) m) none
 
 after_steps-none : (n : ℕ) (scripts : List Script) (m : Meaning Program) → m.session ≡ None → (after_steps scripts n m).session ≡ None
 after_steps-none zero scripts m none = none
 after_steps-none (suc n) scripts m none = after_steps-none n scripts (step scripts m) (step-none scripts m none)
 
-behind-attached : (a : Arrival) (b : Bool) (m : Meaning Program) → (behind a b m).attached ≡ m.attached
-behind-attached a true m = refl
-behind-attached a false m = refl
+behind-attached : (scripts : List Script) (d : Standing) (a : Arrival) (b : Bool) (m : Meaning Program) → (behind scripts d a b m).attached ≡ m.attached
+behind-attached scripts d a true m = refl
+behind-attached scripts d a false m = refl
 
 after_steps-attached : (n : ℕ) (scripts : List Script) (m : Meaning Program) → (after_steps scripts n m).attached ≡ m.attached
 after_steps-attached zero scripts m = refl
 after_steps-attached (suc n) scripts m =
     after_steps-attached n scripts (step scripts m)
-    ∙ behind-attached (arrival_of scripts (next scripts m.program)) (is_named scripts m (next scripts m.program)) (at_program (next scripts m.program) m)
+    ∙ behind-attached scripts (standing_of scripts (next scripts m.program)) (arrival_of scripts (next scripts m.program)) (is_named scripts m (next scripts m.program)) (at_program (next scripts m.program) m)
 
-told-attached : (scripts : List Script) (m : Meaning Program) (text : List ℕ) (o : Option Session) → (option_map_or (λ x. with_answer m (answer_of (situation scripts m) x text)) o m).attached ≡ m.attached
+told-attached : (scripts : List Script) (m : Meaning Program) (text : List ℕ) (o : Option Session) → (option_map_or (λ x. with_answer m (answer_of (situation (standing_of scripts) scripts m) x text)) o m).attached ≡ m.attached
 told-attached scripts m text None = refl
 told-attached scripts m text (Some x) = refl
 
-tell-attached : (scripts : List Script) (m : Meaning Program) (text : List ℕ) → (told scripts text m).attached ≡ m.attached
+tell-attached : (scripts : List Script) (m : Meaning Program) (text : List ℕ) → (told (standing_of scripts) scripts text m).attached ≡ m.attached
 tell-attached scripts m text = told-attached scripts m text m.session
 
 choice-attached : (b : Bool) (k m : Meaning Program) → k.attached ≡ m.attached → (if b then k else m).attached ≡ m.attached
@@ -112,7 +114,7 @@ before-next m k before same keeps = record { none = λ zero. keeps (before.none 
 -- the entry of a line fits
 tell-fits : (scripts : List Script) (m : Meaning Program) (s : ℕ) (text : List ℕ) → IsBefore m → IsBefore (apply scripts m (Tell s text))
 tell-fits scripts m s text before =
-    before-next m (apply scripts m (Tell s text)) before (choice-attached (is_attached m s) (told scripts text m) m (tell-attached scripts m text)) (λ none. rw none refl)
+    before-next m (apply scripts m (Tell s text)) before (choice-attached (is_attached m s) (told (standing_of scripts) scripts text m) m (tell-attached scripts m text)) (λ none. rw none refl)
 
 take-fits : (scripts : List Script) (m : Meaning Program) (s : ℕ) → IsBefore m → IsBefore (apply scripts m (Take s))
 take-fits scripts m s before =
@@ -228,26 +230,26 @@ sent-at scripts m (Ran n) s s_small small fits =
     to_of-append s (map Out (printed_in scripts n m)) _ ∙ append-nil _ ∙ to-printed s (printed_in scripts n m) ∙ none-escaped (is_attached m s)
 
 -- a session that is attached stays so
-stopped-some : (a : Arrival) (o : Option Session) → is_some (option_map (stopped a) o) ≡ is_some o
-stopped-some a None = refl
-stopped-some a (Some x) = refl
+stopped-some : (s : Situation) (number : ℕ) (a : Arrival) (o : Option Session) → is_some (option_map (stopped s number a) o) ≡ is_some o
+stopped-some s number a None = refl
+stopped-some s number a (Some x) = refl
 
-behind-some : (a : Arrival) (b : Bool) (m : Meaning Program) → is_some (behind a b m).session ≡ is_some m.session
-behind-some a true m = stopped-some a m.session
-behind-some a false m = refl
+behind-some : (scripts : List Script) (d : Standing) (a : Arrival) (b : Bool) (m : Meaning Program) → is_some (behind scripts d a b m).session ≡ is_some m.session
+behind-some scripts d a true m = stopped-some (stopping scripts d) (next_number m.stops) a m.session
+behind-some scripts d a false m = refl
 
 after_steps-some : (n : ℕ) (scripts : List Script) (m : Meaning Program) → is_some (after_steps scripts n m).session ≡ is_some m.session
 after_steps-some zero scripts m = refl
 after_steps-some (suc n) scripts m =
     after_steps-some n scripts (step scripts m)
-    ∙ behind-some (arrival_of scripts (next scripts m.program)) (is_named scripts m (next scripts m.program)) (at_program (next scripts m.program) m)
+    ∙ behind-some scripts (standing_of scripts (next scripts m.program)) (arrival_of scripts (next scripts m.program)) (is_named scripts m (next scripts m.program)) (at_program (next scripts m.program) m)
 
 told-some : (scripts : List Script) (m : Meaning Program) (text : List ℕ) (o : Option Session) → m.session ≡ o
-    → is_some (option_map_or (λ x. with_answer m (answer_of (situation scripts m) x text)) o m).session ≡ is_some m.session
+    → is_some (option_map_or (λ x. with_answer m (answer_of (situation (standing_of scripts) scripts m) x text)) o m).session ≡ is_some m.session
 told-some scripts m text None is = refl
 told-some scripts m text (Some x) is = rw is refl
 
-tell-some : (scripts : List Script) (m : Meaning Program) (text : List ℕ) → is_some (told scripts text m).session ≡ is_some m.session
+tell-some : (scripts : List Script) (m : Meaning Program) (text : List ℕ) → is_some (told (standing_of scripts) scripts text m).session ≡ is_some m.session
 tell-some scripts m text = told-some scripts m text m.session refl
 
 emptied-some : (o : Option Session) → is_some (option_map emptied o) ≡ is_some o
@@ -275,8 +277,8 @@ goes scripts input made m entry s is fits same =
 
 tell-same : (scripts : List Script) (m : Meaning Program) (n s : ℕ) (text : List ℕ) → is_attached (apply scripts m (Tell n text)) s ≡ is_attached m s
 tell-same scripts m n s text =
-    same-attached m (apply scripts m (Tell n text)) s (choice-is_some (is_attached m n) (told scripts text m) m (tell-some scripts m text))
-    (choice-attached (is_attached m n) (told scripts text m) m (tell-attached scripts m text))
+    same-attached m (apply scripts m (Tell n text)) s (choice-is_some (is_attached m n) (told (standing_of scripts) scripts text m) m (tell-some scripts m text))
+    (choice-attached (is_attached m n) (told (standing_of scripts) scripts text m) m (tell-attached scripts m text))
 
 take-same : (scripts : List Script) (m : Meaning Program) (n s : ℕ) → is_attached (apply scripts m (Take n)) s ≡ is_attached m s
 take-same scripts m n s =
@@ -298,7 +300,7 @@ waits-at scripts input made m (Ran n) s is fits = goes scripts input made m (Ran
 one-more : (scripts : List Script) (m : Meaning Program) (entry : Entry) → m.attached ≤ 1 → FitsEntry scripts m entry → (apply scripts m entry).attached ≤ 1
 one-more scripts m Attach one fits = omega (arith, fits.0)
 one-more scripts m (Tell s text) one fits =
-    let same : (apply scripts m (Tell s text)).attached ≡ m.attached = choice-attached (is_attached m s) (told scripts text m) m (tell-attached scripts m text) in rw same one
+    let same : (apply scripts m (Tell s text)).attached ≡ m.attached = choice-attached (is_attached m s) (told (standing_of scripts) scripts text m) m (tell-attached scripts m text) in rw same one
 one-more scripts m (Take s) one fits = rw (choice-attached (is_attached m s) (record m { session = option_map emptied m.session }) m refl) one
 one-more scripts m (Detach s) one fits = absurd fits
 one-more scripts m (Ran n) one fits = rw (after_steps-attached n scripts m) one

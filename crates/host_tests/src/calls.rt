@@ -31,7 +31,7 @@ out 8
 ran 8 ended
 to 1 {"id":1,"result":{"debuggerId":"1"}}
 to 1 {"id":2,"result":{}}
-to 1 {"method":"Debugger.paused","params":{"callFrames":[],"hitBreakpoints":[],"reason":"other"}}
+to 1 {"method":"Debugger.paused","params":{"callFrames":[{"callFrameId":"1.1.0","functionName":"","location":{"columnNumber":0,"lineNumber":0,"scriptId":"1"},"scopeChain":[{"object":{"className":"Object","description":"Object","objectId":"1.1","type":"object"},"type":"script"},{"object":{"className":"Object","description":"Object","objectId":"1.2","type":"object"},"type":"global"}],"this":{"type":"undefined"},"url":"two.js"}],"hitBreakpoints":[],"reason":"other"}}
 to 1 {"id":3,"result":{}}
 to 1 {"method":"Debugger.resumed","params":{}}
 "#;
@@ -56,12 +56,12 @@ const TWO_PAUSES_OUTPUT: &str = r#"attached 1
 ran 1 paused
 to 1 {"id":1,"result":{"debuggerId":"1"}}
 to 1 {"id":2,"result":{}}
-to 1 {"method":"Debugger.paused","params":{"callFrames":[],"hitBreakpoints":[],"reason":"other"}}
+to 1 {"method":"Debugger.paused","params":{"callFrames":[{"callFrameId":"1.1.0","functionName":"","location":{"columnNumber":0,"lineNumber":0,"scriptId":"1"},"scopeChain":[{"object":{"className":"Object","description":"Object","objectId":"1.1","type":"object"},"type":"script"},{"object":{"className":"Object","description":"Object","objectId":"1.2","type":"object"},"type":"global"}],"this":{"type":"undefined"},"url":"two.js"}],"hitBreakpoints":[],"reason":"other"}}
 ran 3 paused
 to 1 {"id":3,"result":{}}
 to 1 {"method":"Debugger.resumed","params":{}}
 to 1 {"id":4,"result":{}}
-to 1 {"method":"Debugger.paused","params":{"callFrames":[],"hitBreakpoints":[],"reason":"other"}}
+to 1 {"method":"Debugger.paused","params":{"callFrames":[{"callFrameId":"1.2.0","functionName":"","location":{"columnNumber":8,"lineNumber":0,"scriptId":"1"},"scopeChain":[{"object":{"className":"Object","description":"Object","objectId":"1.3","type":"object"},"type":"script"},{"object":{"className":"Object","description":"Object","objectId":"1.4","type":"object"},"type":"global"}],"this":{"type":"undefined"},"url":"two.js"}],"hitBreakpoints":[],"reason":"other"}}
 out 7
 out 8
 ran 5 ended

@@ -44,10 +44,10 @@ ran 6 ended
 to 1 {"id":1,"result":{"debuggerId":"1"}}
 to 1 {"id":2,"result":{"breakpointId":"1:3:0:one.js","locations":[{"columnNumber":0,"lineNumber":3,"scriptId":"1"}]}}
 to 1 {"id":3,"result":{"breakpointId":"1:1:0:one.js","locations":[{"columnNumber":2,"lineNumber":1,"scriptId":"1"}]}}
-to 1 {"method":"Debugger.paused","params":{"callFrames":[],"hitBreakpoints":["1:3:0:one.js"],"reason":"other"}}
+to 1 {"method":"Debugger.paused","params":{"callFrames":[{"callFrameId":"1.1.0","functionName":"","location":{"columnNumber":0,"lineNumber":3,"scriptId":"1"},"scopeChain":[{"object":{"className":"Object","description":"Object","objectId":"1.1","type":"object"},"type":"script"},{"object":{"className":"Object","description":"Object","objectId":"1.2","type":"object"},"type":"global"}],"this":{"type":"undefined"},"url":"one.js"}],"hitBreakpoints":["1:3:0:one.js"],"reason":"other"}}
 to 1 {"id":4,"result":{}}
 to 1 {"method":"Debugger.resumed","params":{}}
-to 1 {"method":"Debugger.paused","params":{"callFrames":[],"hitBreakpoints":["1:1:0:one.js"],"reason":"other"}}
+to 1 {"method":"Debugger.paused","params":{"callFrames":[{"callFrameId":"1.2.0","functionLocation":{"columnNumber":0,"lineNumber":0,"scriptId":"1"},"functionName":"f","location":{"columnNumber":2,"lineNumber":1,"scriptId":"1"},"scopeChain":[{"name":"f","object":{"className":"Object","description":"Object","objectId":"1.3","type":"object"},"type":"local"},{"object":{"className":"Object","description":"Object","objectId":"1.4","type":"object"},"type":"script"},{"object":{"className":"Object","description":"Object","objectId":"1.5","type":"object"},"type":"global"}],"this":{"type":"undefined"},"url":"one.js"},{"callFrameId":"1.2.1","functionName":"","location":{"columnNumber":0,"lineNumber":3,"scriptId":"1"},"scopeChain":[{"object":{"className":"Object","description":"Object","objectId":"1.6","type":"object"},"type":"script"},{"object":{"className":"Object","description":"Object","objectId":"1.7","type":"object"},"type":"global"}],"this":{"type":"undefined"},"url":"one.js"}],"hitBreakpoints":["1:1:0:one.js"],"reason":"other"}}
 to 1 {"id":5,"result":{}}
 to 1 {"method":"Debugger.resumed","params":{}}
 "#;
@@ -70,10 +70,10 @@ ran 2 paused
 ran 1 ended
 to 1 {"id":1,"result":{"debuggerId":"1"}}
 to 1 {"id":2,"result":{"breakpointId":"1:0:0:b.js","locations":[{"columnNumber":0,"lineNumber":0,"scriptId":"1"},{"columnNumber":0,"lineNumber":0,"scriptId":"2"}]}}
-to 1 {"method":"Debugger.paused","params":{"callFrames":[],"hitBreakpoints":["1:0:0:b.js"],"reason":"other"}}
+to 1 {"method":"Debugger.paused","params":{"callFrames":[{"callFrameId":"1.1.0","functionName":"","location":{"columnNumber":0,"lineNumber":0,"scriptId":"1"},"scopeChain":[{"object":{"className":"Object","description":"Object","objectId":"1.1","type":"object"},"type":"script"},{"object":{"className":"Object","description":"Object","objectId":"1.2","type":"object"},"type":"global"}],"this":{"type":"undefined"},"url":"b.js"}],"hitBreakpoints":["1:0:0:b.js"],"reason":"other"}}
 to 1 {"id":3,"result":{}}
 to 1 {"method":"Debugger.resumed","params":{}}
-to 1 {"method":"Debugger.paused","params":{"callFrames":[],"hitBreakpoints":["1:0:0:b.js"],"reason":"other"}}
+to 1 {"method":"Debugger.paused","params":{"callFrames":[{"callFrameId":"1.2.0","functionName":"","location":{"columnNumber":0,"lineNumber":0,"scriptId":"2"},"scopeChain":[{"object":{"className":"Object","description":"Object","objectId":"1.3","type":"object"},"type":"script"},{"object":{"className":"Object","description":"Object","objectId":"1.4","type":"object"},"type":"global"}],"this":{"type":"undefined"},"url":"b.js"}],"hitBreakpoints":["1:0:0:b.js"],"reason":"other"}}
 to 1 {"id":4,"result":{}}
 to 1 {"method":"Debugger.resumed","params":{}}
 "#;
@@ -101,7 +101,7 @@ to 1 {"id":1,"result":{"debuggerId":"1"}}
 to 1 {"id":2,"result":{"actualLocation":{"columnNumber":0,"lineNumber":0,"scriptId":"1"},"breakpointId":"4:0:0:1"}}
 to 1 {"id":3,"result":{"breakpointId":"1:0:0:lets.js","locations":[{"columnNumber":0,"lineNumber":0,"scriptId":"1"}]}}
 to 1 {"id":4,"result":{"actualLocation":{"columnNumber":0,"lineNumber":1,"scriptId":"1"},"breakpointId":"4:1:0:1"}}
-to 1 {"method":"Debugger.paused","params":{"callFrames":[],"hitBreakpoints":["4:0:0:1","1:0:0:lets.js"],"reason":"other"}}
+to 1 {"method":"Debugger.paused","params":{"callFrames":[{"callFrameId":"1.1.0","functionName":"","location":{"columnNumber":0,"lineNumber":0,"scriptId":"1"},"scopeChain":[{"object":{"className":"Object","description":"Object","objectId":"1.1","type":"object"},"type":"script"},{"object":{"className":"Object","description":"Object","objectId":"1.2","type":"object"},"type":"global"}],"this":{"type":"undefined"},"url":"lets.js"}],"hitBreakpoints":["4:0:0:1","1:0:0:lets.js"],"reason":"other"}}
 to 1 {"id":5,"result":{}}
 to 1 {"id":6,"result":{}}
 to 1 {"id":7,"result":{"actualLocation":{"columnNumber":0,"lineNumber":2,"scriptId":"1"},"breakpointId":"4:2:0:1"}}
@@ -193,10 +193,10 @@ ran 4 paused
 ran 2 ended
 to 1 {"id":1,"result":{"debuggerId":"1"}}
 to 1 {"id":2,"result":{}}
-to 1 {"method":"Debugger.paused","params":{"callFrames":[],"hitBreakpoints":[],"reason":"other"}}
+to 1 {"method":"Debugger.paused","params":{"callFrames":[{"callFrameId":"1.1.0","functionName":"","location":{"columnNumber":0,"lineNumber":0,"scriptId":"1"},"scopeChain":[{"object":{"className":"Object","description":"Object","objectId":"1.1","type":"object"},"type":"script"},{"object":{"className":"Object","description":"Object","objectId":"1.2","type":"object"},"type":"global"}],"this":{"type":"undefined"},"url":"lets.js"}],"hitBreakpoints":[],"reason":"other"}}
 to 1 {"id":3,"result":{}}
 to 1 {"method":"Debugger.resumed","params":{}}
-to 1 {"method":"Debugger.paused","params":{"callFrames":[],"hitBreakpoints":[],"reason":"other"}}
+to 1 {"method":"Debugger.paused","params":{"callFrames":[{"callFrameId":"1.2.0","functionName":"","location":{"columnNumber":0,"lineNumber":2,"scriptId":"1"},"scopeChain":[{"object":{"className":"Object","description":"Object","objectId":"1.3","type":"object"},"type":"script"},{"object":{"className":"Object","description":"Object","objectId":"1.4","type":"object"},"type":"global"}],"this":{"type":"undefined"},"url":"lets.js"}],"hitBreakpoints":[],"reason":"other"}}
 to 1 {"error":{"code":-32000,"message":"Could not resolve breakpoint"},"id":4}
 to 1 {"error":{"code":-32000,"message":"No script for id: 2"},"id":5}
 to 1 {"id":6,"result":{}}
@@ -218,7 +218,7 @@ const DEBUGGER_OUTPUT: &str = r#"attached 1
 ran 2 paused
 ran 1 ended
 to 1 {"id":1,"result":{"debuggerId":"1"}}
-to 1 {"method":"Debugger.paused","params":{"callFrames":[],"hitBreakpoints":[],"reason":"other"}}
+to 1 {"method":"Debugger.paused","params":{"callFrames":[{"callFrameId":"1.1.0","functionName":"","location":{"columnNumber":6,"lineNumber":0,"scriptId":"1"},"scopeChain":[{"object":{"className":"Object","description":"Object","objectId":"1.1","type":"object"},"type":"script"},{"object":{"className":"Object","description":"Object","objectId":"1.2","type":"object"},"type":"global"}],"this":{"type":"undefined"},"url":"smile.js"}],"hitBreakpoints":[],"reason":"other"}}
 to 1 {"id":2,"result":{}}
 to 1 {"id":3,"result":{}}
 to 1 {"method":"Debugger.resumed","params":{}}
@@ -248,7 +248,7 @@ ran 8 paused
 ran 3 threw
 to 1 {"id":1,"result":{"debuggerId":"1"}}
 to 1 {"id":2,"result":{}}
-to 1 {"method":"Debugger.paused","params":{"callFrames":[],"hitBreakpoints":[],"reason":"exception"}}
+to 1 {"method":"Debugger.paused","params":{"callFrames":[{"callFrameId":"1.1.0","functionLocation":{"columnNumber":0,"lineNumber":0,"scriptId":"1"},"functionName":"f","location":{"columnNumber":8,"lineNumber":1,"scriptId":"1"},"scopeChain":[{"name":"f","object":{"className":"Object","description":"Object","objectId":"1.1","type":"object"},"type":"local"},{"object":{"className":"Object","description":"Object","objectId":"1.2","type":"object"},"type":"script"},{"object":{"className":"Object","description":"Object","objectId":"1.3","type":"object"},"type":"global"}],"this":{"type":"undefined"},"url":"last.js"},{"callFrameId":"1.1.1","functionName":"","location":{"columnNumber":0,"lineNumber":3,"scriptId":"1"},"scopeChain":[{"object":{"className":"Object","description":"Object","objectId":"1.4","type":"object"},"type":"script"},{"object":{"className":"Object","description":"Object","objectId":"1.5","type":"object"},"type":"global"}],"this":{"type":"undefined"},"url":"last.js"}],"data":{"description":"1","type":"number","value":1},"hitBreakpoints":[],"reason":"exception"}}
 to 1 {"id":3,"result":{}}
 to 1 {"method":"Debugger.resumed","params":{}}
 "#;

@@ -10,6 +10,8 @@ mod debugging;
 #[cfg(test)]
 mod edges;
 #[cfg(test)]
+mod objects;
+#[cfg(test)]
 mod runs;
 #[cfg(test)]
 mod standing;

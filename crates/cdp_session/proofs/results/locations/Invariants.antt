@@ -1,6 +1,6 @@
 use Rattle.std.proofs.Common.{◌≡◌, map, take}
 use Rattle.cdp_json.specs.Views.{json_view}
-use Rattle.cdp_session.specs.Results.{location}
+use Rattle.cdp_json.specs.Parts.{location}
 use Rattle.cdp_session.proofs.results.locations.Given as goal
 
 abbrev pub invariant-loop-place : goal.invariant-loop-place

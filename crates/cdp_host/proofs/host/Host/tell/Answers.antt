@@ -13,7 +13,7 @@ returns-in-Ok-clause-refused c = λ _ x id refusal is refused.
     let a = c.self.inside in
     let m : Meaning Parts = record { program = record { machine = a.machine; heap = a.heap }; stop = a.stop; stops = a.stops; attached = a.attached; session = a.session } in
     let new : Meaning Parts = record { program = m.program; stop = c.in-Ok.stop; stops = a.stops; attached = a.attached; session = Some c.tell_session.new.session } in
-    let P : HostState → Type 0 = λ h. h.meaning.session ≡ Some x → outcome_of (situation h.scripts h.meaning) x c.args.text.now ≡ IsRefused id refusal
+    let P : HostState → Type 0 = λ h. h.meaning.session ≡ Some x → outcome_of (situation (parts_standing h.scripts) h.scripts h.meaning) x c.args.text.now ≡ IsRefused id refusal
     → new ≡ record h.meaning { session = Some (sent (refusal_text id refusal ∷ []) x) } in
     let here = c.as_slice.ensures.value in
     subst P c.self.view_is

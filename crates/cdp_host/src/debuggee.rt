@@ -1,0 +1,91 @@
+//! The program of a host, lent to its session where it stands still.
+
+ghost use Rattle.std.specs.Prelude.{◌≡◌, [], map, IfOk, None, option_map};
+ghost use Rattle.js_heap.specs.BuiltIns.{script_scope};
+ghost use Rattle.js_frames.specs.Catchers.{standing_throw};
+ghost use Rattle.js_machine.specs.Machines.{IsKept, state_of, term_of};
+ghost use Rattle.js_world.specs.Heaps.{heap_world};
+ghost use Rattle.call_frames.specs.Views.{frame_of};
+ghost use Rattle.frames_scopes.specs.Frames.{walk};
+ghost use Rattle.cdp_host.specs.Hosts.{AreLines};
+ghost use Rattle.cdp_host.specs.Standings.{value_of, IsKept-prop};
+
+use call_frames::CallFrame;
+use cdp_session::program::{Program, ProgramCells};
+use cdp_text::line_table::LineTable;
+use frames_scopes::standing::Standing;
+use js_frames::standing::Thrown;
+use js_heap::value::Value;
+use js_machine::machine::{Machine, script_scope};
+use js_tree::script::Script;
+use js_world::heap::BaseHeap;
+use std::alloc::{AllocError, Global};
+
+/// A machine that wasn't given up, with its heap, the scripts that it runs, and where the lines of each of them begin.
+#[derive(Clone, Copy)]
+pub(crate) struct Debuggee<'m> {
+    pub machine: &'m Machine,
+    pub heap: &'m BaseHeap,
+    pub scripts: &'m [Script],
+    pub lines: &'m [LineTable],
+    ghost located: { AreLines scripts.now lines.now },
+    ghost kept: { IsKept machine.now.ended } by { IsKept-prop machine.now.ended },
+}
+
+/// The value of a throw that stands, if one does.
+fn value_of(thrown: Option<Thrown>) -> Option<Value>
+    ensures { result ≡ option_map value_of (standing_throw thrown) }
+{
+    match thrown {
+        Some(thrown) => Some(thrown.value),
+        None => None,
+    }
+}
+
+impl<'m> Debuggee<'m> {
+    /// The active frames of a machine whose run hasn't ended.
+    fn walked(&self, alloc: Global) -> Result<Vec<CallFrame<'m>>, AllocError>
+        requires { self.now.machine.now.ended ≡ None }
+        ensures { IfOk result (λ frames. map frame_of frames.items ≡ walk self.now.scripts.now script_scope (term_of self.now.machine.now) (state_of self.now.machine.now (heap_world self.now.machine.now.names self.now.heap.now) [])) }
+    {
+        let standing = Standing {
+            table: self.machine.table(),
+            names: self.machine.names(),
+            scripts: self.scripts,
+            lines: self.lines,
+            heap: self.heap,
+            root: script_scope(),
+            context: self.machine.context(),
+            stack: self.machine.stack(),
+            point: self.machine.point(),
+        };
+        standing.call_frames(alloc)
+    }
+}
+
+impl Program for Debuggee<'_> {
+    ghost use Rattle.cdp_host.specs.Hosts.{machine_standing};
+
+    ghost standing = { λ d. machine_standing d.scripts.now d.machine.now d.heap.now };
+
+    fn cells(&self) -> ProgramCells<'_> {
+        ProgramCells {
+            heap: self.heap,
+            names: self.machine.names(),
+        }
+    }
+
+    fn call_frames(&self, alloc: Global) -> Result<Vec<CallFrame<'_>>, AllocError> {
+        match self.machine.finished() {
+            Some(_) => Ok(Vec::new(alloc)),
+            None => match self.machine.end() {
+                Some(_) => Ok(Vec::new(alloc)),
+                None => self.walked(alloc),
+            },
+        }
+    }
+
+    fn thrown(&self) -> Option<Value> {
+        value_of(self.machine.thrown())
+    }
+}
