@@ -7,6 +7,7 @@ pub mod StepLemmas
 pub mod RunLemmas
 pub mod AdvanceLemmas
 pub mod StandingLemmas
+pub mod DebuggeeLemmas
 pub mod StartLemmas
 pub mod RuleLemmas
 pub mod HistoryLemmas
