@@ -34,7 +34,7 @@ name_pairs [] = []
 name_pairs (u ∷ us) = (codes "name", text (u ∷ us)) ∷ []
 
 abbrev pub scope_of : ShownScope → Json → Json
-scope_of s object = object_of (name_pairs s.name ++ (codes "object", object) ∷ (codes "type", text (kind_text s.kind)) ∷ [])
+scope_of s described = object_of (name_pairs s.name ++ (codes "object", described) ∷ (codes "type", text (kind_text s.kind)) ∷ [])
 
 abbrev pub scope_made : Sight → ShownScope → handles.State → Made Json
 scope_made s scope h = record { made = scope_of scope (remote_scope s.session (Some backtrace) scope.bindings h).made; handles = (remote_scope s.session (Some backtrace) scope.bindings h).handles }

@@ -5,3 +5,5 @@ pub mod Making
 pub mod Remote
 pub mod Descriptors
 pub mod CallFrames
+pub mod Views
+pub mod Slots

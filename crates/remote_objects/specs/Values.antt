@@ -1,12 +1,11 @@
 -- What a value is described as (Chrome DevTools Protocol 1.3, `Runtime.RemoteObject`), but for the id of its handle.
-use Rattle.std.specs.Prelude.{ℕ, ◌-◌, List, [], ◌∷◌, ◌++◌, length, take, drop, codes, decimal, nat_eq, slice_get, if◌then◌else◌, Option, Some, None}
+use Rattle.std.specs.Prelude.{ℕ, ℤ, Bool, ◌-◌, List, [], ◌∷◌, ◌++◌, length, take, drop, codes, decimal, nat_eq, slice_get, if◌then◌else◌, Option, Some, None}
 use Rattle.std.specs.Fmt.{signed_decimal}
 use Rattle.js_tree.specs.declared.script.Script.{Script}
 use Rattle.js_tree.specs.declared.node.Span.{Span}
 use Rattle.js_tree.specs.Spans.{span_of}
 use Rattle.js_heap.specs.declared.built_in.Code.{Code}
 use Rattle.js_heap.specs.declared.built_in.Code.TheVariants as codes_of
-use Rattle.js_heap.specs.declared.built_in.ErrorClass.{ErrorClass}
 use Rattle.js_heap.specs.declared.cell.Cell.{Cell}
 use Rattle.js_heap.specs.declared.cell.Cell.TheVariants as cells
 use Rattle.js_heap.specs.declared.value.Value.{Value}
@@ -75,11 +74,17 @@ null_pairs = subtyped (codes "null") ++ (codes "type", text (codes "object")) �
 abbrev pub text_pairs : List ℕ → List Pair
 text_pairs units = (codes "type", text (codes "string")) ∷ (codes "value", text units) ∷ []
 
+abbrev pub truth_pairs : Bool → List Pair
+truth_pairs b = (codes "type", text (codes "boolean")) ∷ (codes "value", boolean b) ∷ []
+
+abbrev pub number_pairs : ℤ → List Pair
+number_pairs z = (codes "description", text (signed_decimal z)) ∷ (codes "type", text (codes "number")) ∷ (codes "value", number z) ∷ []
+
 -- a value; what is said of an object is behind its address
 abbrev pub value_pairs : World → List Script → Value → List Pair
 value_pairs w scripts values.Undefined = undefined_pairs
 value_pairs w scripts values.Null = null_pairs
-value_pairs w scripts (values.Bool b) = (codes "type", text (codes "boolean")) ∷ (codes "value", boolean b) ∷ []
-value_pairs w scripts (values.Number z) = (codes "description", text (signed_decimal z)) ∷ (codes "type", text (codes "number")) ∷ (codes "value", number z) ∷ []
+value_pairs w scripts (values.Bool b) = truth_pairs b
+value_pairs w scripts (values.Number z) = number_pairs z
 value_pairs w scripts (values.Text a) = text_pairs (units_at w a)
 value_pairs w scripts (values.Object a) = cell_pairs w scripts (read_cell w a)
