@@ -1,6 +1,8 @@
 -- Ids that are read back.
 use Rattle.std.proofs.Common.{◌≡◌, ◌≢◌, ℕ, suc, ◌+◌, ◌-◌, ◌<◌, ◌^◌, List, [], ◌∷◌, ◌++◌, length, get_or, take, drop, Option, Some, None, decimal, refl, sym, ap, ◌∙◌, arith}
 use Rattle.std.proofs.Common.{length-drop, IfSome, IfNone}
+use Rattle.std.proofs.Common.{Bool, true, false, bytes_eq, if◌then◌else◌, option_and_then}
+use Rattle.std.proofs.lemmas.Slice.Eq.{bytes_eq-Decides}
 use Rattle.std.proofs.lemmas.Bool.{ne_eqb}
 use Rattle.std.proofs.lemmas.Grind.{common_steps}
 use Rattle.std.proofs.lemmas.List.{get_or-take, drop_more, take_all, take-append-drop}
@@ -8,7 +10,7 @@ use Rattle.cdp_text.specs.Decimal.{decimal_value}
 use Rattle.cdp_text.specs.Parts.{Halves, halves}
 use Rattle.cdp_text.proofs.Decimals.{decimal_value-some, decimal_value-decimal}
 use Rattle.cdp_text.proofs.PartsLemmas.{halves-append, halves-decimal, halves-some}
-use Rattle.remote_objects.specs.Ids.{IsObjectId}
+use Rattle.remote_objects.specs.Ids.{IsObjectId, number_behind, number_in_id}
 
 pub no_point : (text : List ℕ) → ((k : ℕ) → k < length text → get_or text k 0 ≢ 46) → halves 46 text ≡ None
 no_point [] lacks = refl
@@ -75,3 +77,34 @@ back_none session text parts (Some n) small is back = tt
 pub if_none : {A : Type 0} {P : Type 0} (r : Option A) → P → IfNone r P
 if_none None p = p
 if_none (Some x) p = tt
+
+-- ---- the number in an id
+
+-- the number of an id is read from it
+id_number : (session : ℕ) (text : List ℕ) (number : ℕ) → session < 2 ^ 64 → IsObjectId session text number → number_in_id session text ≡ Some number
+id_number session text number small id =
+    ap (option_and_then (number_behind session)) (id_halves session text number small id)
+    ∙ (ap (λ b. if b then decimal_value (decimal number) else None) ((bytes_eq-Decides (decimal session) (decimal session)).1 refl)
+    ∙ decimal_value-decimal number id.small)
+
+behind_id : (session : ℕ) (text : List ℕ) (number : ℕ) (parts : Halves) (b : Bool) → halves 46 text ≡ Some parts → bytes_eq parts.front (decimal session) ≡ b
+    → (if b then decimal_value parts.back else None) ≡ Some number → IsObjectId session text number
+behind_id session text number parts true is same read =
+    let front = (bytes_eq-Decides parts.front (decimal session)).0 same in
+    let back = decimal_value-some parts.back number read in
+    record { written = halves-some 46 text parts is ∙ rw (front, back.0) refl; small = back.1 }
+behind_id session text number parts false is same read = cc
+
+halves_id : (session : ℕ) (text : List ℕ) (number : ℕ) (o : Option Halves) → halves 46 text ≡ o → option_and_then (number_behind session) o ≡ Some number → IsObjectId session text number
+halves_id session text number None is read = cc
+halves_id session text number (Some parts) is read = behind_id session text number parts (bytes_eq parts.front (decimal session)) is refl read
+
+none_by : (session : ℕ) (text : List ℕ) (o : Option ℕ) → number_in_id session text ≡ o → ((number : ℕ) → ¬ (IsObjectId session text number)) → None ≡ o
+none_by session text None is none = refl
+none_by session text (Some number) is none = absurd (none number (halves_id session text number (halves 46 text) refl is))
+
+-- what is read by what it means that a text is an id is the number in it
+pub read-value : (session : ℕ) (text : List ℕ) (r : Option ℕ) → session < 2 ^ 64 → IfSome r (λ number. IsObjectId session text number)
+    → IfNone r ((number : ℕ) → ¬ (IsObjectId session text number)) → r ≡ number_in_id session text
+read-value session text None small some none = none_by session text (number_in_id session text) refl none
+read-value session text (Some number) small some none = sym (id_number session text number small some)

@@ -3,6 +3,7 @@
 ghost use Rattle.std.specs.Prelude.{◌≡◌, ◌<◌, ◌^◌, IfOk, IfSome, IfNone, ℕ, option_map};
 ghost use Rattle.cdp_text.specs.Decimal.{decimal_value, digits_number};
 ghost use Rattle.cdp_text.specs.Parts.{halves};
+ghost use Rattle.remote_objects.specs.Ids as ids;
 ghost use Rattle.remote_objects.specs.Ids.{IsObjectId, frame_id, object_id};
 
 use cdp_text::units::{Units, ascii};
@@ -71,8 +72,8 @@ fn halves(text: &[u16]) -> Option<(&[u16], &[u16])>
     None
 }
 
-/// The number of the handle whose id in a session this text is; none where it isn't the id of one. It takes no memory.
-pub fn read_object_id(session: u64, text: &[u16]) -> Option<u64>
+/// The number of the object whose id in a session a text is; none where it isn't the id of one.
+fn number_in_id(session: u64, text: &[u16]) -> Option<u64>
     ensures some { IfSome result (λ number. IsObjectId session text.now number) }
     ensures none { IfNone result ((number : ℕ) → ¬ (IsObjectId session text.now number)) }
 {
@@ -81,4 +82,13 @@ pub fn read_object_id(session: u64, text: &[u16]) -> Option<u64>
         return None;
     }
     number_of(back)
+}
+
+/// The number of the handle whose id in a session a text is; none where it isn't the id of one. It takes no memory.
+pub fn read_object_id(session: u64, text: &[u16]) -> Option<u64>
+    ensures value { result ≡ ids.number_in_id session text.now }
+    ensures some { IfSome result (λ number. IsObjectId session text.now number) }
+    ensures none { IfNone result ((number : ℕ) → ¬ (IsObjectId session text.now number)) }
+{
+    number_in_id(session, text)
 }
