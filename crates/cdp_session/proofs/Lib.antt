@@ -1,4 +1,3 @@
 pub mod OrderedLemmas
 pub mod OutboxLemmas
 pub mod PauseLemmas
-pub mod ObjectLemmas

@@ -1,5 +1,5 @@
 -- The own properties of what a handle stands for (Chrome DevTools Protocol 1.3, `Runtime.PropertyDescriptor`), in the order of ECMA-262, 10.1.11.
-use Rattle.std.specs.Prelude.{ℕ, ◌+◌, Bool, true, false, not, List, [], ◌∷◌, ◌++◌, length, map, codes, decimal, Option, Some, None, pos}
+use Rattle.std.specs.Prelude.{ℕ, ◌+◌, Bool, true, false, not, List, [], ◌∷◌, ◌++◌, map, codes, decimal, Option, Some, None, pos}
 use Rattle.js_heap.specs.declared.cell.Binding.{Binding}
 use Rattle.js_heap.specs.declared.cell.Cell.{Cell}
 use Rattle.js_heap.specs.declared.cell.Cell.TheVariants as cells

@@ -1,5 +1,5 @@
 -- Ids of objects and of frames (Chrome DevTools Protocol 1.3, `Runtime.RemoteObjectId` and `Debugger.CallFrameId`).
-use Rattle.std.specs.Prelude.{◌≡◌, ℕ, ◌^◌, ◌<◌, List, [], ◌∷◌, ◌++◌, bytes_eq, decimal, if◌then◌else◌, Option, Some, None, option_and_then}
+use Rattle.std.specs.Prelude.{◌≡◌, ℕ, ◌^◌, ◌<◌, List, [], ◌∷◌, ◌++◌, bytes_eq, decimal, if◌then◌else◌, Option, None, option_and_then}
 use Rattle.cdp_text.specs.Decimal.{decimal_value}
 use Rattle.cdp_text.specs.Parts.{Halves, halves}
 

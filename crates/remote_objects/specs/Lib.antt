@@ -6,3 +6,4 @@ pub mod Remote
 pub mod Descriptors
 pub mod CallFrames
 pub mod Views
+pub mod Slots

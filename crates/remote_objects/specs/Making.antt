@@ -1,10 +1,10 @@
 -- Handles that are made while something is described.
-use Rattle.std.specs.Prelude.{ℕ, List, [], ◌∷◌, ◌++◌, Option, Some, None, codes}
+use Rattle.std.specs.Prelude.{ℕ, List, [], ◌∷◌, Option, Some, None, codes}
 use Rattle.object_groups.specs.declared.fault.HandleFault.{HandleFault}
 use Rattle.object_groups.specs.declared.handle.Target.{Target}
 use Rattle.object_groups.specs.Handles as handles
 use Rattle.object_groups.specs.Handles.{fault_of, next_number, with_handle}
-use Rattle.cdp_json.specs.Json.{Json, text}
+use Rattle.cdp_json.specs.Json.{text}
 use Rattle.cdp_json.specs.Parts.{Pair}
 use Rattle.remote_objects.specs.Ids.{object_id}
 

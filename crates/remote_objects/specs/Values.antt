@@ -6,7 +6,6 @@ use Rattle.js_tree.specs.declared.node.Span.{Span}
 use Rattle.js_tree.specs.Spans.{span_of}
 use Rattle.js_heap.specs.declared.built_in.Code.{Code}
 use Rattle.js_heap.specs.declared.built_in.Code.TheVariants as codes_of
-use Rattle.js_heap.specs.declared.built_in.ErrorClass.{ErrorClass}
 use Rattle.js_heap.specs.declared.cell.Cell.{Cell}
 use Rattle.js_heap.specs.declared.cell.Cell.TheVariants as cells
 use Rattle.js_heap.specs.declared.value.Value.{Value}

@@ -1,0 +1,3 @@
+pub mod IdLemmas
+pub mod MakingLemmas
+pub mod MemberLemmas

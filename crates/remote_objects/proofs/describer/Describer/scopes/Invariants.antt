@@ -1,0 +1,13 @@
+use Rattle.std.proofs.Common.{drop}
+use Rattle.std.specs.Prelude.{map}
+use Rattle.cdp_json.specs.Views.{json_view}
+use Rattle.call_frames.specs.Views.{scope_of}
+use Rattle.remote_objects.specs.CallFrames.{scopes_made}
+use Rattle.remote_objects.specs.Views.{sight_of}
+use Rattle.remote_objects.proofs.MakingLemmas.{Goes}
+use Rattle.remote_objects.proofs.describer.Describer.scopes.Given as goal
+
+abbrev pub invariant-loop-i : goal.invariant-loop-i
+invariant-loop-i g l =
+    let sight = sight_of (g.W.World.world l.self.names.now l.self.world.now) l.self.scripts.now l.self.session in
+    Goes (map json_view l.listed.items) (scopes_made sight (map scope_of (drop l.i l.scopes)) l.handles) (scopes_made sight (map scope_of l.scopes) l.fn.handles)

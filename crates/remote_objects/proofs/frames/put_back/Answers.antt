@@ -1,0 +1,13 @@
+use Rattle.std.specs.Prelude.{codes, map}
+use Rattle.std.proofs.lemmas.Result.{on_ok_weaker}
+use Rattle.cdp_json.specs.Json.{text}
+use Rattle.cdp_json.specs.Parts.{list_of}
+use Rattle.cdp_json.specs.Views.{json_view, member_view}
+use Rattle.remote_objects.proofs.MemberLemmas.{three_put}
+use Rattle.remote_objects.proofs.frames.put_back.Goals as goal
+
+pub returns : goal.returns
+returns c =
+    on_ok_weaker c.put-3.result (λ e. three_put (map member_view c.args.members.now.items) (map member_view c.put.new.members.items) (map member_view c.put-2.new.members.items) (map member_view c.put-3.new.members.items)
+    (codes "scopeChain") (codes "this") (codes "url") (json_view c.list.result) (json_view c.args.receiver) (json_view c.in_ok-url.url) (list_of (map json_view c.args.scopes.items)) (text c.args.url.now)
+    c.list.ensures c.in_ok-url.ensures c.in_ok-put.ensures c.in_ok-put-2.ensures e) c.put-3.ensures

@@ -1,0 +1,30 @@
+-- Properties as they are made in the code.
+use Rattle.std.specs.Prelude.{ℕ, List, Bool, true, not}
+use Rattle.js_heap.specs.declared.value.Value.{Value}
+use Rattle.js_world.specs.Names.{name_of}
+use Rattle.js_world.specs.declared.stored.Slot.{Slot as StoredSlot}
+use Rattle.cdp_json.specs.Json.{Json}
+use Rattle.remote_objects.specs.declared.slots.Flags.{Flags}
+use Rattle.remote_objects.specs.Descriptors.{Content, a_value, a_text, Slot, descriptor_of, binding_slots}
+
+-- a property of this name and content with its flags
+abbrev pub slot_with : List ℕ → Content → Flags → Slot
+slot_with name content flags = record { name = name; content = content; writable = flags.writable; enumerable = flags.enumerable; configurable = flags.configurable }
+
+-- what a property is described as, whatever it holds is described as
+abbrev pub described : List ℕ → Flags → Json → Json
+described name flags value = descriptor_of (slot_with name (a_text name) flags) value
+
+abbrev pub value_slot : List ℕ → Value → Flags → Slot
+value_slot name value flags = slot_with name (a_value value) flags
+
+abbrev pub text_slot : List ℕ → List ℕ → Flags → Slot
+text_slot name units flags = slot_with name (a_text units) flags
+
+-- a name of a scope that has a value
+abbrev pub bound_slot : List ℕ → Bool → Value → Slot
+bound_slot name constant value = record { name = name; content = a_value value; writable = not constant; enumerable = true; configurable = true }
+
+-- those of a name whose text a table has
+abbrev pub slots_at : List (List ℕ) → StoredSlot → List Slot
+slots_at names s = binding_slots (name_of names s.name.number) s.constant s.value

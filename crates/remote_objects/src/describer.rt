@@ -1,0 +1,17 @@
+//! What values are described by.
+
+use js_tree::script::Script;
+use js_world::names::Names;
+use js_world::world::World;
+use std::alloc::Global;
+
+/// What values are described by: the world that they are of with its table of names, the scripts that its functions are of,
+/// and the number of the session that they are described for.
+#[derive(Clone, Copy)]
+pub struct Describer<'w, W: World> {
+    pub alloc: Global,
+    pub world: &'w W,
+    pub names: &'w Names,
+    pub scripts: &'w [Script],
+    pub session: u64,
+}

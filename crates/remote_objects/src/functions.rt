@@ -1,0 +1,68 @@
+//! The sources of functions.
+
+ghost use Rattle.std.specs.Prelude.{◌≡◌, IfOk, option_copied};
+ghost use Rattle.remote_objects.specs.Values as values;
+
+use cdp_text::units::Units;
+use js_heap::built_in::Code;
+use js_tree::node::{NodeId, Span};
+use js_tree::script::Script;
+use js_values::text::quoted;
+use std::alloc::{AllocError, Global};
+
+/// The units of a span.
+fn units_in(span: Span, units: &[u16]) -> &[u16]
+    ensures { result.now ≡ values.units_in span units.now }
+{
+    let end = span.end.min(units.len());
+    if span.start < end {
+        &units[span.start..end]
+    } else {
+        &[]
+    }
+}
+
+/// The source of a node of a script; of no script it is empty.
+fn node_source(script: Option<&Script>, node: u32) -> &[u16]
+    ensures { result.now ≡ values.node_source (option_copied script.entry) node }
+{
+    match script {
+        None => &[],
+        Some(script) => units_in(script.spans.of(NodeId(node)), script.source.as_slice()),
+    }
+}
+
+/// The script of a number; scripts are counted from 1.
+pub(crate) fn numbered(scripts: &[Script], number: u32) -> Option<&Script>
+    ensures { option_copied result ≡ values.numbered scripts.now number }
+{
+    if number == 0 {
+        return None;
+    }
+    scripts.get(number as usize - 1)
+}
+
+/// What is shown of a function without a source (ECMA-262, 20.2.3.5).
+fn native_text(alloc: Global, name: &[u16]) -> Result<Units, AllocError>
+    ensures { IfOk result (λ shown. shown ≡ values.native_text name.now) }
+{
+    quoted(alloc, b"function ", name, b"() { [native code] }")
+}
+
+/// The source of a function: that of its node. An evaluation's functions are of no script.
+pub(crate) fn function_text(
+    alloc: Global,
+    scripts: &[Script],
+    code: Code,
+    name: &[u16],
+) -> Result<Units, AllocError>
+    ensures { IfOk result (λ shown. shown ≡ values.function_text scripts.now code name.now) }
+{
+    match code {
+        Code::Script { number, node } => {
+            Units::from_slice(alloc, node_source(numbered(scripts, number), node))
+        }
+        Code::Kept { .. } => Units::from_slice(alloc, &[]),
+        Code::BuiltIn(_) => native_text(alloc, name),
+    }
+}

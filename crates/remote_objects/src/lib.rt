@@ -1,0 +1,17 @@
+//! Values as remote objects (Chrome DevTools Protocol 1.3, `Runtime.RemoteObject`), with handles where they are objects: of a
+//! value, of the own properties of what a handle stands for, and of the active frames with their scopes.
+#![tactic(auto)]
+
+mod describer;
+mod descriptors;
+mod frames;
+mod functions;
+mod ids;
+mod members;
+mod remote;
+mod slots;
+mod values;
+
+pub use describer::Describer;
+pub use frames::backtrace;
+pub use ids::read_object_id;
