@@ -151,10 +151,10 @@ unnamed-keep g (suc j) scripts m n keeps ready below =
     let unnamed = sym (step-paused scripts (after_steps scripts j m)) ∙ sym (ap is_paused now) ∙ ready-paused (after_steps scripts (suc j) m) (ready (suc j) below) in
     ap g now ∙ keeps (after_steps scripts j m) unnamed ∙ unnamed-keep g j scripts m n keeps ready (omega arith)
 
-session_kept : Meaning Run → Option Session
+abbrev session_kept : Meaning Run → Option Session
 session_kept k = k.session
 
-stops_kept : Meaning Run → ℕ
+abbrev stops_kept : Meaning Run → ℕ
 stops_kept k = k.stops
 
 -- so is the session

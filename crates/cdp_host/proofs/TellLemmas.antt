@@ -1,5 +1,5 @@
 -- A refused command changes only the texts that wait for its session.
-use Rattle.std.proofs.Common.{◌≡◌, ℕ, List, [], ◌∷◌, refl, ap, sym, ◌∙◌, Option, Some, None}
+use Rattle.std.proofs.Common.{◌≡◌, ℕ, List, [], ◌∷◌, Bool, true, false, refl, ap, sym, ◌∙◌, Option, Some, None}
 use Rattle.std.proofs.lemmas.Option.{same_Some}
 use Rattle.js_tree.specs.declared.script.Script.{Script}
 use Rattle.cdp_json.specs.Messages.{refusal_text}
@@ -34,3 +34,8 @@ refused-told {A = A} stands scripts m y z stop x text id refusal had session pau
     let f : Option Pause → Session → Meaning A = λ o v. record { program = m.program; stop = o; stops = m.stops; attached = m.attached; session = Some v } in
     ap (λ o. f o z) (paused ∙ ap (stop_told m.stop) answer ∙ quiet_stop m.stop told)
     ∙ ap (f m.stop) (session ∙ ap (session_told m.stop) answer ∙ quiet_session m.stop told)
+
+-- a host with a session isn't broken
+pub works-attached : (broken : Bool) (o : Option Session) (x : Session) → (broken ≡ true → o ≡ None) → o ≡ Some x → broken ≡ false
+works-attached true o x alone is = let none = alone refl in absurd cc
+works-attached false o x alone is = refl

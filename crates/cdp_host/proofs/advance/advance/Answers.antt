@@ -8,7 +8,7 @@ use Rattle.cdp_host.specs.Meaning.{next_number, stopping}
 use Rattle.cdp_host.proofs.AdvanceLemmas.{meant-made}
 use Rattle.cdp_host.proofs.advance.advance.Goals as goal
 
-here : List Script → Machine → Heap → Situation
+abbrev here : List Script → Machine → Heap → Situation
 here scripts m h = stopping scripts (machine_standing scripts m h)
 
 pub returns-clause-made : goal.returns-clause-made
@@ -18,7 +18,7 @@ returns-clause-made c = λ taken attached.
     (c.in_ok-steps.ensures.advances taken) c.in_ok-steps.ensures.kept
     (c.in_ok-stopped.ensures.stopped ∙ ap (λ a. depth_of a c.args.session.now) c.arrival_of-arrival.ensures)
     (c.in_ok-stopped.ensures.session
-    ∙ ap (λ n. session_behind (here c.args.scripts.now c.make_steps_and_print.new.machine c.make_steps_and_print.new.heap) n c.arrival_of-arrival.arrival c.args.session.now) c.next_number.ensures
+    ∙ ap (λ n. session_behind (here c.args.scripts.now c.make_steps_and_print.new.machine c.make_steps_and_print.new.heap) n c.arrival_of-arrival.result c.args.session.now) c.next_number.ensures
     ∙ ap (λ a. session_behind (here c.args.scripts.now c.make_steps_and_print.new.machine c.make_steps_and_print.new.heap) (next_number c.args.stops) a c.args.session.now) c.arrival_of-arrival.ensures)
 
 pub returns-clause-counts : goal.returns-clause-counts

@@ -52,7 +52,7 @@ returns-in-Ok-clause-made c = λ taken.
     let a = c.self.inside in
     let ready = ap (λ h. is_ready (meaning_with h [])) c.self.view_is ∙ c.requires.ready [] in
     let paused = (ready-machine a.machine a.heap a.stop a.stops a.attached a.session [] ready).0 in
-    rw (← c.self.view_is, c.pause_from-self-inside.ensures, c.stops_from-self-inside.ensures) (made-unpaused a.scripts.items _ a.machine a.heap a.stop a.stops a.attached a.session (taken ++ c.args.printed.now.items) _ _ c.as_slice.ensures.value paused (c.in-Ok.ensures.made taken a.stops a.attached))
+    rw (← c.self.view_is, c.pause_from-self-inside.ensures, c.stops_from-self-inside.ensures) (made-unpaused a.scripts.items _ a.machine a.heap a.stop a.stops a.attached a.session (taken ++ c.args.printed.now.items) _ _ c.as_slice.ensures.value paused (c.in-Ok.ensures.made taken a.attached))
 
 pub returns-in-Ok-clause-counts : goal.returns-in-Ok-clause-counts
 returns-in-Ok-clause-counts c = c.in-Ok.ensures.counts
