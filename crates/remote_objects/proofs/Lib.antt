@@ -1,3 +1,4 @@
+pub mod DescribedLemmas
 pub mod IdLemmas
 pub mod MakingLemmas
 pub mod MemberLemmas

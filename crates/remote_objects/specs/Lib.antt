@@ -7,3 +7,4 @@ pub mod Descriptors
 pub mod CallFrames
 pub mod Views
 pub mod Slots
+pub mod Laws

@@ -7,6 +7,7 @@ mod descriptors;
 mod frames;
 mod functions;
 mod ids;
+pub mod laws;
 mod members;
 mod remote;
 mod slots;

@@ -1,0 +1,20 @@
+-- What the descriptors of a list of properties are.
+use Rattle.std.proofs.Common.{◌≡◌, ℕ, List, [], ◌∷◌, Option, refl, ap}
+use Rattle.std.specs.Prelude.{map}
+use Rattle.js_heap.specs.declared.cell.Property.{Property}
+use Rattle.object_groups.specs.Handles.{State}
+use Rattle.remote_objects.specs.Sights.{Sight}
+use Rattle.remote_objects.specs.Making.{made_all}
+use Rattle.remote_objects.specs.Descriptors.{Slot, slots_of, content_made, descriptor, property_slot}
+use Rattle.remote_objects.specs.Laws.{AreDescriptors, DescribesEach, slot_name, key_of}
+
+described-each : (s : Sight) (group : Option (List ℕ)) (ps : List Slot) (h : State) → AreDescriptors ps (made_all (descriptor s group) ps h).made
+described-each s group [] h = tt
+described-each s group (p ∷ ps) h = (((content_made s group p.content h).made, refl), described-each s group ps (descriptor s group p h).handles)
+
+pub describes-each : DescribesEach
+describes-each s group target h = described-each s group (slots_of s.world target) h
+
+pub names-keys : (ps : List Property) → map slot_name (map property_slot ps) ≡ map key_of ps
+names-keys [] = refl
+names-keys (p ∷ ps) = ap (λ ks. p.key ∷ ks) (names-keys ps)

@@ -1,0 +1,13 @@
+//! The laws of descriptors. Each function does nothing: its contract is the law.
+
+ghost use Rattle.remote_objects.specs.Laws.{DescribesEach, NamesAreKeys};
+
+/// Each property of a target is described once, in order.
+pub fn each_property_is_described()
+    ensures { DescribesEach }
+{}
+
+/// The properties of an object are named by its own keys, in order.
+pub fn own_keys_are_the_names()
+    ensures { NamesAreKeys }
+{}
