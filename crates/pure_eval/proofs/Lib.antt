@@ -1,0 +1,2 @@
+pub mod EvaluatedLemmas
+pub mod LiteralLemmas

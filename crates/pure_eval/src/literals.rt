@@ -1,0 +1,35 @@
+//! The cells of string literals.
+
+ghost use Rattle.std.specs.Prelude.{List, ℕ};
+ghost use Rattle.js_heap.specs.declared.cell.Cell.TheVariants as cells;
+ghost use Rattle.js_heap.specs.World.{make_cell};
+ghost use Rattle.js_semantics.specs.Evaluation.{make_literals};
+ghost use Rattle.js_world.specs.Calls.{Tries};
+
+use cdp_text::units::Units;
+use js_heap::value::Addr;
+use js_world::stored::Stored;
+use js_world::world::{Refused, World};
+use std::alloc::Global;
+
+/// The cell of a text.
+fn make_text<W: World>(alloc: Global, world: &mut W, units: &Units) -> Result<Addr, Refused>
+    ensures { (names : List (List ℕ)) → Tries (make_cell (W.world names world.old) (cells.Text units.now)) result (W.world names world.new) }
+{
+    let units = Units::from_slice(alloc, units.as_slice())?;
+    world.make(Stored::Text { units })
+}
+
+/// The cells of string literals, in order.
+pub fn make_literals<W: World>(
+    alloc: Global,
+    world: &mut W,
+    literals: &[Units],
+) -> Result<(), Refused>
+    ensures { (names : List (List ℕ)) → Tries (make_literals (W.world names world.old) literals.now) result (W.world names world.new) }
+{
+    for i in 0..literals.len() {
+        make_text(alloc, world, &literals[i])?;
+    }
+    Ok(())
+}
