@@ -25,7 +25,7 @@ use Rattle.js_steps.specs.Stepping.{finish_of, StandsIn}
 use Rattle.js_steps.proofs.RunLemmas.{at-open}
 use Rattle.pure_eval.specs.declared.evaluated.Evaluated.{Evaluated}
 use Rattle.pure_eval.specs.declared.evaluated.Evaluated.TheVariants as ends
-use Rattle.pure_eval.specs.Answering.{Answers, finished, end_of, end_at}
+use Rattle.pure_eval.specs.Answering.{Answers, EndsIn, finished, end_of, end_at}
 
 -- ---- runs one after another
 
@@ -83,6 +83,44 @@ pub end-answers : (j left most : ℕ) (p : Program) (a : Addr) (r first : Run) (
 end-answers j left most p a r first why t s e inv h g i =
     let P : Run → Type 0 = λ x. Answers (answer_of x) e s.world in
     subst P inv (end_answers j left p a r why t s e h g i)
+
+-- ---- the world behind it
+
+over_ends : (j k : ℕ) (p : Program) (a : Addr) (r : Run) (f : AnyFinish) (s : State) (e : Evaluated) → j ≤ k → steps_in j p a r ≡ over f s → EndsIn (over f s) e s.world → EndsIn (steps_in k p a r) e s.world
+over_ends j k p a r f s e h g i =
+    let P : Run → Type 0 = λ x. EndsIn x e s.world in
+    subst P (sym (then_left j k (k - j) p a r (over f s) h refl g ∙ over_stays (k - j) p a f s)) i
+
+finished_ends : (f : Finish) (s : State) → EndsIn (over (finish_of f) s) (finished f) s.world
+finished_ends (finishes.Ended v) s = refl
+finished_ends (finishes.Threw v place) s = refl
+
+end_ends : (j k : ℕ) (p : Program) (a : Addr) (r : Run) (why : Why) (t : Term) (s : State) (e : Evaluated) → j ≤ k → RunsTo (steps_in j p a r) why t s → end_of why ≡ Some e → EndsIn (steps_in k p a r) e s.world
+end_ends j k p a r (whys.Over f) t s e h g i =
+    let q : finished f ≡ e = cc in
+    let P : Evaluated → Type 0 = λ x. EndsIn (steps_in k p a r) x s.world in
+    subst P q (over_ends j k p a r (finish_of f) s (finished f) h g (finished_ends f s))
+end_ends j k p a r whys.Effect t s e h g i =
+    let q : ends.Effect ≡ e = cc in
+    let P : Evaluated → Type 0 = λ x. EndsIn (steps_in k p a r) x s.world in
+    subst P q (over_ends j k p a r _ s ends.Effect h g refl)
+end_ends j k p a r (whys.Full what) t s e h g i =
+    let q : ends.Full what ≡ e = cc in
+    let P : Evaluated → Type 0 = λ x. EndsIn (steps_in k p a r) x s.world in
+    subst P q (over_ends j k p a r _ s (ends.Full what) h g refl)
+end_ends j k p a r whys.Memory t s e h g i =
+    let q : ends.Memory ≡ e = cc in
+    let P : Evaluated → Type 0 = λ x. EndsIn (steps_in k p a r) x s.world in
+    subst P q tt
+end_ends j k p a r whys.Asked t s e h g i = absurd cc
+end_ends j k p a r whys.Spent t s e h g i = absurd cc
+end_ends j k p a r whys.Raised t s e h g i = absurd cc
+end_ends j k p a r (whys.Printed vs) t s e h g i = absurd cc
+
+pub end-ends : (j left most : ℕ) (p : Program) (a : Addr) (r first : Run) (why : Why) (t : Term) (s : State) (e : Evaluated) → steps_in left p a r ≡ steps_in most p a first → j ≤ left → RunsTo (steps_in j p a r) why t s → end_of why ≡ Some e → EndsIn (steps_in most p a first) e s.world
+end-ends j left most p a r first why t s e inv h g i =
+    let P : Run → Type 0 = λ x. EndsIn x e s.world in
+    subst P inv (end_ends j left p a r why t s e h g i)
 
 -- ---- going on
 
@@ -148,6 +186,28 @@ spent-answers left most p a first ts t ws q s end inv z h k =
     let e : r ≡ steps_in left p a r = ap (λ n. steps_in n p a r) (sym z) in
     subst Q (sym k) (subst P (e ∙ inv) (at_end ts t ws q s h))
 
+run_world : (t : Term) (s : State) (q : Point) → EndsIn (run_of t s) (end_at q) s.world
+run_world (done v) s points.Row = refl
+run_world (done v) s (points.Leaf n) = refl
+run_world (done v) s (points.Stands u place) = refl
+run_world (done v) s (points.Done u) = refl
+run_world (standing v place) s points.Row = refl
+run_world (standing v place) s (points.Leaf n) = refl
+run_world (standing v place) s (points.Stands u spot) = refl
+run_world (standing v place) s (points.Done u) = refl
+run_world (part f now later) s points.Row = refl
+run_world (part f now later) s (points.Leaf n) = refl
+run_world (part f now later) s (points.Stands u place) = refl
+run_world (part f now later) s (points.Done u) = refl
+
+pub spent-ends : (left most : ℕ) (p : Program) (a : Addr) (first : Run) (t : Term) (q : Point) (s : State) (end : Evaluated) → steps_in left p a (run_of t s) ≡ steps_in most p a first → left ≡ 0 → end ≡ end_at q → EndsIn (steps_in most p a first) end s.world
+spent-ends left most p a first t q s end inv z k =
+    let r : Run = run_of t s in
+    let P : Run → Type 0 = λ x. EndsIn x (end_at q) s.world in
+    let Q : Evaluated → Type 0 = λ x. EndsIn (steps_in most p a first) x s.world in
+    let e : r ≡ steps_in left p a r = ap (λ n. steps_in n p a r) (sym z) in
+    subst Q (sym k) (subst P (e ∙ inv) (run_world t s q))
+
 pub no-end : (o : Option Evaluated) → ((e : Evaluated) → o ≡ Some e → ⊥) → o ≡ None
 no-end None h = refl
 no-end (Some e) h = absurd (h e refl)
@@ -179,3 +239,15 @@ steps_from n p a ts t old x y c receiver w v r e f g h =
 
 pub node-answers : (p : Program) (a : Addr) (ts : List (List ℕ)) (t : NodeTable) (old : List Wide) (x y : Term) (c : Context) (receiver : Value) (w v : World) (r : Evaluated) → old ≡ [] → resettled (gaps_of ts t old) x ≡ y → c ≡ bare_context receiver → Answers (answer_of (steps_in budget p a (run_of y (state_of w c [])))) r v → Answers (evaluated p a receiver w x) r v
 node-answers p a ts t old x y c receiver w v r e f g h = steps_from budget p a ts t old x y c receiver w v r e f g h
+
+world_from : (n : ℕ) (p : Program) (a : Addr) (ts : List (List ℕ)) (t : NodeTable) (old : List Wide) (x y : Term) (c : Context) (receiver : Value) (w v : World) (r : Evaluated) → old ≡ [] → resettled (gaps_of ts t old) x ≡ y → c ≡ bare_context receiver → EndsIn (steps_in n p a (run_of y (state_of w c []))) r v → EndsIn (steps_in n p a (run_of x (evaluation_state w receiver))) r v
+world_from n p a ts t old x y c receiver w v r e f g h =
+    let P : Context → Type 0 = λ d. EndsIn (steps_in n p a (run_of y (state_of w d []))) r v in
+    let Q : List Wide → Type 0 = λ ws. resettled (gaps_of ts t ws) x ≡ y in
+    let k : x ≡ y = (let k' : resettled (gaps_of ts t []) x ≡ y = subst Q e f in k') in
+    let R : Term → Type 0 = λ z. EndsIn (steps_in n p a (run_of z (evaluation_state w receiver))) r v in
+    let m : R y = subst P g h in
+    subst R (sym k) m
+
+pub node-world : (p : Program) (a : Addr) (ts : List (List ℕ)) (t : NodeTable) (old : List Wide) (x y : Term) (c : Context) (receiver : Value) (w v : World) (r : Evaluated) → old ≡ [] → resettled (gaps_of ts t old) x ≡ y → c ≡ bare_context receiver → EndsIn (steps_in budget p a (run_of y (state_of w c []))) r v → EndsIn (steps_in budget p a (run_of x (evaluation_state w receiver))) r v
+node-world p a ts t old x y c receiver w v r e f g h = world_from budget p a ts t old x y c receiver w v r e f g h

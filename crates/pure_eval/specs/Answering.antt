@@ -1,6 +1,7 @@
 -- What an evaluation answers.
 use Rattle.std.specs.Prelude.{◌≡◌, Option, None, Some}
 use Rattle.js_heap.specs.World.{World}
+use Rattle.js_semantics.specs.Run.{Run, state_of}
 use Rattle.js_semantics.specs.Evaluation.{Answer, a_result, a_throw, an_effect, is_full_of, spent}
 use Rattle.js_steps.specs.declared.run.Why.{Why}
 use Rattle.js_steps.specs.declared.run.Why.TheVariants as whys
@@ -19,6 +20,11 @@ Answers a ends.Effect w = a ≡ an_effect
 Answers a (ends.Full what) w = a ≡ is_full_of what
 Answers a ends.Spent w = a ≡ spent
 Answers a ends.Memory w = Unit {0}
+
+-- the world is that of the run; want of memory says nothing
+abbrev pub EndsIn : Run → Evaluated → World → Type 0
+EndsIn r ends.Memory w = Unit {0}
+EndsIn r e w = (state_of r).world ≡ w
 
 -- how an evaluation ends whose run does
 abbrev pub finished : Finish → Evaluated

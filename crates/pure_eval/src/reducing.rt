@@ -1,7 +1,7 @@
 //! The steps of an evaluation, in any world.
 
 ghost use Rattle.std.specs.Prelude.{◌≡◌, ℕ, List};
-ghost use Rattle.js_semantics.specs.Evaluation.{answer_of, evaluated};
+ghost use Rattle.js_semantics.specs.Evaluation.{answer_of, budget, evaluated, evaluation_state};
 ghost use Rattle.js_semantics.specs.Run.{steps_in, run_of};
 ghost use Rattle.js_semantics.specs.Terms.{settle};
 ghost use Rattle.js_operations.specs.Contexts.{state_of};
@@ -9,7 +9,7 @@ ghost use Rattle.js_code.specs.Codes.{HasFunctions};
 ghost use Rattle.js_code.specs.Trees.{tree, program_of, IsTable};
 ghost use Rattle.js_steps.specs.Points.{term_at};
 ghost use Rattle.js_steps.specs.Stepping.{StandsIn};
-ghost use Rattle.pure_eval.specs.Answering.{Answers};
+ghost use Rattle.pure_eval.specs.Answering.{Answers, EndsIn};
 
 use crate::evaluated::{Evaluated, end_at, end_of};
 use js_code::table::NodeTable;
@@ -57,7 +57,8 @@ fn run_on<T: Rows, W: World>(
     requires table { IsTable table.now }
     requires functions { HasFunctions table.now }
     requires stands { StandsIn table.now root stack.old point.old }
-    ensures { (taken : List (List ℕ)) → Answers (answer_of (steps_in most (program_of names.now table.now) root (run_of (term_at names.now table.now stack.old point.old) (state_of (W.world names.now world.old) context.old taken)))) result (W.world names.now world.new) }
+    ensures answer { (taken : List (List ℕ)) → Answers (answer_of (steps_in most (program_of names.now table.now) root (run_of (term_at names.now table.now stack.old point.old) (state_of (W.world names.now world.old) context.old taken)))) result (W.world names.now world.new) }
+    ensures world { (taken : List (List ℕ)) → EndsIn (steps_in most (program_of names.now table.now) root (run_of (term_at names.now table.now stack.old point.old) (state_of (W.world names.now world.old) context.old taken))) result (W.world names.now world.new) }
 {
     let mut left = most;
     while left > 0 {
@@ -84,7 +85,9 @@ pub fn evaluate_node<T: Rows, W: World>(
 ) -> Evaluated
     requires table { IsTable table.now }
     requires functions { HasFunctions table.now }
-    ensures { Answers (evaluated (program_of names.now table.now) scope receiver (W.world names.now world.old) (settle (tree names.now table.now node))) result (W.world names.now world.new) }
+    ensures answer { Answers (evaluated (program_of names.now table.now) scope receiver (W.world names.now world.old) (settle (tree names.now table.now node))) result (W.world names.now world.new) }
+    // The world is that behind the definition's steps.
+    ensures world { EndsIn (steps_in budget (program_of names.now table.now) scope (run_of (settle (tree names.now table.now node)) (evaluation_state (W.world names.now world.old) receiver))) result (W.world names.now world.new) }
 {
     let mut context = Context::bare(alloc, receiver);
     let mut stack = Stack::new(alloc);
