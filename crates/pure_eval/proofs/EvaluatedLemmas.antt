@@ -6,8 +6,8 @@ use Rattle.js_heap.specs.World.{World}
 use Rattle.js_semantics.specs.Terms.{Term, done, standing, part, is_done}
 use Rattle.js_semantics.specs.State.{State}
 use Rattle.js_semantics.specs.Functions.{Program}
-use Rattle.js_semantics.specs.Evaluation.{Answer, answer_of, budget, evaluation_state, evaluated}
-use Rattle.js_semantics.specs.Run.{Finish as AnyFinish, Run, running, over, run_of, step_in, steps_in}
+use Rattle.js_semantics.specs.Evaluation.{answer_of, budget, evaluation_state, evaluated}
+use Rattle.js_semantics.specs.Run.{Finish as AnyFinish, Run, over, run_of, step_in, steps_in}
 use Rattle.js_operations.specs.Contexts.{Context, state_of, bare_context}
 use Rattle.js_code.specs.declared.table.NodeTable.{NodeTable}
 use Rattle.js_code.specs.Trees.{program_of}

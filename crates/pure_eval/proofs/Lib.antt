@@ -1,2 +1,3 @@
 pub mod EvaluatedLemmas
 pub mod LiteralLemmas
+pub mod ProgramLemmas

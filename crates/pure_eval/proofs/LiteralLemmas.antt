@@ -1,9 +1,8 @@
 -- Making the cells of string literals, one after another.
-use Rattle.std.proofs.Common.{◌≡◌, ℕ, zero, suc, ◌+◌, ◌<◌, ◌≤◌, List, [], ◌∷◌, length, drop, get_or, Ok, Err, Result, refl, sym, ap, subst, ◌∙◌, arith}
+use Rattle.std.proofs.Common.{◌≡◌, ℕ, zero, suc, ◌+◌, ◌<◌, ◌≤◌, List, [], ◌∷◌, length, drop, get_or, Err, Result, sym, ap, subst, ◌∙◌, arith}
 use Rattle.std.proofs.lemmas.List.{drop_all}
 use Rattle.js_heap.specs.declared.value.Addr.{Addr}
 use Rattle.js_heap.specs.declared.cell.Cell.TheVariants as cells
-use Rattle.js_heap.specs.declared.change.Counted.{Counted}
 use Rattle.js_heap.specs.World.{World, Tried, fine, effect, full, make_cell}
 use Rattle.js_semantics.specs.Evaluation.{after_try, make_literals}
 use Rattle.js_world.specs.declared.world.Refused.{Refused}

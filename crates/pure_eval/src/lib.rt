@@ -2,5 +2,6 @@
 #![tactic(auto)]
 
 pub mod evaluated;
+pub mod laws;
 pub mod literals;
 pub mod reducing;
