@@ -1,3 +1,4 @@
 pub mod EvaluatedLemmas
+pub mod LeavingLemmas
 pub mod LiteralLemmas
 pub mod ProgramLemmas

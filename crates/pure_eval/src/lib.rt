@@ -5,3 +5,4 @@ pub mod evaluated;
 pub mod laws;
 pub mod literals;
 pub mod reducing;
+pub mod session;
