@@ -1,9 +1,11 @@
 -- Making the cells of string literals, one after another.
-use Rattle.std.proofs.Common.{◌≡◌, ℕ, zero, suc, ◌+◌, ◌<◌, ◌≤◌, List, [], ◌∷◌, length, drop, get_or, Err, Result, sym, ap, subst, ◌∙◌, arith}
+use Rattle.std.proofs.Common.{◌≡◌, ℕ, zero, suc, ◌+◌, ◌<◌, ◌≤◌, List, [], ◌∷◌, length, drop, get_or, Err, Result, refl, sym, ap, subst, ◌∙◌, arith}
 use Rattle.std.proofs.lemmas.List.{drop_all}
 use Rattle.js_heap.specs.declared.value.Addr.{Addr}
 use Rattle.js_heap.specs.declared.cell.Cell.TheVariants as cells
 use Rattle.js_heap.specs.World.{World, Tried, fine, effect, full, make_cell}
+use Rattle.js_heap.specs.Worlds.{Keeps, AfterFine}
+use Rattle.js_heap.proofs.KeepLemmas.{keeps-same, keeps-trans, making-keeps}
 use Rattle.js_semantics.specs.Evaluation.{after_try, make_literals}
 use Rattle.js_world.specs.declared.world.Refused.{Refused}
 use Rattle.js_world.specs.declared.world.Refused.TheVariants.{Effect, Full, Memory}
@@ -43,3 +45,22 @@ made-refused xs i x w v u e r h g inv q k =
 -- all are made
 pub all-made : (xs : List (List ℕ)) (i : ℕ) (w v : World) → length xs ≤ i → make_literals v (drop i xs) ≡ make_literals w xs → make_literals w xs ≡ fine tt v
 all-made xs i w v h inv = sym inv ∙ ap (make_literals v) (drop_all i xs h)
+
+-- ---- the loop
+
+-- the literals from a place on are still to be made
+pub record MakesOn (w : World) (xs : List (List ℕ)) (i : ℕ) (v : World) : Type 0 where
+  pub rest : make_literals v (drop i xs) ≡ make_literals w xs
+  pub keeps : Keeps w v
+
+pub makes-first : (w : World) (xs : List (List ℕ)) → MakesOn w xs 0 w
+makes-first w xs = record { rest = refl; keeps = keeps-same w }
+
+made_keeps : (v u : World) (c : _) (a : Addr) → make_cell v c ≡ fine a u → Keeps v u
+made_keeps v u c a e =
+    let P : Tried Addr → Type 0 = λ t. AfterFine t (λ b z. Keeps v z) in
+    let k : P (fine a u) = subst P e (making-keeps v c) in
+    k
+
+pub makes-next : (xs : List (List ℕ)) (i : ℕ) (x : List ℕ) (a : Addr) (w v u : World) → MakesOn w xs i v → i < length xs → x ≡ get_or xs i x → make_cell v (cells.Text x) ≡ fine a u → MakesOn w xs (i + 1) u
+makes-next xs i x a w v u m h e f = record { rest = next-made xs i x a w v u h e m.rest f; keeps = keeps-trans w v u m.keeps (made_keeps v u (cells.Text x) a f) }

@@ -1,6 +1,8 @@
 use Rattle.std.proofs.Common.{◌≡◌, ℕ, List, drop}
+use Rattle.js_heap.specs.Worlds.{Keeps}
 use Rattle.js_semantics.specs.Evaluation.{make_literals}
+use Rattle.pure_eval.proofs.LiteralLemmas.{MakesOn}
 use Rattle.pure_eval.proofs.literals.make_literals.Given as goal
 
 abbrev pub invariant-loop-i : goal.invariant-loop-i
-invariant-loop-i g l = (names : List (List ℕ)) → make_literals (g.W.World.world names l.world) (drop l.i l.literals) ≡ make_literals (g.W.World.world names l.fn.world) l.literals
+invariant-loop-i g l = (names : List (List ℕ)) → MakesOn (g.W.World.world names l.fn.world) l.literals l.i (g.W.World.world names l.world)
