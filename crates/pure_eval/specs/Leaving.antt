@@ -1,8 +1,11 @@
 -- What an evaluation leaves of its session's cells.
-use Rattle.std.specs.Prelude.{◌≡◌, ℕ, ◌≤◌, length, take, Some}
-use Rattle.js_heap.specs.World.{World}
+use Rattle.std.specs.Prelude.{◌≡◌, ℕ, ◌≤◌, List, length, take, Some}
+use Rattle.js_heap.specs.World.{World, Tried, fine}
 use Rattle.js_heap.specs.ScratchSpaces.{ScratchSpace}
-use Rattle.js_semantics.specs.Evaluation.{Answer, a_result, a_throw, an_effect, is_full_of, spent}
+use Rattle.js_semantics.specs.Terms.{Term}
+use Rattle.js_semantics.specs.Evaluation.{after_try, copied_world, keep_source, make_literals, Answer, a_result, a_throw, an_effect, is_full_of, spent}
+use Rattle.js_world.specs.declared.world.Refused.{Refused}
+use Rattle.js_world.specs.declared.world.Refused.TheVariants as refusals
 use Rattle.js_world.specs.Overlays.{Marked, space_after, space_at}
 use Rattle.pure_eval.specs.declared.evaluated.Evaluated.{Evaluated}
 use Rattle.pure_eval.specs.declared.evaluated.Evaluated.TheVariants as ends
@@ -30,3 +33,19 @@ Leaves a ends.Effect old new = (a ≡ an_effect) × (new ≡ old)
 Leaves a (ends.Full what) old new = (a ≡ is_full_of what) × (new ≡ old)
 Leaves a ends.Spent old new = (a ≡ spent) × (new ≡ old)
 Leaves a ends.Memory old new = Unit {0}
+
+-- ---- before the first step
+
+-- the source is kept, and the cells of its string literals are made
+abbrev pub placed : World → List ℕ → List (List ℕ) → Tried (Unit {0})
+placed w source literals = after_try (keep_source w source) (λ at v. make_literals v literals)
+
+-- a term that is ready in the copied world with the cells of a session
+abbrev pub made_ready : World → ScratchSpace → List ℕ → List (List ℕ) → Term → Tried Term
+made_ready w x source literals t = after_try (placed (copied_world w x) source literals) (λ u v. fine t v)
+
+-- how an evaluation ends that is refused before its first step
+abbrev pub refused_end : Refused → Evaluated
+refused_end refusals.Effect = ends.Effect
+refused_end (refusals.Full what) = ends.Full what
+refused_end refusals.Memory = ends.Memory

@@ -1,6 +1,4 @@
-use Rattle.std.proofs.Common.{◌≡◌, ℕ, List, drop}
-use Rattle.js_heap.specs.Worlds.{Keeps}
-use Rattle.js_semantics.specs.Evaluation.{make_literals}
+use Rattle.std.proofs.Common.{ℕ, List}
 use Rattle.pure_eval.proofs.LiteralLemmas.{MakesOn}
 use Rattle.pure_eval.proofs.literals.make_literals.Given as goal
 
