@@ -17,23 +17,21 @@ use crate::finding::find_script;
 use crate::objects::group_of;
 use crate::pausing::describer;
 use crate::program::Program;
-use crate::results::{
-    debugger_id, properties, script_source, set_at, set_by_url, spot_locations,
-};
+use crate::results::{debugger_id, properties, script_source, set_at, set_by_url, spot_locations};
 use crate::session::Session;
 use crate::situation::{Pause, Situation};
 use breakpoints::breakpoints::Breakpoints;
 use breakpoints::fault::AddFault;
 use breakpoints::ids::{place_id, url_id};
 use cdp_json::params::{ExceptionPauses, Location, Params};
-use cdp_json::refusal::Refusal;
 use cdp_json::parts::nothing;
+use cdp_json::refusal::Refusal;
 use cdp_json::value::Json;
 use cdp_text::position::{Place, Pos};
 use cdp_text::units::Units;
+use locations::spot::{between, first_at_or_after};
 use object_groups::Handle;
 use remote_objects::backtrace;
-use locations::spot::{between, first_at_or_after};
 use std::alloc::{AllocError, Global};
 use stepping::rules::{Exceptions, Rules, StepKind, StepRequest};
 
@@ -105,7 +103,11 @@ fn asking(alloc: Global, asks: Asks) -> Done
 
 impl Session {
     /// Does what a command asks for that isn't refused for the state of its session or of the program.
-    pub(crate) fn act<P: Program>(&mut self, situation: &Situation<'_, P>, params: Params) -> Result<Done, Fault>
+    pub(crate) fn act<P: Program>(
+        &mut self,
+        situation: &Situation<'_, P>,
+        params: Params,
+    ) -> Result<Done, Fault>
         requires { HasSpots situation.now }
         ensures made { Makes result self.new (rows.row (seen P.standing situation.now) self.old params) }
         ensures kept { KeepsIfRefused result self.old self.new }
@@ -196,7 +198,11 @@ impl Session {
     }
 
     /// `Debugger.continueToLocation`
-    fn continue_to<P: Program>(&mut self, situation: &Situation<'_, P>, location: Location) -> Result<Done, Fault>
+    fn continue_to<P: Program>(
+        &mut self,
+        situation: &Situation<'_, P>,
+        location: Location,
+    ) -> Result<Done, Fault>
         requires { HasSpots situation.now }
         ensures made { Makes result self.new (rows.continue_to (seen P.standing situation.now) self.old location) }
         ensures kept { KeepsIfRefused result self.old self.new }
@@ -344,7 +350,11 @@ impl Session {
     }
 
     /// `Debugger.getScriptSource`
-    fn source<P: Program>(&mut self, situation: &Situation<'_, P>, script_id: Units) -> Result<Done, Fault>
+    fn source<P: Program>(
+        &mut self,
+        situation: &Situation<'_, P>,
+        script_id: Units,
+    ) -> Result<Done, Fault>
         requires { HasSpots situation.now }
         ensures made { Makes result self.new (rows.source (seen P.standing situation.now) self.old script_id) }
         ensures kept { KeepsIfRefused result self.old self.new }

@@ -203,7 +203,11 @@ impl Session {
     /// # Errors
     ///
     /// There is no memory for the answer. The session is to be dropped.
-    pub fn tell<P: Program>(&mut self, situation: &Situation<'_, P>, text: &str) -> Result<Asks, AllocError>
+    pub fn tell<P: Program>(
+        &mut self,
+        situation: &Situation<'_, P>,
+        text: &str,
+    ) -> Result<Asks, AllocError>
         requires { HasSpots situation.now }
         ensures session { OnOk result (self.new ≡ (answer_of (seen P.standing situation.now) self.old text.now).session) }
         ensures asks { IfOk result (λ asks. asks ≡ (answer_of (seen P.standing situation.now) self.old text.now).asks) }
@@ -270,7 +274,11 @@ impl Session {
     }
 
     /// Does what a command asks for, unless it is refused.
-    fn perform<P: Program>(&mut self, situation: &Situation<'_, P>, params: Params) -> Result<Done, Fault>
+    fn perform<P: Program>(
+        &mut self,
+        situation: &Situation<'_, P>,
+        params: Params,
+    ) -> Result<Done, Fault>
         requires { HasSpots situation.now }
         ensures made { Makes result self.new (comes_to (seen P.standing situation.now) self.old params) }
         ensures kept { KeepsIfRefused result self.old self.new }

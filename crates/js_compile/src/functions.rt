@@ -89,7 +89,7 @@ fn index_node(table: &NodeTable, index: &mut Vec<u32>, number: u32) -> Result<()
 }
 
 /// A source with the index of its functions.
-fn indexed_source(
+pub fn indexed_source(
     alloc: Global,
     table: &NodeTable,
     source: &SourceEntry,

@@ -1,5 +1,5 @@
 -- Tables that go on.
-use Rattle.std.proofs.Common.{◌≡◌, ℕ, zero, suc, ◌+◌, ◌<◌, ◌≤◌, Bool, true, false, List, [], ◌∷◌, ◌++◌, length, Option, Some, None, refl, sym, ap, subst, ◌∙◌, ◌⊎◌, inl, inr, arith, length-append, if◌then◌else◌}
+use Rattle.std.proofs.Common.{◌≡◌, ℕ, zero, suc, ◌+◌, ◌<◌, ◌≤◌, Bool, true, false, List, [], ◌∷◌, ◌++◌, length, take, get_or, Option, Some, None, refl, sym, ap, subst, ◌∙◌, ◌⊎◌, inl, inr, arith, length-append, if◌then◌else◌}
 use Rattle.std.specs.Prelude.{slice_get, unwrap_or, nat_lt}
 use Rattle.js_heap.specs.Keys.{same_units}
 use Rattle.js_world.specs.Names.{spare, name_of, Differ, text_place, number_of}
@@ -165,3 +165,50 @@ number-last ts t e =
     let f : text_place (t ∷ []) t ≡ 0 = rw (same-refl t) refl in
     let g : text_place (ts ++ t ∷ []) t ≡ length ts = omega (arith, place-other ts (t ∷ []) t (number-none ts t e), f) in
     numbered_in (text_place (ts ++ t ∷ []) t) (length (ts ++ t ∷ [])) (omega (arith, g, length_one ts t)) ∙ ap (λ x. Some x) g
+
+-- ---- tables that are cut
+
+get_more : (ts us : List (List ℕ)) (i : ℕ) (t : List ℕ) → slice_get ts i ≡ Some t → slice_get (ts ++ us) i ≡ Some t
+get_more [] us i t e = absurd cc
+get_more (u ∷ ts) us zero t e = e
+get_more (u ∷ ts) us (suc i) t e = get_more ts us i t e
+
+pub differ-less : (ts : List (List ℕ)) (t : List ℕ) → Differ (ts ++ t ∷ []) → Differ ts
+differ-less ts t d i j s e f = d i j s (get_more ts (t ∷ []) i s e) (get_more ts (t ∷ []) j s f)
+
+gone_if : (b : Bool) (ts : List (List ℕ)) (t : List ℕ) → nat_lt (text_place ts t) (length ts) ≡ b → ((i : ℕ) → slice_get ts i ≡ Some t → ⊥) → (if b then Some (text_place ts t) else None) ≡ None
+gone_if false ts t e f = refl
+gone_if true ts t e f = absurd (f (text_place ts t) (place_get ts t (true_lt (text_place ts t) (length ts) e)))
+
+number_gone : (ts : List (List ℕ)) (t : List ℕ) → ((i : ℕ) → slice_get ts i ≡ Some t → ⊥) → number_of ts t ≡ None
+number_gone ts t f = gone_if (nat_lt (text_place ts t) (length ts)) ts t refl f
+
+slice_below : (ts : List (List ℕ)) (i : ℕ) (t : List ℕ) → slice_get ts i ≡ Some t → i < length ts
+slice_below [] i t e = absurd cc
+slice_below (u ∷ ts) zero t e = omega arith
+slice_below (u ∷ ts) (suc i) t e = omega (arith, slice_below ts i t e)
+
+-- the last text is none of those before it
+pub number-gone : (ts : List (List ℕ)) (t : List ℕ) → Differ (ts ++ t ∷ []) → number_of ts t ≡ None
+number-gone ts t d = number_gone ts t (λ i e. omega (arith, slice_below ts i t e, d i (length ts) t (get_more ts (t ∷ []) i t e) (get_last ts t)))
+
+get_taken : (n : ℕ) (ts : List (List ℕ)) (i : ℕ) (t : List ℕ) → slice_get (take n ts) i ≡ Some t → (slice_get ts i ≡ Some t) × (i < n)
+get_taken zero ts i t e = absurd cc
+get_taken (suc n) [] i t e = absurd cc
+get_taken (suc n) (u ∷ ts) zero t e = (e, omega arith)
+get_taken (suc n) (u ∷ ts) (suc i) t e = let p = get_taken n ts i t e in (p.0, omega (arith, p.1))
+
+-- the text at a place is none of those before it
+pub number-next : (ts : List (List ℕ)) (n : ℕ) (t : List ℕ) → Differ ts → slice_get ts n ≡ Some t → number_of (take n ts) t ≡ None
+number-next ts n t d e = number_gone (take n ts) t (λ i f. let p = get_taken n ts i t f in omega (arith, p.1, d i n t p.0 e))
+
+get_here : (ts : List (List ℕ)) (n : ℕ) (t : List ℕ) → n < length ts → t ≡ get_or ts n t → slice_get ts n ≡ Some t
+get_here [] n t h e = absurd (omega arith)
+get_here (u ∷ ts) zero t h e = ap (λ x. Some x) (sym e)
+get_here (u ∷ ts) (suc n) t h e = get_here ts n t (omega arith) e
+
+-- where they are copied
+pub next-free : (ts us names : List (List ℕ)) (n : ℕ) (t s : List ℕ) → Differ ts → us ≡ ts → names ≡ take n us → n < length us → t ≡ get_or us n t → s ≡ t → number_of names s ≡ None
+next-free ts us names n t s d e f l g h =
+    let P : List (List ℕ) → Type 0 = λ xs. slice_get xs n ≡ Some t in
+    rw (f, e, h) (number-next ts n t d (subst P e (get_here us n t l g)))

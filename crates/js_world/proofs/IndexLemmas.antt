@@ -2,7 +2,7 @@
 use Rattle.std.proofs.Common.{◌≡◌, ℕ, Bool, true, false, List, [], ◌∷◌, ◌++◌, length, Some, None, refl, sym, ap, subst, ◌∙◌, ◌<◌, arith, length-append}
 use Rattle.std.specs.Prelude.{nat_eq}
 use Rattle.std.specs.Cmp.Lexicographic.{pointwise}
-use Rattle.std.specs.HashMap.{HashMap, get_by, Updates}
+use Rattle.std.specs.HashMap.{HashMap, get_by, Updates, UpdatesBy}
 use Rattle.std.specs.Map.{KeepsOthers, IsKeyTest, AreApart, lookup}
 use Rattle.std.specs.declared.vec.Vec.{Vec}
 use Rattle.js_heap.specs.Keys.{same_units}
@@ -10,7 +10,7 @@ use Rattle.js_heap.proofs.KeyLemmas.{pointwise_units}
 use Rattle.js_world.specs.Names.{number_of, name_of}
 use Rattle.js_world.specs.Indexes.{IsIndexed}
 use Rattle.js_world.proofs.TableLemmas.{same-refl, same-only}
-use Rattle.js_world.proofs.GrowLemmas.{number-text, last-text, number-other, number-last, differ-more}
+use Rattle.js_world.proofs.GrowLemmas.{number-text, last-text, number-other, number-last, number-gone, differ-more, differ-less}
 
 -- whether a key is a text
 abbrev is_text : {Z : Type 0} → List ℕ → Vec ℕ Z → Bool
@@ -61,6 +61,30 @@ finds_if false ts m n key text e i f u =
 pub indexed-more : {Z S : Type 0} (ts : List (List ℕ)) (m n : HashMap (Vec ℕ Z) ℕ S) (key : Vec ℕ Z) → IsIndexed ts m → number_of ts key.items ≡ None → Updates same_key m n key (Some (length ts)) → IsIndexed (ts ++ key.items ∷ []) n
 indexed-more ts m n key i f u =
     record { finds = λ text. finds_if (pointwise nat_eq text key.items) ts m n key text refl i f u; differ = differ-more ts key.items i.differ f }
+
+-- ---- one text less
+
+texts_differ : {Z : Type 0} (text other : List ℕ) → pointwise nat_eq other text ≡ false → AreApart {K = Vec ℕ Z} (is_text text) (is_text other)
+texts_differ text other e = λ k f. apart_if (pointwise nat_eq other k.items) text k.items other refl f e
+
+keeps_text : {Z : Type 0} (text other : List ℕ) (old new : List (Vec ℕ Z × ℕ)) → KeepsOthers same_key (is_text text) old new → pointwise nat_eq other text ≡ false → lookup (is_text other) new ≡ lookup (is_text other) old
+unfolding KeepsOthers
+keeps_text text other old new k e = k (is_text other) (key_test other) (texts_differ text other e)
+
+left_if : {Z S : Type 0} (b : Bool) (ts : List (List ℕ)) (m n : HashMap (Vec ℕ Z) ℕ S) (text other : List ℕ) → pointwise nat_eq other text ≡ b → IsIndexed (ts ++ text ∷ []) m → UpdatesBy same_key (is_text text) m n None → get_by (is_text other) n ≡ number_of ts other
+left_if true ts m n text other e i u =
+    let g : other ≡ text = pointwise_same other text e in
+    let P : List ℕ → Type 0 = λ t. get_by (is_text t) n ≡ number_of ts t in
+    subst P (sym g) (u.1 ∙ sym (number-gone ts text i.differ))
+left_if false ts m n text other e i u =
+    keeps_text text other m.entries n.entries u.3 e ∙ i.finds other ∙ number-other ts text other (turned other text e)
+
+pub popped : {Z S : Type 0} (ts us : List (List ℕ)) (m n : HashMap (Vec ℕ Z) ℕ S) (last text : List ℕ) → text ≡ last → us ≡ ts ++ last ∷ [] → IsIndexed us m → UpdatesBy same_key (is_text text) m n None → IsIndexed ts n
+popped ts us m n last text f e i u =
+    let P : List (List ℕ) → Type 0 = λ xs. IsIndexed xs m in
+    let e : us ≡ ts ++ text ∷ [] = e ∙ ap (λ t. ts ++ t ∷ []) (sym f) in
+    let j : IsIndexed (ts ++ text ∷ []) m = subst P e i in
+    record { finds = λ other. left_if (pointwise nat_eq other text) ts m n text other refl j u; differ = differ-less ts text j.differ }
 
 -- ---- as the code has it
 

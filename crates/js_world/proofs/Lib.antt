@@ -12,6 +12,7 @@ pub mod BindLemmas
 pub mod MakeLemmas
 pub mod StayLemmas
 pub mod StartLemmas
+pub mod EarlierLemmas
 pub mod OverLemmas
 pub mod PropertyKeyLemmas
 pub mod PropertyIndexLemmas

@@ -13,8 +13,8 @@ use Rattle.js_world.specs.declared.stored.Stored.{Stored}
 use Rattle.js_world.specs.Names.{name_of, Differ}
 use Rattle.js_world.specs.Cells.{cell_of, cells_of}
 use Rattle.js_world.specs.Calls.{HasPlace}
-use Rattle.js_world.specs.Heaps.{Fit, MakesRoom, value_in_cells}
-use Rattle.js_world.specs.Overlays.{Over, overlay_world, over_world}
+use Rattle.js_world.specs.Heaps.{Heap, Fit, MakesRoom, value_in_cells}
+use Rattle.js_world.specs.Overlays.{Over, overlay_world, over_world, space_of}
 use Rattle.js_world.proofs.HeapLemmas.{cells-append, cells-length}
 use Rattle.js_world.proofs.MakeLemmas.{lt_true, le_true, units_same}
 use Rattle.js_world.proofs.BindLemmas.{scope-written, scope-replaced}
@@ -66,3 +66,8 @@ pub goes-over : (h g : Over) → h ≡ g → Fit h.cells h.ends h.cells_left →
 goes-over h g e f b ts us =
     let P : Over → Type 0 = λ x. x.base.ends ≤ length ts → x.ends ≤ length ts → over_world (ts ++ us) x ≡ over_world ts x in
     subst P e (goes_over h f b ts us)
+
+pub goes-space : (h g : Heap) → h ≡ g → Fit h.cells h.ends h.cells_left → (ts us : List (List ℕ)) → g.ends ≤ length ts → space_of (ts ++ us) g ≡ space_of ts g
+goes-space h g e f ts us =
+    let P : Heap → Type 0 = λ x. x.ends ≤ length ts → space_of (ts ++ us) x ≡ space_of ts x in
+    subst P e (λ l. rw (cells-stay ts us h.cells (cells-more h.ends (length ts) h.cells l f.within)) refl)

@@ -1,10 +1,14 @@
 -- The cells of evaluations over a program's.
-use Rattle.std.specs.Prelude.{ℕ, List, [], Some}
+use Rattle.std.specs.Prelude.{ℕ, ◌-◌, ◌≤◌, List, [], ◌∷◌, ◌++◌, length, take, Some, nat_le, if◌then◌else◌}
+use Rattle.js_heap.specs.declared.value.Addr.{Addr}
+use Rattle.js_heap.specs.declared.value.Addr.TheVariants.{Scratch}
 use Rattle.js_heap.specs.declared.cell.Cell.{Cell}
-use Rattle.js_heap.specs.World.{World, scratch_room}
+use Rattle.js_heap.specs.declared.cell.Cell.TheVariants as cells
+use Rattle.js_heap.specs.declared.change.Counted.TheVariants as counted
+use Rattle.js_heap.specs.World.{World, Tried, fine, full, scratch_room}
 use Rattle.js_heap.specs.ScratchSpaces.{ScratchSpace}
 use Rattle.js_world.specs.declared.stored.Stored.{Stored}
-use Rattle.js_world.specs.Cells.{cells_of}
+use Rattle.js_world.specs.Cells.{cells_of, AllWithin}
 use Rattle.js_world.specs.Heaps.{Heap}
 
 -- a session's cells, of which those from `start` on are an evaluation's own; names below `ends` are known
@@ -32,3 +36,38 @@ first_space = record { cells = []; room = scratch_room }
 
 abbrev pub space_after : World → ScratchSpace
 space_after w = record { cells = w.scratch; room = w.room }
+
+-- where the next cell will stand
+abbrev pub next_of : Heap → Addr
+next_of h = Scratch (length h.cells)
+
+-- ---- the source of an evaluation
+
+-- a text under the next number, which counts its units and no cell
+abbrev pub keep_text : World → List ℕ → Tried Addr
+keep_text w units =
+    if nat_le (length units) w.room.units
+    then fine (Scratch (length w.scratch))
+    (record w { scratch = w.scratch ++ cells.Text units ∷ []; room = record { cells = w.room.cells; units = w.room.units - length units } })
+    else full counted.Units
+
+-- ---- marks
+
+-- where a session's cells ended, and what was left of their room; names below `ends` were known
+pub record Marked : Type 0 where
+  pub count : ℕ
+  pub ends : ℕ
+  pub cells_left : ℕ
+  pub units_left : ℕ
+
+abbrev pub mark_of : Heap → Marked
+mark_of h = record { count = length h.cells; ends = h.ends; cells_left = h.cells_left; units_left = h.units_left }
+
+-- only the cells before a mark, with the room that was left there
+abbrev pub space_at : ScratchSpace → Marked → ScratchSpace
+space_at x m = record { cells = take m.count x.cells; room = record { cells = m.cells_left; units = m.units_left } }
+
+-- the cells before a place, which no evaluation may change any more, have only names below a number
+pub record Earlier (cs : List Stored) (place known : ℕ) : Type 0 where
+  pub within : AllWithin known (take place cs)
+  pub before : place ≤ length cs

@@ -1,6 +1,6 @@
 //! Changes of one cell. What it counts is kept by what changes, so no cell is weighed as a whole.
 
-ghost use Rattle.std.specs.Prelude.{◌≡◌, ◌<◌, ◌+◌, ◌∷◌, ◌++◌, [], List, ℕ, Some, OnErr, length, slice_get, nat_lt, not, ◌&&◌};
+ghost use Rattle.std.specs.Prelude.{◌≡◌, ◌<◌, ◌≤◌, ◌+◌, ◌∷◌, ◌++◌, [], List, ℕ, Some, OnErr, length, slice_get, take, nat_lt, not, ◌&&◌};
 ghost use Rattle.js_heap.specs.Keys.{has_key, put_property, without_key};
 ghost use Rattle.js_heap.specs.Cells.{properties_weight, weight, changed, declared};
 ghost use Rattle.js_world.specs.Names.{name_of};
@@ -215,6 +215,7 @@ pub fn change_in(
 ) -> Result<u32, Refused>
     ensures value { (names : List (List ℕ)) → Distinguishes names change.entry → WeighedAt (cells_of names cells.old.items) at (slice_get (cells_of names cells.old.items) at) (change_of names change.entry) units_left result (cells_of names cells.new.items) }
     ensures within { (end : ℕ) → ChangeWithin end change.entry → AllWithin end cells.old.items → AllWithin end cells.new.items }
+    ensures others { (place : ℕ) → place ≤ at → take place cells.new.items ≡ take place cells.old.items }
     ensures len { length cells.new.items ≡ length cells.old.items }
     ensures kept { OnErr result (cells.new.items ≡ cells.old.items) }
 {

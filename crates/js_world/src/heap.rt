@@ -159,6 +159,13 @@ impl BaseHeap {
         self.cells.len()
     }
 
+    /// How many names of a table are known.
+    pub fn known(&self) -> usize
+        ensures { result ≡ self.now.ends }
+    {
+        self.ends
+    }
+
     /// A table that goes on behind the known names makes no other world.
     pub fn goes_on(&self)
         ensures { (names more : List (List ℕ)) → self.now.ends ≤ length names → heap_world (names ++ more) self.now ≡ heap_world names self.now }

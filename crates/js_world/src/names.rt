@@ -1,6 +1,6 @@
 //! The table of names.
 
-ghost use Rattle.std.specs.Prelude.{◌≡◌, ◌++◌, ◌∷◌, ◌<◌, [], IfOk, IfSome, OnOk, OnErr, None, length, option_map};
+ghost use Rattle.std.specs.Prelude.{◌≡◌, ◌++◌, ◌∷◌, ◌-◌, ◌<◌, [], IfOk, IfSome, OnOk, OnErr, None, length, option_map, take};
 ghost use Rattle.js_world.specs.Names.{name_of, number_of, Differ, GoesOn};
 
 use cdp_text::units::Units;
@@ -79,6 +79,39 @@ impl Names {
         self.index.insert(key, number)?;
         self.texts.push(name).unwrap();
         Ok(NameId { number })
+    }
+
+    // Without the last text.
+    fn pop(&mut self)
+        ensures { self.new ≡ take (length self.old - 1) self.old }
+    {
+        if let Some(text) = self.texts.pop() {
+            self.index.remove(text.as_slice());
+        }
+    }
+
+    /// Only the first so many names. It takes no memory.
+    pub fn cut(&mut self, len: usize)
+        ensures { self.new ≡ take len self.old }
+    {
+        while self.texts.len() > len {
+            self.pop();
+        }
+    }
+
+    /// A table of the same names.
+    ///
+    /// # Errors
+    ///
+    /// There is no memory for it.
+    pub fn copy(&self) -> Result<Names, AllocError>
+        ensures { IfOk result (λ names. names ≡ self.now) }
+    {
+        let mut names = Names::new(*self.texts.allocator());
+        for text in &self.texts {
+            names.push(text.as_slice())?;
+        }
+        Ok(names)
     }
 
     /// The number of a text, where it is in the table.

@@ -2,6 +2,7 @@ use Rattle.std.proofs.Common.{arith, sym}
 use Rattle.js_world.specs.Changes.{change_of}
 use Rattle.js_world.proofs.HeapLemmas.{weighed-at, weighed-past}
 use Rattle.js_world.proofs.WithinLemmas.{within-set}
+use Rattle.js_world.proofs.EarlierLemmas.{set-others}
 use Rattle.js_world.proofs.change.change_in.Goals as goal
 
 pub returns-then-at-len-clause-value : goal.returns-then-at-len-clause-value
@@ -14,3 +15,6 @@ returns-then-at-len-clause-within c = λ end h k.
 
 pub returns-else-at-len-clause-value : goal.returns-else-at-len-clause-value
 returns-else-at-len-clause-value c = λ names d. weighed-past names c.args.cells.now.items c.args.at (change_of names c.args.change) c.args.units_left (grind arith)
+
+pub returns-then-at-len-clause-others : goal.returns-then-at-len-clause-others
+returns-then-at-len-clause-others c = λ place h. set-others place c.args.cells.now.items c.args.at c.change_cell.new.cell h

@@ -1,0 +1,4 @@
+pub mod StayLemmas
+pub mod WholeLemmas
+pub mod AddLemmas
+pub mod CutLemmas

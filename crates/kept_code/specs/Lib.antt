@@ -1,0 +1,3 @@
+pub mod Whole
+pub mod Adding
+pub mod Cutting

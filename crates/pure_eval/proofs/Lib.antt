@@ -1,0 +1,5 @@
+pub mod EvaluatedLemmas
+pub mod LeavingLemmas
+pub mod PlacedLemmas
+pub mod LiteralLemmas
+pub mod ProgramLemmas

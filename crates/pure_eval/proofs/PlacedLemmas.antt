@@ -1,0 +1,114 @@
+-- What stands before the first step of an evaluation.
+use Rattle.std.proofs.Common.{◌≡◌, ℕ, ◌-◌, List, [], ◌∷◌, ◌++◌, length, Option, None, Some, Err, Result, refl, sym, ap, subst, ◌∙◌, arith, length-append}
+use Rattle.std.proofs.lemmas.List.{take-append-le}
+use Rattle.std.proofs.Math.Seq.{take-length}
+use Rattle.std.specs.Prelude.{slice_get, nat_le}
+use Rattle.js_heap.specs.declared.value.Addr.{Addr}
+use Rattle.js_heap.specs.declared.value.Addr.TheVariants.{Base, Scratch}
+use Rattle.js_heap.specs.declared.value.Value.{Value}
+use Rattle.js_heap.specs.declared.cell.Cell.TheVariants as cells
+use Rattle.js_heap.specs.declared.change.Counted.TheVariants as counted
+use Rattle.js_heap.specs.World.{Room, World, Tried, fine, effect, full, read_cell}
+use Rattle.js_heap.specs.Worlds.{KindStays, OthersStay, Keeps, AfterFine}
+use Rattle.js_heap.specs.ScratchSpaces.{ScratchSpace, copied_world}
+use Rattle.js_heap.proofs.KeepLemmas.{stays-same, stays-append, keeps-same, keeps-trans, fine_if}
+use Rattle.js_semantics.specs.Terms.{Term}
+use Rattle.js_semantics.specs.Functions.{Program}
+use Rattle.js_semantics.specs.Evaluation.{after_try, keep_source, make_literals, answered, evaluated}
+use Rattle.js_world.specs.declared.world.Refused.{Refused}
+use Rattle.js_world.specs.declared.world.Refused.TheVariants.{Effect, Full, Memory}
+use Rattle.js_world.specs.Calls.{Tries}
+use Rattle.js_world.specs.Heaps.{Heap}
+use Rattle.js_world.specs.Overlays.{Marked, mark_of, space_of}
+use Rattle.js_world.proofs.HeapLemmas.{cells-length}
+use Rattle.pure_eval.specs.declared.evaluated.Evaluated.{Evaluated}
+use Rattle.pure_eval.specs.Leaving.{space_behind, GoesOnFrom, Leaves, placed, made_ready, refused_end}
+use Rattle.pure_eval.proofs.LeavingLemmas.{cut-space}
+
+-- ---- keeping a source
+
+source_kinds : (w : World) (us : List ℕ) (r : Room) (a : Addr) → KindStays (read_cell w a) (read_cell (record w { scratch = w.scratch ++ cells.Text us ∷ []; room = r }) a)
+source_kinds w us r (Base i) = stays-same (slice_get w.base i)
+source_kinds w us r (Scratch i) = stays-append w.scratch (cells.Text us) i
+
+source_others : (o : Option ℕ) (w : World) (us : List ℕ) (r : Room) → OthersStay o w (record w { scratch = w.scratch ++ cells.Text us ∷ []; room = r })
+source_others None w us r = tt
+source_others (Some n) w us r = (refl, λ h. (omega (arith, length-append w.scratch (cells.Text us ∷ [])), take-append-le n w.scratch (cells.Text us ∷ []) h))
+
+keeping : (w : World) (us : List ℕ) → AfterFine (keep_source w us) (λ a v. Keeps w v)
+keeping w us =
+    let r : Room = record { cells = w.room.cells; units = w.room.units - length us } in
+    let v : World = record w { scratch = w.scratch ++ cells.Text us ∷ []; room = r } in
+    let P : Addr → World → Type 0 = λ a u. Keeps w u in
+    fine_if (nat_le (length us) w.room.units) counted.Units (fine (Scratch (length w.scratch)) v) P (record { start = refl; kinds = source_kinds w us r; others = source_others w.start w us r })
+
+pub kept-keeps : (w v u : World) (us : List ℕ) (a : Addr) → keep_source w us ≡ fine a v → Keeps v u → Keeps w u
+kept-keeps w v u us a e h =
+    let P : Tried Addr → Type 0 = λ t. AfterFine t (λ b z. Keeps w z) in
+    let k : P (fine a v) = subst P e (keeping w us) in
+    keeps-trans w v u k h
+
+pub placed-ok : (w v u : World) (us : List ℕ) (xs : List (List ℕ)) (a : Addr) (r : Result (Unit {0}) Refused) → keep_source w us ≡ fine a v → Tries (make_literals v xs) r u → Tries (placed w us xs) r u
+placed-ok w v u us xs a r e h =
+    let P : Tried (Unit {0}) → Type 0 = λ t. Tries t r u in
+    let k : placed w us xs ≡ make_literals v xs = ap (λ t. after_try t (λ b z. make_literals z xs)) e in
+    subst P (sym k) h
+
+pub placed-err : (w v u : World) (us : List ℕ) (xs : List (List ℕ)) (r : Result Addr Refused) (e : Refused) → r ≡ Err e → Tries (keep_source w us) r v → let s : Result (Unit {0}) Refused = Err e in Tries (placed w us xs) s u
+placed-err w v u us xs r Effect q h =
+    let P : Result Addr Refused → Type 0 = λ y. Tries (keep_source w us) y v in
+    let k : keep_source w us ≡ effect = (let k' : P (Err Effect) = subst P q h in k') in
+    ap (λ t. after_try t (λ b z. make_literals z xs)) k
+placed-err w v u us xs r (Full what) q h =
+    let P : Result Addr Refused → Type 0 = λ y. Tries (keep_source w us) y v in
+    let k : keep_source w us ≡ full what = (let k' : P (Err (Full what)) = subst P q h in k') in
+    ap (λ t. after_try t (λ b z. make_literals z xs)) k
+placed-err w v u us xs r Memory q h = tt
+
+pub keeps-still : (w v : World) → v ≡ w → Keeps w v
+keeps-still w v e = let P : World → Type 0 = λ u. Keeps w u in subst P (sym e) (keeps-same w)
+
+-- ---- the world before the first step
+
+pub goes-from : (w v : World) (ts : List (List ℕ)) (h : Heap) (m : Marked) → m ≡ mark_of h → Keeps (copied_world w (space_of ts h)) v → GoesOnFrom v (space_of ts h) m
+goes-from w v ts h m e k =
+    let x : ScratchSpace = space_of ts h in
+    let o = k.others in
+    let l = o.1 (omega arith) in
+    record {
+      start = k.start;
+      long = l.0;
+      earlier = l.1 ∙ take-length x.cells;
+      count = ap (λ n. n.count) e ∙ sym (cells-length ts h.cells);
+      cells_left = ap (λ n. n.cells_left) e;
+      units_left = ap (λ n. n.units_left) e;
+    }
+
+-- ---- answers
+
+pub ready-leaves : (p : Program) (a : Addr) (receiver : Value) (w v : World) (x y : ScratchSpace) (us : List ℕ) (xs : List (List ℕ)) (t : Term) (e : Evaluated) → placed (copied_world w x) us xs ≡ fine tt v → Leaves (evaluated p a receiver v t) e x y → Leaves (answered (made_ready w x us xs t) (evaluated p a receiver)) e x y
+ready-leaves p a receiver w v x y us xs t e f h =
+    let P : Tried (Unit {0}) → Type 0 = λ z. Leaves (answered (after_try z (λ u s. fine t s)) (evaluated p a receiver)) e x y in
+    subst P (sym f) h
+
+pub refused-leaves : (p : Program) (a : Addr) (receiver : Value) (w v : World) (x y : ScratchSpace) (m : Marked) (us : List ℕ) (xs : List (List ℕ)) (t : Term) (r : Refused) → (let s : Result (Unit {0}) Refused = Err r in Tries (placed (copied_world w x) us xs) s v) → Keeps (copied_world w x) v → GoesOnFrom v x m → y ≡ space_behind (refused_end r) v m → Leaves (answered (made_ready w x us xs t) (evaluated p a receiver)) (refused_end r) x y
+refused-leaves p a receiver w v x y m us xs t Effect h k g s = (ap (λ z. answered (after_try z (λ u s. fine t s)) (evaluated p a receiver)) h, s ∙ cut-space v v x m g (keeps-same v))
+refused-leaves p a receiver w v x y m us xs t (Full what) h k g s = (ap (λ z. answered (after_try z (λ u s. fine t s)) (evaluated p a receiver)) h, s ∙ cut-space v v x m g (keeps-same v))
+refused-leaves p a receiver w v x y m us xs t Memory h k g s = tt
+
+-- ---- as the code has it
+
+pub all-ready : (p : Program) (a : Addr) (receiver : Value) (w o v : World) (ts : List (List ℕ)) (h : Heap) (m : Marked) (y : ScratchSpace) (us : List ℕ) (xs : List (List ℕ)) (t : Term) (e : Evaluated) → o ≡ copied_world w (space_of ts h) → m ≡ mark_of h → placed o us xs ≡ fine tt v → Keeps o v → ((x : ScratchSpace) → GoesOnFrom v x m → Leaves (evaluated p a receiver v t) e x y) → Leaves (answered (made_ready w (space_of ts h) us xs t) (evaluated p a receiver)) e (space_of ts h) y
+all-ready p a receiver w o v ts h m y us xs t e i j f g k =
+    let P : World → Type 0 = λ u. placed u us xs ≡ fine tt v in
+    let Q : World → Type 0 = λ u. Keeps u v in
+    ready-leaves p a receiver w v (space_of ts h) y us xs t e (subst P i f) (k (space_of ts h) (goes-from w v ts h m j (subst Q i g)))
+
+pub all-refused : (p : Program) (a : Addr) (receiver : Value) (w o v : World) (ts : List (List ℕ)) (h : Heap) (m : Marked) (y : ScratchSpace) (us : List ℕ) (xs : List (List ℕ)) (t : Term) (r : Refused) (e : Evaluated) → o ≡ copied_world w (space_of ts h) → m ≡ mark_of h → (let s : Result (Unit {0}) Refused = Err r in Tries (placed o us xs) s v) → Keeps o v → e ≡ refused_end r → y ≡ space_behind e v m → Leaves (answered (made_ready w (space_of ts h) us xs t) (evaluated p a receiver)) e (space_of ts h) y
+all-refused p a receiver w o v ts h m y us xs t r e i j f g q k =
+    let s : Result (Unit {0}) Refused = Err r in
+    let P : World → Type 0 = λ u. Tries (placed u us xs) s v in
+    let Q : World → Type 0 = λ u. Keeps u v in
+    let R : Evaluated → Type 0 = λ z. Leaves (answered (made_ready w (space_of ts h) us xs t) (evaluated p a receiver)) z (space_of ts h) y in
+    let l : Keeps (copied_world w (space_of ts h)) v = subst Q i g in
+    subst R (sym q) (refused-leaves p a receiver w v (space_of ts h) y m us xs t r (subst P i f) l (goes-from w v ts h m j l) (k ∙ ap (λ z. space_behind z v m) q))

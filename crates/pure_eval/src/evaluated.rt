@@ -1,0 +1,61 @@
+//! How evaluations end.
+
+ghost use Rattle.std.specs.Prelude.{◌≡◌};
+ghost use Rattle.pure_eval.specs.Answering.{finished, end_of, end_at};
+
+use js_heap::change::Counted;
+use js_heap::value::Value;
+use js_steps::run::Why;
+use js_steps::stepped::Finish;
+use js_steps::task::Point;
+
+/// How an evaluation ends.
+#[derive(Clone, Copy, Debug, PartialEq, Eq)]
+pub enum Evaluated {
+    Value(Value),
+    Thrown(Value),
+    /// It would have reached what isn't its own.
+    Effect,
+    /// It would have passed a limit.
+    Full(Counted),
+    /// All its steps are made.
+    Spent,
+    /// There was no memory for it.
+    Memory,
+}
+
+/// How an evaluation ends whose run does.
+fn finish_of(finish: Finish) -> Evaluated
+    ensures { result ≡ finished finish }
+{
+    match finish {
+        Finish::Ended(value) => Evaluated::Value(value),
+        Finish::Threw(value, _) => Evaluated::Thrown(value),
+    }
+}
+
+/// How an evaluation ends whose run stops, if it ends there.
+pub fn end_of(why: &Why) -> Option<Evaluated>
+    ensures { result ≡ end_of why.now }
+{
+    match why {
+        Why::Over(finish) => Some(finish_of(*finish)),
+        Why::Effect => Some(Evaluated::Effect),
+        Why::Full(what) => Some(Evaluated::Full(*what)),
+        Why::Memory => Some(Evaluated::Memory),
+        Why::Asked => None,
+        Why::Spent => None,
+        Why::Raised => None,
+        Why::Printed(_) => None,
+    }
+}
+
+/// How an evaluation ends that has made all its steps.
+pub fn end_at(point: Point) -> Evaluated
+    ensures { result ≡ end_at point }
+{
+    match point {
+        Point::Done(value) => Evaluated::Value(value),
+        _ => Evaluated::Spent,
+    }
+}

@@ -1,0 +1,129 @@
+//! Evaluations over a program's cells, behind those of a session.
+
+ghost use Rattle.std.specs.Prelude.{◌≡◌, ℕ, List};
+ghost use Rattle.js_heap.specs.ScratchSpaces.{ScratchSpace};
+ghost use Rattle.js_heap.specs.Worlds.{Keeps};
+ghost use Rattle.js_semantics.specs.Evaluation.{answered, evaluated};
+ghost use Rattle.js_semantics.specs.Terms.{settle};
+ghost use Rattle.js_world.specs.Calls.{Tries};
+ghost use Rattle.js_world.specs.Heaps.{heap_world};
+ghost use Rattle.js_world.specs.Overlays.{over_world, space_of};
+ghost use Rattle.js_code.specs.Codes.{HasFunctions};
+ghost use Rattle.js_code.specs.Trees.{tree, program_of, IsTable};
+ghost use Rattle.pure_eval.specs.Leaving.{space_behind, GoesOnFrom, Leaves, placed, made_ready, refused_end};
+
+use crate::evaluated::Evaluated;
+use crate::literals::make_literals;
+use crate::reducing::evaluate_node;
+use cdp_text::units::Units;
+use js_code::table::NodeTable;
+use js_heap::value::{Addr, Value};
+use js_steps::rows::Rows;
+use js_world::heap::BaseHeap;
+use js_world::names::Names;
+use js_world::overlay::{Mark, Overlay, Scratch};
+use js_world::world::Refused;
+use std::alloc::Global;
+
+/// How an evaluation ended, and the session's cells after it.
+#[derive(Drop)]
+pub struct Outcome {
+    pub end: Evaluated,
+    pub scratch: Scratch,
+}
+
+/// The session's cells after an evaluation: with those that it made where it came to a value or a throw, else as marked.
+fn scratch_after(overlay: Overlay<'_>, mark: Mark, end: Evaluated) -> Scratch
+    ensures { (names : List (List ℕ)) → space_of names result ≡ space_behind end (over_world names overlay.entry) mark }
+{
+    let mut scratch = overlay.into_scratch();
+    match end {
+        Evaluated::Value(_) => {}
+        Evaluated::Thrown(_) => {}
+        _ => scratch.cut(mark),
+    }
+    scratch
+}
+
+/// The evaluation of a node in a world that is prepared for it. After want of memory the session is given up.
+pub fn evaluate_prepared<T: Rows>(
+    alloc: Global,
+    table: &NodeTable,
+    names: &Names,
+    overlay: Overlay<'_>,
+    mark: Mark,
+    scope: Addr,
+    receiver: Value,
+    node: u32,
+) -> Outcome
+    requires table { IsTable table.now }
+    requires functions { HasFunctions table.now }
+    ensures { (x : ScratchSpace) → GoesOnFrom (over_world names.now overlay.entry) x mark → Leaves (evaluated (program_of names.now table.now) scope receiver (over_world names.now overlay.entry) (settle (tree names.now table.now node))) result.end x (space_of names.now result.scratch) }
+{
+    let mut overlay = overlay;
+    let end = evaluate_node::<T, Overlay<'_>>(
+        alloc,
+        table,
+        names,
+        scope,
+        receiver,
+        &mut overlay,
+        node,
+    );
+    let scratch = scratch_after(overlay, mark, end);
+    Outcome { end, scratch }
+}
+
+/// How an evaluation ends that is refused before its first step.
+fn refused_end(refused: Refused) -> Evaluated
+    ensures { result ≡ refused_end refused }
+{
+    match refused {
+        Refused::Effect => Evaluated::Effect,
+        Refused::Full(what) => Evaluated::Full(what),
+        Refused::Memory => Evaluated::Memory,
+    }
+}
+
+/// Keeps the source of an evaluation, and makes the cells of its string literals.
+fn prepare(
+    alloc: Global,
+    overlay: &mut Overlay<'_>,
+    source: Units,
+    literals: &[Units],
+) -> Result<(), Refused>
+    ensures placed { (names : List (List ℕ)) → Tries (placed (over_world names overlay.old) source literals.now) result (over_world names overlay.new) }
+    ensures keeps { (names : List (List ℕ)) → Keeps (over_world names overlay.old) (over_world names overlay.new) }
+{
+    overlay.keep(source)?;
+    make_literals(alloc, overlay, literals)
+}
+
+/// The evaluation of a source, whose code a table has, in a scope with a `this`. After want of memory the session is given up.
+pub fn evaluate_source<T: Rows>(
+    alloc: Global,
+    table: &NodeTable,
+    names: &Names,
+    base: &BaseHeap,
+    scratch: Scratch,
+    scope: Addr,
+    receiver: Value,
+    source: Units,
+    literals: &[Units],
+    node: u32,
+) -> Outcome
+    requires table { IsTable table.now }
+    requires functions { HasFunctions table.now }
+    ensures { Leaves (answered (made_ready (heap_world names.now base.now) (space_of names.now scratch) source literals.now (settle (tree names.now table.now node))) (evaluated (program_of names.now table.now) scope receiver)) result.end (space_of names.now scratch) (space_of names.now result.scratch) }
+{
+    let mark = scratch.mark();
+    let mut overlay = Overlay::over(base, scratch);
+    match prepare(alloc, &mut overlay, source, literals) {
+        Ok(()) => evaluate_prepared::<T>(alloc, table, names, overlay, mark, scope, receiver, node),
+        Err(refused) => {
+            let end = refused_end(refused);
+            let scratch = scratch_after(overlay, mark, end);
+            Outcome { end, scratch }
+        }
+    }
+}
