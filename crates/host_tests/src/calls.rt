@@ -170,7 +170,7 @@ const FILES: [(&str, &[u8]); 34] = [
 
 // The words, with a space between them (`~` for no words), the numbers of the writes of output, of the writes of errors
 // and of the reads that fail, as digits, and then the status, the output and what is said of errors.
-const CALLS: [(&str, &str, &str, &str, u8, &str, &str); 80] = [
+const REPLAYS: [(&str, &str, &str, &str, u8, &str, &str); 13] = [
     (
         "replay silent a.js",
         "",
@@ -224,6 +224,10 @@ const CALLS: [(&str, &str, &str, &str, u8, &str, &str); 80] = [
     ),
     ("replay a.js a.js", "", "", "", 0, "", ""),
     ("replay none a.js", "", "", "", 0, "", ""),
+];
+
+// Calls that are refused, or whose streams fail.
+const CALLS: [(&str, &str, &str, &str, u8, &str, &str); 45] = [
     ("~", "", "", "", 2, "", USAGE),
     ("", "", "", "", 2, "", USAGE),
     ("replay", "", "", "", 2, "", USAGE),
@@ -445,6 +449,10 @@ const CALLS: [(&str, &str, &str, &str, u8, &str, &str); 80] = [
     ("replay take one.js", "", "1", "", 6, "", ""),
     ("replay runs b.js", "1", "1", "", 5, "", ""),
     ("replay", "1", "1", "1", 2, "", ""),
+];
+
+// Calls over scripts and input of several forms.
+const INPUTS: [(&str, &str, &str, &str, u8, &str, &str); 22] = [
     (
         "replay all text.js",
         "",
@@ -653,8 +661,18 @@ pub(crate) fn each_call(
 }
 
 #[test]
+fn replays_come_to_their_ends(rt: HostRuntime) -> Result<(), Fail> {
+    each_call(&rt, &FILES, b"", &REPLAYS)
+}
+
+#[test]
 fn calls_come_to_their_ends(rt: HostRuntime) -> Result<(), Fail> {
     each_call(&rt, &FILES, b"", &CALLS)
+}
+
+#[test]
+fn scripts_and_input_are_read(rt: HostRuntime) -> Result<(), Fail> {
+    each_call(&rt, &FILES, b"", &INPUTS)
 }
 
 // Each of these lines is refused behind `attach` and a run.
