@@ -2,6 +2,7 @@ pub mod CommandLemmas
 pub mod GivenLemmas
 pub mod MessageLemmas
 pub mod OrderLemmas
+pub mod PlainLemmas
 pub mod ReadBackLemmas
 pub mod TextLemmas
 pub mod ViewLaws

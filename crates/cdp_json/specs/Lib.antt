@@ -9,6 +9,7 @@ pub mod Messages
 pub mod Methods
 pub mod Parameters
 pub mod Parts
+pub mod Plain
 pub mod ReadBack
 pub mod Refusals
 pub mod Views

@@ -8,6 +8,7 @@ ghost use Rattle.cdp_json.specs.Compact as spec;
 ghost use Rattle.cdp_json.specs.Views.{json_view, list_view, object_view};
 
 use crate::key_order::key_order;
+use crate::plain::{is_plain, put_plain};
 use crate::value::{Json, JsonList, JsonObject};
 use cdp_text::units::text_of;
 use std::alloc::{AllocError, Global};
@@ -110,9 +111,13 @@ fn put_key(out: &mut String, key: &[u16]) -> Result<(), AllocError>
 }
 
 /// Appends the text that units spell, in quotes and with its escapes.
+#[tactic(auto, using(crate::proofs::PlainLemmas::plain_text))]
 pub(crate) fn put_string(out: &mut String, units: &[u16]) -> Result<(), AllocError>
     ensures { OnOk result (string_bytes out.new ≡ string_bytes out.old ++ string_text units.now) }
 {
+    if is_plain(units) {
+        return put_plain(out, units);
+    }
     let text = text_of(*out.allocator(), units)?;
     put_quoted(out, text.as_str())
 }

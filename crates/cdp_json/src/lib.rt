@@ -11,6 +11,7 @@ pub mod method;
 mod parameters;
 pub mod params;
 pub mod parts;
+mod plain;
 pub mod refusal;
 pub mod value;
 
