@@ -3,7 +3,7 @@ use Rattle.std.proofs.Common.{◌≡◌, ℕ, ◌+◌, List, [], ◌∷◌, ◌+
 use Rattle.std.proofs.lemmas.List.{drop_all, drop_more, map-append}
 use Rattle.std.specs.Global.{Box}
 use Rattle.js_heap.specs.declared.value.Value.TheVariants as values
-use Rattle.js_heap.specs.declared.value.Addr.TheVariants.{Base}
+use Rattle.js_heap.specs.declared.value.Addr.{Addr}
 use Rattle.js_semantics.specs.declared.form.Form.{Form}
 use Rattle.js_semantics.specs.declared.form.Form.TheVariants as forms
 use Rattle.js_semantics.specs.Terms as semantics
@@ -25,28 +25,28 @@ literals_part : (f : Form) (now later : semantics.Terms) → run.literals (seman
 literals_part (forms.Literal us) now later = refl
 literals_part _ now later = refl
 
-abbrev placed_by : Option (List ℕ) → ℕ → Form → semantics.Terms → semantics.Terms → semantics.Term
-placed_by (Some us) n f now later = semantics.done (values.Text (Base n))
-placed_by None n f now later = semantics.part f (run.all_with_literals (λ m. Base m) n now) (run.all_with_literals (λ m. Base m) (n + length (run.literals_of now)) later)
+abbrev placed_by : (ℕ → Addr) → Option (List ℕ) → ℕ → Form → semantics.Terms → semantics.Terms → semantics.Term
+placed_by at (Some us) n f now later = semantics.done (values.Text (at n))
+placed_by at None n f now later = semantics.part f (run.all_with_literals at n now) (run.all_with_literals at (n + length (run.literals_of now)) later)
 
-placed_part : (f : Form) (now later : semantics.Terms) (n : ℕ) → run.with_literals (λ m. Base m) n (semantics.part f now later) ≡ placed_by (literal_in f) n f now later
-placed_part (forms.Literal us) now later n = refl
-placed_part _ now later n = refl
+placed_part : (at : ℕ → Addr) (f : Form) (now later : semantics.Terms) (n : ℕ) → run.with_literals at n (semantics.part f now later) ≡ placed_by at (literal_in f) n f now later
+placed_part at (forms.Literal us) now later n = refl
+placed_part at _ now later n = refl
 
 -- a literal
 pub literals_literal : (f : Form) (now later : semantics.Terms) (us : List ℕ) → Some us ≡ literal_in f → run.literals (semantics.part f now later) ≡ us ∷ []
 literals_literal f now later us e = literals_part f now later ∙ ap (λ o. literals_by o now later) (sym e)
 
-pub placed_literal : (f : Form) (now later : semantics.Terms) (us : List ℕ) (n : ℕ) → Some us ≡ literal_in f → run.with_literals (λ m. Base m) n (semantics.part f now later) ≡ semantics.done (values.Text (Base n))
-placed_literal f now later us n e = placed_part f now later n ∙ ap (λ o. placed_by o n f now later) (sym e)
+pub placed_literal : (at : ℕ → Addr) (f : Form) (now later : semantics.Terms) (us : List ℕ) (n : ℕ) → Some us ≡ literal_in f → run.with_literals at n (semantics.part f now later) ≡ semantics.done (values.Text (at n))
+placed_literal at f now later us n e = placed_part at f now later n ∙ ap (λ o. placed_by at o n f now later) (sym e)
 
 -- every other form
 pub literals_parts : (f : Form) (now later : semantics.Terms) → None ≡ literal_in f → run.literals (semantics.part f now later) ≡ run.literals_of now ++ run.literals_of later
 literals_parts f now later e = literals_part f now later ∙ ap (λ o. literals_by o now later) (sym e)
 
-pub placed_parts : (f : Form) (now later : semantics.Terms) (n : ℕ) → None ≡ literal_in f → run.with_literals (λ m. Base m) n (semantics.part f now later)
-    ≡ semantics.part f (run.all_with_literals (λ m. Base m) n now) (run.all_with_literals (λ m. Base m) (n + length (run.literals_of now)) later)
-placed_parts f now later n e = placed_part f now later n ∙ ap (λ o. placed_by o n f now later) (sym e)
+pub placed_parts : (at : ℕ → Addr) (f : Form) (now later : semantics.Terms) (n : ℕ) → None ≡ literal_in f → run.with_literals at n (semantics.part f now later)
+    ≡ semantics.part f (run.all_with_literals at n now) (run.all_with_literals at (n + length (run.literals_of now)) later)
+placed_parts at f now later n e = placed_part at f now later n ∙ ap (λ o. placed_by at o n f now later) (sym e)
 
 -- what holds at all holds of a success
 pub always_ok : {A E P : Type 0} (r : Result A E) → P → OnOk r P
@@ -86,13 +86,13 @@ placed_front : (front : List semantics.Term) (t : semantics.Term) (rest : semant
 placed_front [] t rest = refl
 placed_front (f ∷ front) t rest = ap (semantics.more f) (placed_front front t rest)
 
-pub placed_more : (front now : List Term) (t : Term) (x : Term) (rest : List Term) (n m : ℕ) → map term_view now ≡ map term_view front ++ term_view t ∷ [] → term_view t ≡ run.with_literals (λ k. Base k) n (term_view x) → m ≡ n + length (run.literals (term_view x))
-    → semantics.joined (listed_view now) (run.all_with_literals (λ k. Base k) m (listed_view rest)) ≡ semantics.joined (listed_view front) (run.all_with_literals (λ k. Base k) n (listed_view (x ∷ rest)))
-placed_more front now t x rest n m e placed counted =
-    ap (λ ts. semantics.joined (listed ts) (run.all_with_literals (λ k. Base k) m (listed_view rest))) e
-    ∙ placed_front (map term_view front) (term_view t) (run.all_with_literals (λ k. Base k) m (listed_view rest))
-    ∙ ap (λ u. semantics.joined (listed_view front) (semantics.more u (run.all_with_literals (λ k. Base k) m (listed_view rest)))) placed
-    ∙ ap (λ k. semantics.joined (listed_view front) (semantics.more (run.with_literals (λ k. Base k) n (term_view x)) (run.all_with_literals (λ k. Base k) k (listed_view rest)))) counted
+pub placed_more : (at : ℕ → Addr) (front now : List Term) (t : Term) (x : Term) (rest : List Term) (n m : ℕ) → map term_view now ≡ map term_view front ++ term_view t ∷ [] → term_view t ≡ run.with_literals at n (term_view x) → m ≡ n + length (run.literals (term_view x))
+    → semantics.joined (listed_view now) (run.all_with_literals at m (listed_view rest)) ≡ semantics.joined (listed_view front) (run.all_with_literals at n (listed_view (x ∷ rest)))
+placed_more at front now t x rest n m e placed counted =
+    ap (λ ts. semantics.joined (listed ts) (run.all_with_literals at m (listed_view rest))) e
+    ∙ placed_front (map term_view front) (term_view t) (run.all_with_literals at m (listed_view rest))
+    ∙ ap (λ u. semantics.joined (listed_view front) (semantics.more u (run.all_with_literals at m (listed_view rest)))) placed
+    ∙ ap (λ k. semantics.joined (listed_view front) (semantics.more (run.with_literals at n (term_view x)) (run.all_with_literals at k (listed_view rest)))) counted
 
 pub joined_end : (ts : semantics.Terms) → semantics.joined ts semantics.end ≡ ts
 joined_end semantics.end = refl
@@ -104,12 +104,12 @@ counted_more n m x rest e = ap (λ k. k + length (run.literals_of (listed_view r
     ∙ ap (λ k. n + k) (sym (length-append (run.literals (term_view x)) (run.literals_of (listed_view rest))))
 
 -- one turn of the loop, and its end
-pub placed_step : (items : List Term) (i : ℕ) (x : Term) → i < length items → x ≡ get_or items i x → (front now : List Term) (t : Term) (n m : ℕ) → now ≡ front ++ t ∷ [] → term_view t ≡ run.with_literals (λ k. Base k) n (term_view x) → m ≡ n + length (run.literals (term_view x))
-    → semantics.joined (listed_view now) (run.all_with_literals (λ k. Base k) m (listed_view (drop (i + 1) items))) ≡ semantics.joined (listed_view front) (run.all_with_literals (λ k. Base k) n (listed_view (drop i items)))
-placed_step items i x h is front now t n m e placed counted =
-    placed_more front now t x (drop (i + 1) items) n m (ap (map term_view) e ∙ map-append term_view front (t ∷ [])) placed counted
-    ∙ ap (λ y. semantics.joined (listed_view front) (run.all_with_literals (λ k. Base k) n (listed_view (y ∷ drop (i + 1) items)))) is
-    ∙ ap (λ xs. semantics.joined (listed_view front) (run.all_with_literals (λ k. Base k) n (listed_view xs))) (sym (drop_more items i x h))
+pub placed_step : (at : ℕ → Addr) (items : List Term) (i : ℕ) (x : Term) → i < length items → x ≡ get_or items i x → (front now : List Term) (t : Term) (n m : ℕ) → now ≡ front ++ t ∷ [] → term_view t ≡ run.with_literals at n (term_view x) → m ≡ n + length (run.literals (term_view x))
+    → semantics.joined (listed_view now) (run.all_with_literals at m (listed_view (drop (i + 1) items))) ≡ semantics.joined (listed_view front) (run.all_with_literals at n (listed_view (drop i items)))
+placed_step at items i x h is front now t n m e placed counted =
+    placed_more at front now t x (drop (i + 1) items) n m (ap (map term_view) e ∙ map-append term_view front (t ∷ [])) placed counted
+    ∙ ap (λ y. semantics.joined (listed_view front) (run.all_with_literals at n (listed_view (y ∷ drop (i + 1) items)))) is
+    ∙ ap (λ xs. semantics.joined (listed_view front) (run.all_with_literals at n (listed_view xs))) (sym (drop_more items i x h))
 
 pub counted_step : (items : List Term) (i : ℕ) (x : Term) → i < length items → x ≡ get_or items i x → (n m : ℕ) → m ≡ n + length (run.literals (term_view x))
     → m + length (run.literals_of (listed_view (drop (i + 1) items))) ≡ n + length (run.literals_of (listed_view (drop i items)))
@@ -118,6 +118,6 @@ counted_step items i x h is n m e =
     ∙ ap (λ y. n + length (run.literals_of (listed_view (y ∷ drop (i + 1) items)))) is
     ∙ ap (λ xs. n + length (run.literals_of (listed_view xs))) (sym (drop_more items i x h))
 
-pub placed_all : (items : List Term) (i : ℕ) (front : List Term) (n m : ℕ) → length items ≤ i → semantics.joined (listed_view front) (run.all_with_literals (λ k. Base k) m (listed_view (drop i items))) ≡ run.all_with_literals (λ k. Base k) n (listed_view items) → listed_view front ≡ run.all_with_literals (λ k. Base k) n (listed_view items)
-placed_all items i front n m h e =
-    sym (joined_end (listed_view front)) ∙ ap (λ xs. semantics.joined (listed_view front) (run.all_with_literals (λ k. Base k) m (listed_view xs))) (sym (drop_all i items h)) ∙ e
+pub placed_all : (at : ℕ → Addr) (items : List Term) (i : ℕ) (front : List Term) (n m : ℕ) → length items ≤ i → semantics.joined (listed_view front) (run.all_with_literals at m (listed_view (drop i items))) ≡ run.all_with_literals at n (listed_view items) → listed_view front ≡ run.all_with_literals at n (listed_view items)
+placed_all at items i front n m h e =
+    sym (joined_end (listed_view front)) ∙ ap (λ xs. semantics.joined (listed_view front) (run.all_with_literals at m (listed_view xs))) (sym (drop_all i items h)) ∙ e

@@ -1,3 +1,4 @@
 pub mod Literals
 pub mod Sources
+pub mod Spaces
 pub mod Targets

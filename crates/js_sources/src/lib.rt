@@ -5,6 +5,7 @@ mod blocks;
 mod declarators;
 mod expressions;
 mod functions;
+pub mod kept;
 mod loops;
 mod objects;
 pub mod script;
