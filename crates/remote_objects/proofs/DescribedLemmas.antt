@@ -3,17 +3,18 @@ use Rattle.std.proofs.Common.{◌≡◌, ℕ, List, [], ◌∷◌, Option, refl,
 use Rattle.std.specs.Prelude.{map}
 use Rattle.js_heap.specs.declared.cell.Property.{Property}
 use Rattle.object_groups.specs.Handles.{State}
+use Rattle.remote_objects.specs.declared.detail.Detail.{Detail}
 use Rattle.remote_objects.specs.Sights.{Sight}
 use Rattle.remote_objects.specs.Making.{made_all}
 use Rattle.remote_objects.specs.Descriptors.{Slot, slots_of, content_made, descriptor, property_slot}
 use Rattle.remote_objects.specs.Laws.{AreDescriptors, DescribesEach, slot_name, key_of}
 
-described-each : (s : Sight) (group : Option (List ℕ)) (ps : List Slot) (h : State) → AreDescriptors ps (made_all (descriptor s group) ps h).made
-described-each s group [] h = tt
-described-each s group (p ∷ ps) h = (((content_made s group p.content h).made, refl), described-each s group ps (descriptor s group p h).handles)
+described-each : (s : Sight) (detail : Detail) (group : Option (List ℕ)) (ps : List Slot) (h : State) → AreDescriptors ps (made_all (descriptor s detail group) ps h).made
+described-each s detail group [] h = tt
+described-each s detail group (p ∷ ps) h = (((content_made s detail group p.content h).made, refl), described-each s detail group ps (descriptor s detail group p h).handles)
 
 pub describes-each : DescribesEach
-describes-each s group target h = described-each s group (slots_of s.world target) h
+describes-each s detail group target h = described-each s detail group (slots_of s.world target) h
 
 pub names-keys : (ps : List Property) → map slot_name (map property_slot ps) ≡ map key_of ps
 names-keys [] = refl

@@ -26,7 +26,7 @@ pub record Goes (done : List json.Json) (left whole : Made (List json.Json)) : T
 pub from-here : {X Y : Type 0} (v : X → Y) (xs : List X) (i : ℕ) (x : X) → i < length xs → x ≡ get_or xs i x → map v (drop i xs) ≡ v x ∷ map v (drop (i + 1) xs)
 from-here v xs i x h e = rw add-one (ap (map v) (drop-cons xs i x h ∙ ap (λ y. y ∷ drop (suc i) xs) (sym e)))
 
-one_more : (done all : List Json) (j : Json) (v : json.Json) (left : List json.Json) → all ≡ done ++ j ∷ [] → json_view j ≡ v
+pub one_more : (done all : List Json) (j : Json) (v : json.Json) (left : List json.Json) → all ≡ done ++ j ∷ [] → json_view j ≡ v
     → map json_view all ++ left ≡ map json_view done ++ v ∷ left
 one_more done all j v left a b =
     ap (λ js. map json_view js ++ left) a
@@ -113,7 +113,7 @@ names-here ts ss i s h e = ap (λ xs. names_slots (bindings ts xs)) (behind-here
 same_Some : {A : Type 0} (x y : A) → Some x ≡ Some y → x ≡ y
 same_Some x y e = cc
 
-got-here : {X : Type 0} (xs : List X) (i : ℕ) (x : X) → Some x ≡ slice_get xs i → drop i xs ≡ x ∷ drop (suc i) xs
+pub got-here : {X : Type 0} (xs : List X) (i : ℕ) (x : X) → Some x ≡ slice_get xs i → drop i xs ≡ x ∷ drop (suc i) xs
 got-here [] i x e = cc
 got-here (y ∷ ys) zero x e = ap (λ z. z ∷ ys) (sym (same_Some x y e))
 got-here (y ∷ ys) (suc i) x e = got-here ys i x e

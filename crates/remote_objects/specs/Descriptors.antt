@@ -14,8 +14,10 @@ use Rattle.cdp_json.specs.Json.{Json, boolean, text}
 use Rattle.cdp_json.specs.Parts.{object_of}
 use Rattle.remote_objects.specs.Sights.{Sight}
 use Rattle.remote_objects.specs.Values.{text_pairs}
+use Rattle.remote_objects.specs.declared.detail.Detail.{Detail}
+use Rattle.remote_objects.specs.declared.detail.Detail.TheVariants as details
 use Rattle.remote_objects.specs.Making.{Made, made_all}
-use Rattle.remote_objects.specs.Remote.{remote}
+use Rattle.remote_objects.specs.Remote.{remote_with}
 
 -- what a property holds: a value, or a text that has no cell of its own
 pub data Content : Type 0 where
@@ -83,9 +85,9 @@ slots_of w (targets.Scope a) = scope_slots (read_cell w a)
 
 -- ---- descriptors
 
-abbrev pub content_made : Sight → Option (List ℕ) → Content → handles.State → Made Json
-content_made s group (a_value v) h = remote s group v h
-content_made s group (a_text units) h = record { made = object_of (text_pairs units); handles = h }
+abbrev pub content_made : Sight → Detail → Option (List ℕ) → Content → handles.State → Made Json
+content_made s detail group (a_value v) h = remote_with s detail group v h
+content_made s detail group (a_text units) h = record { made = object_of (text_pairs units); handles = h }
 
 -- a property with what its value is described as
 abbrev pub descriptor_of : Slot → Json → Json
@@ -97,9 +99,13 @@ descriptor_of p value = object_of (
     ∷ (codes "value", value)
     ∷ (codes "writable", boolean p.writable) ∷ [])
 
-abbrev pub descriptor : Sight → Option (List ℕ) → Slot → handles.State → Made Json
-descriptor s group p h = record { made = descriptor_of p (content_made s group p.content h).made; handles = (content_made s group p.content h).handles }
+abbrev pub descriptor : Sight → Detail → Option (List ℕ) → Slot → handles.State → Made Json
+descriptor s detail group p h = record { made = descriptor_of p (content_made s detail group p.content h).made; handles = (content_made s detail group p.content h).handles }
 
--- the properties of a target, in order; new handles are in this group or in none
+-- the properties of a target, in order, with or without previews of their values; new handles are in this group or in none
+abbrev pub descriptors_with : Sight → Detail → Option (List ℕ) → Target → handles.State → Made (List Json)
+descriptors_with s detail group target h = made_all (descriptor s detail group) (slots_of s.world target) h
+
+-- without previews
 abbrev pub descriptors : Sight → Option (List ℕ) → Target → handles.State → Made (List Json)
-descriptors s group target h = made_all (descriptor s group) (slots_of s.world target) h
+descriptors s group target h = descriptors_with s details.Plain group target h

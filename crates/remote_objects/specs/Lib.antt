@@ -1,6 +1,7 @@
 pub mod Ids
 pub mod Sights
 pub mod Values
+pub mod Previews
 pub mod Making
 pub mod Remote
 pub mod Descriptors

@@ -1,11 +1,14 @@
 -- What is described of a world in the code, and the members of a frame as they are made.
-use Rattle.std.specs.Prelude.{ℕ, List, [], ◌∷◌, ◌++◌, codes}
+use Rattle.std.specs.Prelude.{ℕ, List, [], ◌∷◌, ◌++◌, map, codes}
 use Rattle.js_heap.specs.World.{World}
 use Rattle.js_tree.specs.declared.script.Script.{Script}
 use Rattle.call_frames.specs.Frames.{ShownFrame}
 use Rattle.cdp_json.specs.Json.{Json, text}
 use Rattle.cdp_json.specs.Parts.{Pair, list_of, location}
+use Rattle.cdp_json.specs.Views.{json_view}
 use Rattle.remote_objects.specs.Ids.{frame_id}
+use Rattle.remote_objects.specs.Previews as previews
+use Rattle.remote_objects.specs.declared.previews.Listed.{Listed}
 use Rattle.remote_objects.specs.Sights.{Sight}
 use Rattle.remote_objects.specs.CallFrames.{function_pairs}
 
@@ -21,3 +24,7 @@ frame_front session stop depth f =
 -- those of its scopes, its `this` and its URL
 abbrev pub frame_back : List Json → Json → List ℕ → List Pair
 frame_back scopes receiver url = (codes "scopeChain", list_of scopes) ∷ (codes "this", receiver) ∷ (codes "url", text url) ∷ []
+
+-- what a preview lists
+abbrev pub listed_view : Listed → previews.Listed
+listed_view l = record { first = map json_view l.first.items; more = l.more }

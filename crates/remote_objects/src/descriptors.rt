@@ -11,6 +11,7 @@ ghost use Rattle.remote_objects.specs.Values.{text_pairs};
 ghost use Rattle.remote_objects.specs.Views.{sight_of};
 
 use crate::describer::Describer;
+use crate::detail::Detail;
 use crate::members::text_members;
 use crate::slots::{Flags, descriptor_of, index_name, length_value};
 use cdp_json::value::{Json, object};
@@ -33,13 +34,14 @@ impl<'w, W: World> Describer<'w, W> {
         name: Units,
         value: Value,
         flags: Flags,
+        detail: Detail,
         group: Option<&[u16]>,
         handles: &mut Handles,
     ) -> Result<Json, AllocError>
-        ensures made { IfOk result (λ j. json_view j ≡ (descriptors.descriptor (sight_of (W.world self.now.names.now self.now.world.now) self.now.scripts.now self.now.session) (option_copied group.entry) (value_slot name value flags) handles.old).made) }
-        ensures handles { OnOk result (handles.new ≡ (descriptors.descriptor (sight_of (W.world self.now.names.now self.now.world.now) self.now.scripts.now self.now.session) (option_copied group.entry) (value_slot name value flags) handles.old).handles) }
+        ensures made { IfOk result (λ j. json_view j ≡ (descriptors.descriptor (sight_of (W.world self.now.names.now self.now.world.now) self.now.scripts.now self.now.session) detail (option_copied group.entry) (value_slot name value flags) handles.old).made) }
+        ensures handles { OnOk result (handles.new ≡ (descriptors.descriptor (sight_of (W.world self.now.names.now self.now.world.now) self.now.scripts.now self.now.session) detail (option_copied group.entry) (value_slot name value flags) handles.old).handles) }
     {
-        let value = self.remote(value, handles, group)?;
+        let value = self.remote_with(value, detail, handles, group)?;
         descriptor_of(self.alloc, name, flags, value)
     }
 
@@ -55,11 +57,12 @@ impl<'w, W: World> Describer<'w, W> {
     fn property(
         &self,
         property: &Property,
+        detail: Detail,
         group: Option<&[u16]>,
         handles: &mut Handles,
     ) -> Result<Json, AllocError>
-        ensures made { IfOk result (λ j. json_view j ≡ (descriptors.descriptor (sight_of (W.world self.now.names.now self.now.world.now) self.now.scripts.now self.now.session) (option_copied group.entry) (descriptors.property_slot property.now) handles.old).made) }
-        ensures handles { OnOk result (handles.new ≡ (descriptors.descriptor (sight_of (W.world self.now.names.now self.now.world.now) self.now.scripts.now self.now.session) (option_copied group.entry) (descriptors.property_slot property.now) handles.old).handles) }
+        ensures made { IfOk result (λ j. json_view j ≡ (descriptors.descriptor (sight_of (W.world self.now.names.now self.now.world.now) self.now.scripts.now self.now.session) detail (option_copied group.entry) (descriptors.property_slot property.now) handles.old).made) }
+        ensures handles { OnOk result (handles.new ≡ (descriptors.descriptor (sight_of (W.world self.now.names.now self.now.world.now) self.now.scripts.now self.now.session) detail (option_copied group.entry) (descriptors.property_slot property.now) handles.old).handles) }
     {
         let name = Units::from_slice(self.alloc, property.key.as_slice())?;
         let flags = Flags {
@@ -67,7 +70,7 @@ impl<'w, W: World> Describer<'w, W> {
             enumerable: property.enumerable,
             configurable: property.configurable,
         };
-        self.value_descriptor(name, property.value, flags, group, handles)
+        self.value_descriptor(name, property.value, flags, detail, group, handles)
     }
 
     /// An element of an array.
@@ -75,11 +78,12 @@ impl<'w, W: World> Describer<'w, W> {
         &self,
         index: usize,
         value: Value,
+        detail: Detail,
         group: Option<&[u16]>,
         handles: &mut Handles,
     ) -> Result<Json, AllocError>
-        ensures made { IfOk result (λ j. json_view j ≡ (descriptors.descriptor (sight_of (W.world self.now.names.now self.now.world.now) self.now.scripts.now self.now.session) (option_copied group.entry) (descriptors.element_slot index value) handles.old).made) }
-        ensures handles { OnOk result (handles.new ≡ (descriptors.descriptor (sight_of (W.world self.now.names.now self.now.world.now) self.now.scripts.now self.now.session) (option_copied group.entry) (descriptors.element_slot index value) handles.old).handles) }
+        ensures made { IfOk result (λ j. json_view j ≡ (descriptors.descriptor (sight_of (W.world self.now.names.now self.now.world.now) self.now.scripts.now self.now.session) detail (option_copied group.entry) (descriptors.element_slot index value) handles.old).made) }
+        ensures handles { OnOk result (handles.new ≡ (descriptors.descriptor (sight_of (W.world self.now.names.now self.now.world.now) self.now.scripts.now self.now.session) detail (option_copied group.entry) (descriptors.element_slot index value) handles.old).handles) }
     {
         let name = index_name(self.alloc, index)?;
         let flags = Flags {
@@ -87,18 +91,19 @@ impl<'w, W: World> Describer<'w, W> {
             enumerable: true,
             configurable: true,
         };
-        self.value_descriptor(name, value, flags, group, handles)
+        self.value_descriptor(name, value, flags, detail, group, handles)
     }
 
     /// The length of an array.
     fn array_length(
         &self,
         len: usize,
+        detail: Detail,
         group: Option<&[u16]>,
         handles: &mut Handles,
     ) -> Result<Json, AllocError>
-        ensures made { IfOk result (λ j. json_view j ≡ (descriptors.descriptor (sight_of (W.world self.now.names.now self.now.world.now) self.now.scripts.now self.now.session) (option_copied group.entry) (descriptors.array_length len) handles.old).made) }
-        ensures handles { OnOk result (handles.new ≡ (descriptors.descriptor (sight_of (W.world self.now.names.now self.now.world.now) self.now.scripts.now self.now.session) (option_copied group.entry) (descriptors.array_length len) handles.old).handles) }
+        ensures made { IfOk result (λ j. json_view j ≡ (descriptors.descriptor (sight_of (W.world self.now.names.now self.now.world.now) self.now.scripts.now self.now.session) detail (option_copied group.entry) (descriptors.array_length len) handles.old).made) }
+        ensures handles { OnOk result (handles.new ≡ (descriptors.descriptor (sight_of (W.world self.now.names.now self.now.world.now) self.now.scripts.now self.now.session) detail (option_copied group.entry) (descriptors.array_length len) handles.old).handles) }
     {
         let name = ascii(self.alloc, b"length")?;
         let value = length_value(len)?;
@@ -107,7 +112,7 @@ impl<'w, W: World> Describer<'w, W> {
             enumerable: false,
             configurable: false,
         };
-        self.value_descriptor(name, value, flags, group, handles)
+        self.value_descriptor(name, value, flags, detail, group, handles)
     }
 
     /// A name of a scope that has a value.
@@ -115,11 +120,12 @@ impl<'w, W: World> Describer<'w, W> {
         &self,
         slot: Slot,
         value: Value,
+        detail: Detail,
         group: Option<&[u16]>,
         handles: &mut Handles,
     ) -> Result<Json, AllocError>
-        ensures made { IfOk result (λ j. json_view j ≡ (descriptors.descriptor (sight_of (W.world self.now.names.now self.now.world.now) self.now.scripts.now self.now.session) (option_copied group.entry) (bound_slot (binding_at self.now.names.now slot).name slot.constant value) handles.old).made) }
-        ensures handles { OnOk result (handles.new ≡ (descriptors.descriptor (sight_of (W.world self.now.names.now self.now.world.now) self.now.scripts.now self.now.session) (option_copied group.entry) (bound_slot (binding_at self.now.names.now slot).name slot.constant value) handles.old).handles) }
+        ensures made { IfOk result (λ j. json_view j ≡ (descriptors.descriptor (sight_of (W.world self.now.names.now self.now.world.now) self.now.scripts.now self.now.session) detail (option_copied group.entry) (bound_slot (binding_at self.now.names.now slot).name slot.constant value) handles.old).made) }
+        ensures handles { OnOk result (handles.new ≡ (descriptors.descriptor (sight_of (W.world self.now.names.now self.now.world.now) self.now.scripts.now self.now.session) detail (option_copied group.entry) (bound_slot (binding_at self.now.names.now slot).name slot.constant value) handles.old).handles) }
     {
         let name = Units::from_slice(self.alloc, self.names.text(slot.name)?)?;
         let flags = Flags {
@@ -127,7 +133,7 @@ impl<'w, W: World> Describer<'w, W> {
             enumerable: true,
             configurable: true,
         };
-        self.value_descriptor(name, value, flags, group, handles)
+        self.value_descriptor(name, value, flags, detail, group, handles)
     }
 
     // ---- all of them
@@ -136,18 +142,19 @@ impl<'w, W: World> Describer<'w, W> {
     fn properties(
         &self,
         properties: &PropertyMap,
+        detail: Detail,
         group: Option<&[u16]>,
         handles: &mut Handles,
     ) -> Result<Vec<Json>, AllocError>
-        ensures made { IfOk result (λ js. map json_view js.items ≡ (made_all (descriptors.descriptor (sight_of (W.world self.now.names.now self.now.world.now) self.now.scripts.now self.now.session) (option_copied group.entry)) (map descriptors.property_slot properties.now) handles.old).made) }
-        ensures handles { OnOk result (handles.new ≡ (made_all (descriptors.descriptor (sight_of (W.world self.now.names.now self.now.world.now) self.now.scripts.now self.now.session) (option_copied group.entry)) (map descriptors.property_slot properties.now) handles.old).handles) }
+        ensures made { IfOk result (λ js. map json_view js.items ≡ (made_all (descriptors.descriptor (sight_of (W.world self.now.names.now self.now.world.now) self.now.scripts.now self.now.session) detail (option_copied group.entry)) (map descriptors.property_slot properties.now) handles.old).made) }
+        ensures handles { OnOk result (handles.new ≡ (made_all (descriptors.descriptor (sight_of (W.world self.now.names.now self.now.world.now) self.now.scripts.now self.now.session) detail (option_copied group.entry)) (map descriptors.property_slot properties.now) handles.old).handles) }
     {
         let mut listed = Vec::with_capacity(self.alloc, properties.len())?;
         for place in 0..properties.len() {
             let Some(property) = properties.get(place) else {
                 return Err(AllocError);
             };
-            listed.push(self.property(property, group, handles)?)?;
+            listed.push(self.property(property, detail, group, handles)?)?;
         }
         Ok(listed)
     }
@@ -156,17 +163,18 @@ impl<'w, W: World> Describer<'w, W> {
     fn elements(
         &self,
         values: &[Value],
+        detail: Detail,
         group: Option<&[u16]>,
         handles: &mut Handles,
     ) -> Result<Vec<Json>, AllocError>
-        ensures made { IfOk result (λ js. map json_view js.items ≡ (made_all (descriptors.descriptor (sight_of (W.world self.now.names.now self.now.world.now) self.now.scripts.now self.now.session) (option_copied group.entry)) (descriptors.elements_from 0 values.now) handles.old).made) }
-        ensures handles { OnOk result (handles.new ≡ (made_all (descriptors.descriptor (sight_of (W.world self.now.names.now self.now.world.now) self.now.scripts.now self.now.session) (option_copied group.entry)) (descriptors.elements_from 0 values.now) handles.old).handles) }
+        ensures made { IfOk result (λ js. map json_view js.items ≡ (made_all (descriptors.descriptor (sight_of (W.world self.now.names.now self.now.world.now) self.now.scripts.now self.now.session) detail (option_copied group.entry)) (descriptors.elements_from 0 values.now) handles.old).made) }
+        ensures handles { OnOk result (handles.new ≡ (made_all (descriptors.descriptor (sight_of (W.world self.now.names.now self.now.world.now) self.now.scripts.now self.now.session) detail (option_copied group.entry)) (descriptors.elements_from 0 values.now) handles.old).handles) }
     {
         let mut listed = Vec::with_capacity(self.alloc, values.len())?;
         for index in 0..values.len() {
-            listed.push(self.element(index, values[index], group, handles)?)?;
+            listed.push(self.element(index, values[index], detail, group, handles)?)?;
         }
-        listed.push(self.array_length(values.len(), group, handles)?)?;
+        listed.push(self.array_length(values.len(), detail, group, handles)?)?;
         Ok(listed)
     }
 
@@ -174,11 +182,12 @@ impl<'w, W: World> Describer<'w, W> {
     fn function_properties(
         &self,
         function: &FunctionCell,
+        detail: Detail,
         group: Option<&[u16]>,
         handles: &mut Handles,
     ) -> Result<Vec<Json>, AllocError>
-        ensures made { IfOk result (λ js. map json_view js.items ≡ (made_all (descriptors.descriptor (sight_of (W.world self.now.names.now self.now.world.now) self.now.scripts.now self.now.session) (option_copied group.entry)) (descriptors.function_slots function.now.length (name_text self.now.names.now function.now.name)) handles.old).made) }
-        ensures handles { OnOk result (handles.new ≡ (made_all (descriptors.descriptor (sight_of (W.world self.now.names.now self.now.world.now) self.now.scripts.now self.now.session) (option_copied group.entry)) (descriptors.function_slots function.now.length (name_text self.now.names.now function.now.name)) handles.old).handles) }
+        ensures made { IfOk result (λ js. map json_view js.items ≡ (made_all (descriptors.descriptor (sight_of (W.world self.now.names.now self.now.world.now) self.now.scripts.now self.now.session) detail (option_copied group.entry)) (descriptors.function_slots function.now.length (name_text self.now.names.now function.now.name)) handles.old).made) }
+        ensures handles { OnOk result (handles.new ≡ (made_all (descriptors.descriptor (sight_of (W.world self.now.names.now self.now.world.now) self.now.scripts.now self.now.session) detail (option_copied group.entry)) (descriptors.function_slots function.now.length (name_text self.now.names.now function.now.name)) handles.old).handles) }
     {
         let flags = Flags {
             writable: false,
@@ -187,7 +196,7 @@ impl<'w, W: World> Describer<'w, W> {
         };
         let key = ascii(self.alloc, b"length")?;
         let len = Value::Number(i64::from(function.length));
-        let length = self.value_descriptor(key, len, flags, group, handles)?;
+        let length = self.value_descriptor(key, len, flags, detail, group, handles)?;
         let text = name_text(self.names, &function.name)?;
         let name = self.text_descriptor(b"name", text, flags)?;
         Ok(vec![in self.alloc; length, name]?)
@@ -198,16 +207,17 @@ impl<'w, W: World> Describer<'w, W> {
         &self,
         slot: Slot,
         listed: &mut Vec<Json>,
+        detail: Detail,
         group: Option<&[u16]>,
         handles: &mut Handles,
     ) -> Result<(), AllocError>
-        ensures made { OnOk result (map json_view listed.new.items ≡ map json_view listed.old.items ++ (made_all (descriptors.descriptor (sight_of (W.world self.now.names.now self.now.world.now) self.now.scripts.now self.now.session) (option_copied group.entry)) (slots_at self.now.names.now slot) handles.old).made) }
-        ensures handles { OnOk result (handles.new ≡ (made_all (descriptors.descriptor (sight_of (W.world self.now.names.now self.now.world.now) self.now.scripts.now self.now.session) (option_copied group.entry)) (slots_at self.now.names.now slot) handles.old).handles) }
+        ensures made { OnOk result (map json_view listed.new.items ≡ map json_view listed.old.items ++ (made_all (descriptors.descriptor (sight_of (W.world self.now.names.now self.now.world.now) self.now.scripts.now self.now.session) detail (option_copied group.entry)) (slots_at self.now.names.now slot) handles.old).made) }
+        ensures handles { OnOk result (handles.new ≡ (made_all (descriptors.descriptor (sight_of (W.world self.now.names.now self.now.world.now) self.now.scripts.now self.now.session) detail (option_copied group.entry)) (slots_at self.now.names.now slot) handles.old).handles) }
     {
         match slot.value {
             None => Ok(()),
             Some(value) => {
-                listed.push(self.bound(slot, value, group, handles)?)?;
+                listed.push(self.bound(slot, value, detail, group, handles)?)?;
                 Ok(())
             }
         }
@@ -217,15 +227,16 @@ impl<'w, W: World> Describer<'w, W> {
     fn bindings(
         &self,
         slots: &[Slot],
+        detail: Detail,
         group: Option<&[u16]>,
         handles: &mut Handles,
     ) -> Result<Vec<Json>, AllocError>
-        ensures made { IfOk result (λ js. map json_view js.items ≡ (made_all (descriptors.descriptor (sight_of (W.world self.now.names.now self.now.world.now) self.now.scripts.now self.now.session) (option_copied group.entry)) (descriptors.names_slots (bindings self.now.names.now slots.now)) handles.old).made) }
-        ensures handles { OnOk result (handles.new ≡ (made_all (descriptors.descriptor (sight_of (W.world self.now.names.now self.now.world.now) self.now.scripts.now self.now.session) (option_copied group.entry)) (descriptors.names_slots (bindings self.now.names.now slots.now)) handles.old).handles) }
+        ensures made { IfOk result (λ js. map json_view js.items ≡ (made_all (descriptors.descriptor (sight_of (W.world self.now.names.now self.now.world.now) self.now.scripts.now self.now.session) detail (option_copied group.entry)) (descriptors.names_slots (bindings self.now.names.now slots.now)) handles.old).made) }
+        ensures handles { OnOk result (handles.new ≡ (made_all (descriptors.descriptor (sight_of (W.world self.now.names.now self.now.world.now) self.now.scripts.now self.now.session) detail (option_copied group.entry)) (descriptors.names_slots (bindings self.now.names.now slots.now)) handles.old).handles) }
     {
         let mut listed = Vec::with_capacity(self.alloc, slots.len())?;
         for i in 0..slots.len() {
-            self.put_binding(slots[i], &mut listed, group, handles)?;
+            self.put_binding(slots[i], &mut listed, detail, group, handles)?;
         }
         Ok(listed)
     }
@@ -236,17 +247,29 @@ impl<'w, W: World> Describer<'w, W> {
     fn object_properties(
         &self,
         cell: Option<&Stored>,
+        detail: Detail,
         group: Option<&[u16]>,
         handles: &mut Handles,
     ) -> Result<Vec<Json>, AllocError>
-        ensures made { IfOk result (λ js. map json_view js.items ≡ (made_all (descriptors.descriptor (sight_of (W.world self.now.names.now self.now.world.now) self.now.scripts.now self.now.session) (option_copied group.entry)) (descriptors.object_slots (cell_at self.now.names.now (option_copied cell.entry))) handles.old).made) }
-        ensures handles { OnOk result (handles.new ≡ (made_all (descriptors.descriptor (sight_of (W.world self.now.names.now self.now.world.now) self.now.scripts.now self.now.session) (option_copied group.entry)) (descriptors.object_slots (cell_at self.now.names.now (option_copied cell.entry))) handles.old).handles) }
+        ensures made { IfOk result (λ js. map json_view js.items ≡ (made_all (descriptors.descriptor (sight_of (W.world self.now.names.now self.now.world.now) self.now.scripts.now self.now.session) detail (option_copied group.entry)) (descriptors.object_slots (cell_at self.now.names.now (option_copied cell.entry))) handles.old).made) }
+        ensures handles { OnOk result (handles.new ≡ (made_all (descriptors.descriptor (sight_of (W.world self.now.names.now self.now.world.now) self.now.scripts.now self.now.session) detail (option_copied group.entry)) (descriptors.object_slots (cell_at self.now.names.now (option_copied cell.entry))) handles.old).handles) }
     {
         match cell {
-            Some(Stored::Object { properties }) => self.properties(properties, group, handles),
-            Some(Stored::Error { properties, .. }) => self.properties(properties, group, handles),
-            Some(Stored::Array { elements }) => self.elements(elements.slice(), group, handles),
-            Some(Stored::Function(function)) => self.function_properties(function, group, handles),
+            Some(Stored::Object { properties }) => self.properties(
+                properties, detail, group, handles,
+            ),
+            Some(Stored::Error { properties, .. }) => self.properties(
+                properties, detail, group, handles,
+            ),
+            Some(Stored::Array { elements }) => self.elements(
+                elements.slice(),
+                detail,
+                group,
+                handles,
+            ),
+            Some(Stored::Function(function)) => self.function_properties(
+                function, detail, group, handles,
+            ),
             _ => Ok(Vec::new(self.alloc)),
         }
     }
@@ -255,19 +278,42 @@ impl<'w, W: World> Describer<'w, W> {
     fn scope_names(
         &self,
         cell: Option<&Stored>,
+        detail: Detail,
         group: Option<&[u16]>,
         handles: &mut Handles,
     ) -> Result<Vec<Json>, AllocError>
-        ensures made { IfOk result (λ js. map json_view js.items ≡ (made_all (descriptors.descriptor (sight_of (W.world self.now.names.now self.now.world.now) self.now.scripts.now self.now.session) (option_copied group.entry)) (descriptors.scope_slots (cell_at self.now.names.now (option_copied cell.entry))) handles.old).made) }
-        ensures handles { OnOk result (handles.new ≡ (made_all (descriptors.descriptor (sight_of (W.world self.now.names.now self.now.world.now) self.now.scripts.now self.now.session) (option_copied group.entry)) (descriptors.scope_slots (cell_at self.now.names.now (option_copied cell.entry))) handles.old).handles) }
+        ensures made { IfOk result (λ js. map json_view js.items ≡ (made_all (descriptors.descriptor (sight_of (W.world self.now.names.now self.now.world.now) self.now.scripts.now self.now.session) detail (option_copied group.entry)) (descriptors.scope_slots (cell_at self.now.names.now (option_copied cell.entry))) handles.old).made) }
+        ensures handles { OnOk result (handles.new ≡ (made_all (descriptors.descriptor (sight_of (W.world self.now.names.now self.now.world.now) self.now.scripts.now self.now.session) detail (option_copied group.entry)) (descriptors.scope_slots (cell_at self.now.names.now (option_copied cell.entry))) handles.old).handles) }
     {
         match cell {
-            Some(Stored::Scope { slots, .. }) => self.bindings(slots.slice(), group, handles),
+            Some(Stored::Scope { slots, .. }) => self.bindings(
+                slots.slice(),
+                detail,
+                group,
+                handles,
+            ),
             _ => Ok(Vec::new(self.alloc)),
         }
     }
 
-    /// The properties of a target, in order; new handles are in this group or in none.
+    /// The properties of a target, in order, with or without previews of their values; new handles are in this group or in none.
+    pub fn descriptors_with(
+        &self,
+        target: Target,
+        detail: Detail,
+        group: Option<&[u16]>,
+        handles: &mut Handles,
+    ) -> Result<Vec<Json>, AllocError>
+        ensures made { IfOk result (λ js. map json_view js.items ≡ (descriptors.descriptors_with (sight_of (W.world self.now.names.now self.now.world.now) self.now.scripts.now self.now.session) detail (option_copied group.entry) target handles.old).made) }
+        ensures handles { OnOk result (handles.new ≡ (descriptors.descriptors_with (sight_of (W.world self.now.names.now self.now.world.now) self.now.scripts.now self.now.session) detail (option_copied group.entry) target handles.old).handles) }
+    {
+        match target {
+            Target::Object(a) => self.object_properties(self.world.find(a), detail, group, handles),
+            Target::Scope(a) => self.scope_names(self.world.find(a), detail, group, handles),
+        }
+    }
+
+    /// The properties of a target, in order, without previews; new handles are in this group or in none.
     pub fn descriptors(
         &self,
         target: Target,
@@ -277,9 +323,6 @@ impl<'w, W: World> Describer<'w, W> {
         ensures made { IfOk result (λ js. map json_view js.items ≡ (descriptors.descriptors (sight_of (W.world self.now.names.now self.now.world.now) self.now.scripts.now self.now.session) (option_copied group.entry) target handles.old).made) }
         ensures handles { OnOk result (handles.new ≡ (descriptors.descriptors (sight_of (W.world self.now.names.now self.now.world.now) self.now.scripts.now self.now.session) (option_copied group.entry) target handles.old).handles) }
     {
-        match target {
-            Target::Object(a) => self.object_properties(self.world.find(a), group, handles),
-            Target::Scope(a) => self.scope_names(self.world.find(a), group, handles),
-        }
+        self.descriptors_with(target, Detail::Plain, group, handles)
     }
 }

@@ -1,6 +1,6 @@
-//! The laws of descriptors. Each function does nothing: its contract is the law.
+//! The laws of descriptors and previews. Each function does nothing: its contract is the law.
 
-ghost use Rattle.remote_objects.specs.Laws.{DescribesEach, NamesAreKeys};
+ghost use Rattle.remote_objects.specs.Laws.{DescribesEach, NamesAreKeys, ListsFirstKeys, SaysWhetherMore};
 
 /// Each property of a target is described once, in order.
 pub fn each_property_is_described()
@@ -10,4 +10,10 @@ pub fn each_property_is_described()
 /// The properties of an object are named by its own keys, in order.
 pub fn own_keys_are_the_names()
     ensures { NamesAreKeys }
+{}
+
+/// A preview lists the first of an object's enumerable keys, and says whether there are more.
+pub fn previews_list_the_first_keys()
+    ensures first { ListsFirstKeys }
+    ensures more { SaysWhetherMore }
 {}

@@ -4,15 +4,18 @@
 
 mod describer;
 mod descriptors;
+mod detail;
 mod frames;
 mod functions;
 mod ids;
 pub mod laws;
 mod members;
+mod previews;
 mod remote;
 mod slots;
 mod values;
 
 pub use describer::Describer;
+pub use detail::Detail;
 pub use frames::backtrace;
 pub use ids::read_object_id;

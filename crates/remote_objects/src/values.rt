@@ -42,7 +42,7 @@ impl<'w, W: World> Describer<'w, W> {
     }
 
     /// The members of the cell at an address as an object.
-    fn cell_members(&self, a: Addr) -> Result<Vec<Member>, AllocError>
+    pub(crate) fn cell_members(&self, a: Addr) -> Result<Vec<Member>, AllocError>
         ensures { IfOk result (λ ms. map member_view ms.items ≡ values.cell_pairs (W.world self.now.names.now self.now.world.now) self.now.scripts.now (read_cell (W.world self.now.names.now self.now.world.now) a)) }
     {
         match self.world.find(a) {

@@ -1,0 +1,8 @@
+//! How much is described.
+
+/// Whether objects are described with previews of their properties.
+#[derive(Clone, Copy, Debug, PartialEq, Eq)]
+pub enum Detail {
+    Plain,
+    Previewed,
+}
