@@ -3,3 +3,6 @@ pub mod LeavingLemmas
 pub mod PlacedLemmas
 pub mod LiteralLemmas
 pub mod ProgramLemmas
+pub mod SettledTerms
+pub mod OrderLemmas
+pub mod EvaluatorLemmas

@@ -1,3 +1,5 @@
 pub mod Answering
 pub mod Programs
 pub mod Leaving
+pub mod Orders
+pub mod Evaluators

@@ -2,8 +2,14 @@
 
 ghost use Rattle.std.specs.Prelude.{◌≡◌, ◌∷◌, ◌++◌, [], ℕ};
 ghost use Rattle.js_heap.specs.declared.value.Addr.{Addr};
+ghost use Rattle.js_semantics.specs.Evaluation.{kept_term, kept_tree};
 ghost use Rattle.js_semantics.specs.Functions.{Program, SourceTree};
-ghost use Rattle.js_semantics.specs.Run.{Run, steps_in};
+ghost use Rattle.js_semantics.specs.Literals.{source_literals};
+ghost use Rattle.js_semantics.specs.Run.{Run, literals, steps_in};
+ghost use Rattle.js_semantics.specs.Sources.{expression_source};
+ghost use Rattle.js_semantics.specs.Terms.{settle};
+ghost use Rattle.js_tree.specs.declared.tree.Expr.{Expr};
+ghost use Rattle.pure_eval.specs.Evaluators.{IsMadeOf};
 ghost use Rattle.pure_eval.specs.Programs.{HasSameFunctions, IsNewSource};
 
 /// Runs of programs in which the same functions are found are the same.
@@ -16,4 +22,14 @@ pub fn functions_decide_the_steps()
 #[tactic(auto, using(crate::proofs::ProgramLemmas::order_rules))]
 pub fn a_new_source_may_stand_behind()
     ensures { (p : Program) (t : SourceTree) → IsNewSource t.source p → HasSameFunctions (p ++ t ∷ []) (t ∷ p) }
+{}
+
+/// The term of an expression waits for its first step as it stands.
+pub fn terms_of_expressions_are_settled()
+    ensures { (at : Addr) (e : Expr) → settle (kept_tree at (expression_source e)) ≡ kept_tree at (expression_source e) }
+{}
+
+/// The term of an expression is made of its source: it has the literals of the source, though in an order of its own.
+pub fn terms_of_expressions_are_made_of_their_sources()
+    ensures { (at : Addr) (e : Expr) → IsMadeOf at (expression_source e) (source_literals e) (literals (kept_term at (expression_source e))) (kept_tree at (expression_source e)) }
 {}
