@@ -30,10 +30,10 @@ use Rattle.js_code.specs.declared.table.NodeTable.{NodeTable}
 use Rattle.js_code.specs.Trees.{tree, program_of}
 use Rattle.js_compile.specs.declared.scripts.ScriptCode.{ScriptCode}
 use Rattle.js_compile.specs.Scripts.{IsCompiled, AreCompiled}
-use Rattle.kept_code.specs.declared.cutting.TableMark.{TableMark}
-use Rattle.kept_code.specs.Whole.{IsWhole}
-use Rattle.kept_code.specs.Adding.{kept_tree_at, GoesOnWith, IsAdded}
-use Rattle.kept_code.specs.Cutting.{IsMarkOf, IsBack}
+use Rattle.pure_eval.specs.declared.cutting.TableMark.{TableMark}
+use Rattle.pure_eval.specs.Whole.{IsWhole}
+use Rattle.pure_eval.specs.Adding.{kept_tree_at, GoesOnWith, IsAdded}
+use Rattle.pure_eval.specs.Cutting.{IsMarkOf, IsBack}
 use Rattle.pure_eval.specs.declared.evaluated.Evaluated.{Evaluated}
 use Rattle.pure_eval.specs.declared.evaluated.Evaluated.TheVariants as ends
 use Rattle.pure_eval.specs.declared.evaluator.Evaluator.{Evaluator}

@@ -12,7 +12,7 @@ use Rattle.js_semantics.specs.Evaluation.{kept_term, kept_tree}
 use Rattle.js_world.specs.Names.{GoesOn}
 use Rattle.js_code.specs.declared.table.NodeTable.{NodeTable}
 use Rattle.js_code.specs.Trees.{program_of}
-use Rattle.kept_code.specs.Whole.{IsWhole}
+use Rattle.pure_eval.specs.Whole.{IsWhole}
 use Rattle.pure_eval.specs.declared.evaluated.Evaluated.{Evaluated}
 use Rattle.pure_eval.specs.declared.evaluated.Evaluated.TheVariants as ends
 use Rattle.pure_eval.specs.declared.evaluator.Evaluator.{Evaluator}

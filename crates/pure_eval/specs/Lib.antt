@@ -1,5 +1,3 @@
-pub mod Answering
-pub mod Programs
-pub mod Leaving
-pub mod Orders
-pub mod Evaluators
+pub mod Whole
+pub mod Adding
+pub mod Cutting

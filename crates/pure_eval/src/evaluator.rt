@@ -14,9 +14,9 @@ ghost use Rattle.js_code.specs.declared.table.NodeTable.{NodeTable as AnyTable};
 ghost use Rattle.js_code.specs.Codes.{HasFunctions};
 ghost use Rattle.js_code.specs.Trees.{tree, program_of, IsTable};
 ghost use Rattle.js_terms.specs.Views.{term_view, terms_view};
-ghost use Rattle.kept_code.specs.Adding.{GoesOnWith};
-ghost use Rattle.kept_code.specs.Cutting.{IsMarkOf, IsBack};
-ghost use Rattle.kept_code.specs.Whole.{IsWhole};
+ghost use Rattle.pure_eval.specs.Adding.{GoesOnWith};
+ghost use Rattle.pure_eval.specs.Cutting.{IsMarkOf, IsBack};
+ghost use Rattle.pure_eval.specs.Whole.{IsWhole};
 ghost use Rattle.pure_eval.specs.Evaluators.{Runs, IsMadeOf, IsBehind, is_kept, RunsAfter, GoOnAfter};
 ghost use Rattle.pure_eval.specs.Leaving.{Leaves};
 ghost use Rattle.pure_eval.specs.Orders.{AreSameLiterals, ready_in_order};
@@ -33,9 +33,9 @@ use js_terms::term::{Term, Terms};
 use js_world::heap::BaseHeap;
 use js_world::names::Names;
 use js_world::overlay::Scratch;
-use kept_code::adding::add_source;
-use kept_code::closed::is_whole;
-use kept_code::cutting::{TableMark, cut, mark};
+use crate::adding::add_source;
+use crate::closed::is_whole;
+use crate::cutting::{TableMark, cut, mark};
 use std::alloc::{AllocError, Global};
 
 /// The code of a program, and of the sources that a session's evaluations keep, with its names.

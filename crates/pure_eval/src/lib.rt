@@ -1,6 +1,9 @@
-//! Evaluation without effects.
+//! Evaluation without effects, and the code of the sources that evaluations keep.
 #![tactic(auto)]
 
+pub mod adding;
+pub mod closed;
+pub mod cutting;
 pub mod evaluated;
 pub mod evaluator;
 pub mod laws;

@@ -3,9 +3,9 @@
 ghost use Rattle.std.specs.Prelude.{List};
 ghost use Rattle.js_code.specs.declared.node.SourceEntry.{SourceEntry};
 ghost use Rattle.js_code.specs.declared.table.NodeTable.{NodeTable as AnyTable};
-ghost use Rattle.kept_code.specs.Whole.{IsWhole};
-ghost use Rattle.kept_code.specs.Adding.{GoesOnWith};
-ghost use Rattle.kept_code.specs.Cutting.{IsMarkOf, IsCut, IsBack};
+ghost use Rattle.pure_eval.specs.Whole.{IsWhole};
+ghost use Rattle.pure_eval.specs.Adding.{GoesOnWith};
+ghost use Rattle.pure_eval.specs.Cutting.{IsMarkOf, IsCut, IsBack};
 
 use js_code::table::NodeTable;
 

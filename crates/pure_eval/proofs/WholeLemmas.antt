@@ -10,8 +10,8 @@ use Rattle.js_code.specs.declared.node.SourceEntry.{SourceEntry}
 use Rattle.js_code.specs.declared.table.NodeTable.{NodeTable}
 use Rattle.js_compile.specs.Grown.{Begins, Extends}
 use Rattle.js_compile.proofs.GrownLemmas.{begins_length}
-use Rattle.kept_code.specs.Whole.{names_entry, AreClosed, ArePlaced, IsWithin}
-use Rattle.kept_code.proofs.StayLemmas.{here}
+use Rattle.pure_eval.specs.Whole.{names_entry, AreClosed, ArePlaced, IsWithin}
+use Rattle.pure_eval.proofs.StayLemmas.{here}
 
 lt_more : (m n k : ℕ) → n ≤ k → nat_lt m n ≡ true → nat_lt m k ≡ true
 lt_more m n k h e = grind arith

@@ -9,12 +9,12 @@ use Rattle.js_code.specs.declared.node.SourceEntry.{SourceEntry}
 use Rattle.js_code.specs.declared.table.NodeTable.{NodeTable}
 use Rattle.js_code.specs.Trees.{EachBelow, IsNodeAt, source_trees}
 use Rattle.js_compile.specs.Grown.{Begins, Extends, IsPlacedAt, IsPlacedNode}
-use Rattle.kept_code.specs.declared.cutting.TableMark.{TableMark}
-use Rattle.kept_code.specs.Whole.{IsWhole}
-use Rattle.kept_code.specs.Adding.{GoesOnWith}
-use Rattle.kept_code.specs.Cutting.{IsMarkOf, IsCut, IsBack}
-use Rattle.kept_code.proofs.StayLemmas.{kids-stay, finds-stay, sources-stay}
-use Rattle.kept_code.proofs.WholeLemmas.{closed-more, placed-more, within-more, closed-end, placed-end}
+use Rattle.pure_eval.specs.declared.cutting.TableMark.{TableMark}
+use Rattle.pure_eval.specs.Whole.{IsWhole}
+use Rattle.pure_eval.specs.Adding.{GoesOnWith}
+use Rattle.pure_eval.specs.Cutting.{IsMarkOf, IsCut, IsBack}
+use Rattle.pure_eval.proofs.StayLemmas.{kids-stay, finds-stay, sources-stay}
+use Rattle.pure_eval.proofs.WholeLemmas.{closed-more, placed-more, within-more, closed-end, placed-end}
 
 -- ---- the same lists
 

@@ -2,9 +2,9 @@
 use Rattle.std.specs.Prelude.{◌≡◌, ℕ, List, length, take, []}
 use Rattle.js_code.specs.declared.table.NodeTable.{NodeTable}
 use Rattle.js_code.specs.Trees.{program_of}
-use Rattle.kept_code.specs.declared.cutting.TableMark.{TableMark}
-use Rattle.kept_code.specs.Whole.{IsWhole}
-use Rattle.kept_code.specs.Adding.{GoesOnWith}
+use Rattle.pure_eval.specs.declared.cutting.TableMark.{TableMark}
+use Rattle.pure_eval.specs.Whole.{IsWhole}
+use Rattle.pure_eval.specs.Adding.{GoesOnWith}
 
 -- how long each list of a table is
 pub record IsMarkOf (t : NodeTable) (m : TableMark) : Type 0 where

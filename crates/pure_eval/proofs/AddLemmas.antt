@@ -15,10 +15,10 @@ use Rattle.js_compile.specs.Grown.{Extends, Keeps, Grows, HasTree, Holds}
 use Rattle.js_compile.specs.Index.{IsIndexed}
 use Rattle.js_compile.specs.Scripts.{with_sources}
 use Rattle.js_compile.proofs.GrownLemmas.{begins_same, extends_twice, same_nodes, same_places}
-use Rattle.kept_code.specs.Whole.{AreClosed, ArePlaced, IsWithin, IsWhole}
-use Rattle.kept_code.specs.Adding.{kept_tree_at, IsAdded}
-use Rattle.kept_code.proofs.StayLemmas.{Finds, finds-stay, sources-stay}
-use Rattle.kept_code.proofs.WholeLemmas.{closed-more, placed-more, within-more, closed-end, placed-end}
+use Rattle.pure_eval.specs.Whole.{AreClosed, ArePlaced, IsWithin, IsWhole}
+use Rattle.pure_eval.specs.Adding.{kept_tree_at, IsAdded}
+use Rattle.pure_eval.proofs.StayLemmas.{Finds, finds-stay, sources-stay}
+use Rattle.pure_eval.proofs.WholeLemmas.{closed-more, placed-more, within-more, closed-end, placed-end}
 
 -- ---- other sources
 

@@ -1,8 +1,8 @@
 use Rattle.std.proofs.Common.{◌≡◌, true, sym, ◌∙◌, arith}
 use Rattle.js_code.specs.declared.node.Node.{Node}
-use Rattle.kept_code.specs.Whole.{names_entry}
-use Rattle.kept_code.proofs.WholeLemmas.{HoldsAt, up-one, holds-here, holds-all}
-use Rattle.kept_code.proofs.closed.are_closed.Goals as goal
+use Rattle.pure_eval.specs.Whole.{names_entry}
+use Rattle.pure_eval.proofs.WholeLemmas.{HoldsAt, up-one, holds-here, holds-all}
+use Rattle.pure_eval.proofs.closed.are_closed.Goals as goal
 
 pub loop-i-preserved : goal.loop-i-preserved
 loop-i-preserved c =

@@ -2,8 +2,8 @@
 
 ghost use Rattle.std.specs.Prelude.{◌≡◌, IfOk, length, true};
 ghost use Rattle.js_terms.specs.Views.{term_view};
-ghost use Rattle.kept_code.specs.Whole.{IsWhole};
-ghost use Rattle.kept_code.specs.Adding.{IsAdded};
+ghost use Rattle.pure_eval.specs.Whole.{IsWhole};
+ghost use Rattle.pure_eval.specs.Adding.{IsAdded};
 
 use crate::closed::{are_closed, are_placed, is_within};
 use js_code::node::SourceEntry;

@@ -9,7 +9,7 @@ use Rattle.js_code.specs.declared.node.SourceEntry.{SourceEntry}
 use Rattle.js_code.specs.declared.table.NodeTable.{NodeTable}
 use Rattle.js_code.specs.Trees.{tree, program_of}
 use Rattle.js_compile.specs.Grown.{Extends}
-use Rattle.kept_code.specs.Whole.{IsWhole}
+use Rattle.pure_eval.specs.Whole.{IsWhole}
 
 -- the source that is kept at an address, with its term
 abbrev pub kept_tree_at : Addr → Term → SourceTree

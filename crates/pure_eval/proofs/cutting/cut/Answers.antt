@@ -1,5 +1,5 @@
-use Rattle.kept_code.proofs.CutLemmas.{cut-back}
-use Rattle.kept_code.proofs.cutting.cut.Goals as goal
+use Rattle.pure_eval.proofs.CutLemmas.{cut-back}
+use Rattle.pure_eval.proofs.cutting.cut.Goals as goal
 
 pub returns-clause-back : goal.returns-clause-back
 returns-clause-back c = cut-back _ _ c.args.mark (record {

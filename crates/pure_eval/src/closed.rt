@@ -4,7 +4,7 @@ ghost use Rattle.std.specs.Prelude.{◌≡◌, ◌≤◌, ℕ, true, Some, slice
 ghost use Rattle.js_code.specs.Codes.{HasFunctions};
 ghost use Rattle.js_code.specs.Trees.{IsTable};
 ghost use Rattle.js_compile.specs.Grown.{HasPlaces};
-ghost use Rattle.kept_code.specs.Whole.{names_entry, AreClosed, ArePlaced, IsWithin, AreWithin, IsWhole};
+ghost use Rattle.pure_eval.specs.Whole.{names_entry, AreClosed, ArePlaced, IsWithin, AreWithin, IsWhole};
 
 use js_code::node::SourceEntry;
 use js_code::op::Op;

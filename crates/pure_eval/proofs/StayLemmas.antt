@@ -18,7 +18,7 @@ use Rattle.js_code.specs.Trees.{constant_at, kids_between, terms, node_term, tre
 use Rattle.js_code.specs.Codes.{code_of_parts, code_of_node, code_of_entry, code_of_number, indexed_code}
 use Rattle.js_compile.specs.Grown.{Begins, Extends}
 use Rattle.js_compile.proofs.TreeLemmas.{now-below, later-below}
-use Rattle.kept_code.specs.Whole.{names_entry, AreClosed, ArePlaced, IsWithin}
+use Rattle.pure_eval.specs.Whole.{names_entry, AreClosed, ArePlaced, IsWithin}
 
 -- ---- lists that go on
 
