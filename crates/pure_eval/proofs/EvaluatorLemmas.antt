@@ -14,13 +14,15 @@ use Rattle.js_semantics.specs.declared.form.Source.TheVariants.{Script as script
 use Rattle.js_semantics.specs.Terms as semantics
 use Rattle.js_semantics.specs.Terms.{Term, Terms, settle}
 use Rattle.js_semantics.specs.Functions.{Program, SourceTree, same_source}
+use Rattle.js_tree.specs.declared.script.Expression.{Expression}
 use Rattle.js_tree.specs.declared.tree.Expr.{Expr}
 use Rattle.js_semantics.specs.Makers.{Made}
 use Rattle.js_semantics.specs.Sources.{expression_source}
 use Rattle.js_semantics.specs.Literals.{source_literals}
 use Rattle.js_semantics.proofs.LiteralLaws.{literals-agree}
 use Rattle.js_semantics.specs.Run.{literals, program_from, run_of, steps_in}
-use Rattle.js_semantics.specs.Evaluation.{Answer, answer_of, budget, evaluation_state, evaluated, answered, after_try, place_literals, next_kept, kept_term, kept_tree, with_source, prepared, evaluate}
+use Rattle.js_semantics.specs.Evaluation.{Answer, answer_of, budget, evaluation_state, evaluated, answered, after_try, place_literals, next_kept, kept_term, kept_tree, with_source, prepared, evaluate, evaluate_expression}
+use Rattle.js_terms.specs.Views.{term_view}
 use Rattle.js_world.specs.Names.{GoesOn}
 use Rattle.js_world.specs.Heaps.{Heap, heap_world}
 use Rattle.js_world.specs.Overlays.{space_of, next_of}
@@ -37,9 +39,11 @@ use Rattle.pure_eval.specs.Cutting.{IsMarkOf, IsBack}
 use Rattle.pure_eval.specs.declared.evaluated.Evaluated.{Evaluated}
 use Rattle.pure_eval.specs.declared.evaluated.Evaluated.TheVariants as ends
 use Rattle.pure_eval.specs.declared.evaluator.Evaluator.{Evaluator}
-use Rattle.pure_eval.specs.Evaluators.{IsBelow, AreBelow, Stands, Runs, IsMadeOf, IsBehind, is_kept, RunsAfter, GoOnAfter}
+use Rattle.pure_eval.specs.declared.prepared.Prepared.{Prepared}
+use Rattle.pure_eval.specs.Evaluators.{IsBelow, AreBelow, Stands, Runs, IsMadeOf, IsBehind, is_kept, RunsAfter}
 use Rattle.pure_eval.specs.Leaving.{Leaves}
 use Rattle.pure_eval.specs.Orders.{AreSameLiterals, ready_in_order}
+use Rattle.pure_eval.specs.Preparing.{IsPrepared}
 use Rattle.pure_eval.specs.Programs.{HasSameFunctions, IsNewSource}
 use Rattle.pure_eval.proofs.SettledTerms.{kept-settled}
 use Rattle.pure_eval.proofs.ProgramLemmas.{same-steps, behind-others, in-front}
@@ -206,28 +210,17 @@ runs_by (ends.Full what) f p q h k = k refl
 runs_by ends.Spent f p q h k = k refl
 runs_by ends.Memory f p q h k = tt
 
-stands_same : (ts us : List (List ℕ)) (t u : NodeTable) (n m : ℕ) (p : Program) → us ≡ ts → u ≡ t → m ≡ n → Stands ts t n p → Stands us u m p
-stands_same ts us t u n m p e f g h =
+pub stands-same : (ts us : List (List ℕ)) (t u : NodeTable) (n m : ℕ) (p : Program) → us ≡ ts → u ≡ t → m ≡ n → Stands ts t n p → Stands us u m p
+stands-same ts us t u n m p e f g h =
     let P : List (List ℕ) → Type 0 = λ vs. Stands vs t n p in
     let Q : NodeTable → Type 0 = λ v. Stands us v n p in
     let R : ℕ → Type 0 = λ k. Stands us u k p in
     subst R (sym g) (subst Q (sym f) (subst P (sym e) h))
 
-pub runs-after : (ts us : List (List ℕ)) (t u : NodeTable) (n root : ℕ) (x : Term) (p q : Program) (at : Addr) (mark : TableMark) (next : ℕ) (end : Evaluated) (f : Evaluator) → Stands ts t n p → IsAdded ts t at x us u root → Stands us u next q → IsMarkOf t mark → f.names ≡ us → (is_kept end ≡ true → (f.table ≡ u) × (f.next ≡ next)) → (is_kept end ≡ false → (f.next ≡ n) × ((v : NodeTable) (es : List SourceEntry) → IsWhole v → IsMarkOf v mark → GoesOnWith v u es → IsBack v f.table)) → RunsAfter end f p q
-runs-after ts us t u n root x p q at mark next end f s a k m e h i =
-    runs_by end f p q (λ o. stands_same us f.names u f.table next f.next q e (h o).0 (h o).1 k)
-    (λ o. let b = i o in stands_same us f.names f.table f.table n f.next p e refl b.0 (stands-back ts us t f.table n p s a.goes_on (b.1 t (a.entry ∷ []) s.whole m a.table)))
-
-names_by : (end : Evaluated) (ts us : List (List ℕ)) → GoesOn ts us → GoOnAfter end ts us
-names_by (ends.Value v) ts us g = g
-names_by (ends.Thrown v) ts us g = g
-names_by ends.Effect ts us g = g
-names_by (ends.Full what) ts us g = g
-names_by ends.Spent ts us g = g
-names_by ends.Memory ts us g = tt
-
-pub names-after : (end : Evaluated) (ts us vs : List (List ℕ)) → GoesOn ts us → vs ≡ us → GoOnAfter end ts vs
-names-after end ts us vs g e = let P : List (List ℕ) → Type 0 = λ xs. GoOnAfter end ts xs in subst P (sym e) (names_by end ts us g)
+pub runs-after : (ts us : List (List ℕ)) (t u : NodeTable) (n m root : ℕ) (x : Term) (p q : Program) (at : Addr) (mark : TableMark) (next : ℕ) (end : Evaluated) (f : Evaluator) → m ≡ n → Stands ts t n p → IsAdded ts t at x us u root → Stands us u next q → IsMarkOf t mark → f.names ≡ us → (is_kept end ≡ true → (f.table ≡ u) × (f.next ≡ next)) → (is_kept end ≡ false → (f.next ≡ m) × ((v : NodeTable) (es : List SourceEntry) → IsWhole v → IsMarkOf v mark → GoesOnWith v u es → IsBack v f.table)) → RunsAfter end f p q
+runs-after ts us t u n m root x p q at mark next end f l s a k d e h i =
+    runs_by end f p q (λ o. stands-same us f.names u f.table next f.next q e (h o).0 (h o).1 k)
+    (λ o. let b = i o in stands-same us f.names f.table f.table n f.next p e refl (b.0 ∙ l) (stands-back ts us t f.table n p s a.goes_on (b.1 t (a.entry ∷ []) s.whole d a.table)))
 
 -- ---- the code of the scripts
 
@@ -238,3 +231,20 @@ compiled ts xs o c h e = let P : Option ScriptCode → Type 0 = λ q. AreCompile
 
 pub made-of : (at : Addr) (e : Expr) → IsMadeOf at (expression_source e) (source_literals e) (literals (kept_term at (expression_source e))) (kept_tree at (expression_source e))
 made-of at e = record { term_is = refl; literals_are = refl; stays = kept-settled at e; outcome = λ w. literals-agree w at e }
+
+pub prepared-made : (at : Addr) (e : Expression) (p : Prepared) → IsPrepared at e p → IsMadeOf at (expression_source e.tree) p.order.items p.literals.items (term_view p.term)
+prepared-made at e p i =
+    let P : List (List ℕ) → Type 0 = λ o. AreSameLiterals o p.literals.items in
+    let Q : List (List ℕ) → Type 0 = λ l. AreSameLiterals (source_literals e.tree) l in
+    record {
+      term_is = i.term;
+      literals_are = i.literals;
+      stays = ap settle i.term ∙ kept-settled at e.tree ∙ sym i.term;
+      outcome = subst P (sym i.order) (subst Q (sym i.literals) (λ w. literals-agree w at e.tree));
+    }
+
+pub prepared-leaves : (q : Program) (w : World) (x y : ScratchSpace) (scope : Addr) (receiver : Value) (at : Addr) (e : Expression) (p : Prepared) (r : Evaluated) → IsPrepared at e p → Leaves (evaluate q w x scope receiver p.source p.order.items (expression_source e.tree)) r x y → Leaves (evaluate_expression q w x scope receiver e) r x y
+prepared-leaves q w x y scope receiver at e p r i h =
+    let P : List ℕ → Type 0 = λ us. Leaves (evaluate q w x scope receiver us p.order.items (expression_source e.tree)) r x y in
+    let Q : List (List ℕ) → Type 0 = λ o. Leaves (evaluate q w x scope receiver e.source o (expression_source e.tree)) r x y in
+    subst Q i.order (subst P i.source h)

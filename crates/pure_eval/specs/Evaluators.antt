@@ -63,7 +63,3 @@ RunsAfter (ends.Value v) e p more = Runs e more
 RunsAfter (ends.Thrown v) e p more = Runs e more
 RunsAfter ends.Memory e p more = Unit {0}
 RunsAfter end e p more = Runs e p
-
-abbrev pub GoOnAfter : Evaluated → List (List ℕ) → List (List ℕ) → Type 0
-GoOnAfter ends.Memory names more = Unit {0}
-GoOnAfter end names more = GoesOn names more

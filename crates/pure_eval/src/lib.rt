@@ -9,5 +9,6 @@ pub mod evaluator;
 pub mod laws;
 pub mod literals;
 pub mod orders;
+pub mod prepared;
 pub mod reducing;
 pub mod session;
