@@ -232,19 +232,19 @@ compiled ts xs o c h e = let P : Option ScriptCode → Type 0 = λ q. AreCompile
 pub made-of : (at : Addr) (e : Expr) → IsMadeOf at (expression_source e) (source_literals e) (literals (kept_term at (expression_source e))) (kept_tree at (expression_source e))
 made-of at e = record { term_is = refl; literals_are = refl; stays = kept-settled at e; outcome = λ w. literals-agree w at e }
 
-pub prepared-made : (at : Addr) (e : Expression) (p : Prepared) → IsPrepared at e p → IsMadeOf at (expression_source e.tree) p.order.items p.literals.items (term_view p.term)
-prepared-made at e p i =
-    let P : List (List ℕ) → Type 0 = λ o. AreSameLiterals o p.literals.items in
+pub prepared-made : (at : Addr) (e : Expression) (p : Prepared) (order ls : List (List ℕ)) → order ≡ p.order.items → ls ≡ p.literals.items → IsPrepared at e p → IsMadeOf at (expression_source e.tree) order ls (term_view p.term)
+prepared-made at e p order ls f g i =
+    let P : List (List ℕ) → Type 0 = λ o. AreSameLiterals o ls in
     let Q : List (List ℕ) → Type 0 = λ l. AreSameLiterals (source_literals e.tree) l in
     record {
       term_is = i.term;
-      literals_are = i.literals;
+      literals_are = g ∙ i.literals;
       stays = ap settle i.term ∙ kept-settled at e.tree ∙ sym i.term;
-      outcome = subst P (sym i.order) (subst Q (sym i.literals) (λ w. literals-agree w at e.tree));
+      outcome = subst P (sym (f ∙ i.order)) (subst Q (sym (g ∙ i.literals)) (λ w. literals-agree w at e.tree));
     }
 
-pub prepared-leaves : (q : Program) (w : World) (x y : ScratchSpace) (scope : Addr) (receiver : Value) (at : Addr) (e : Expression) (p : Prepared) (r : Evaluated) → IsPrepared at e p → Leaves (evaluate q w x scope receiver p.source p.order.items (expression_source e.tree)) r x y → Leaves (evaluate_expression q w x scope receiver e) r x y
-prepared-leaves q w x y scope receiver at e p r i h =
-    let P : List ℕ → Type 0 = λ us. Leaves (evaluate q w x scope receiver us p.order.items (expression_source e.tree)) r x y in
+pub prepared-leaves : (q : Program) (w : World) (x y : ScratchSpace) (scope : Addr) (receiver : Value) (at : Addr) (e : Expression) (p : Prepared) (order : List (List ℕ)) (r : Evaluated) → order ≡ p.order.items → IsPrepared at e p → Leaves (evaluate q w x scope receiver p.source order (expression_source e.tree)) r x y → Leaves (evaluate_expression q w x scope receiver e) r x y
+prepared-leaves q w x y scope receiver at e p order r f i h =
+    let P : List ℕ → Type 0 = λ us. Leaves (evaluate q w x scope receiver us order (expression_source e.tree)) r x y in
     let Q : List (List ℕ) → Type 0 = λ o. Leaves (evaluate q w x scope receiver e.source o (expression_source e.tree)) r x y in
-    subst Q i.order (subst P i.source h)
+    subst Q (f ∙ i.order) (subst P i.source h)

@@ -1,14 +1,12 @@
 -- Evaluators that went on, and come back.
-use Rattle.std.proofs.Common.{◌≡◌, ℕ, ◌≤◌, Bool, true, false, List, [], ◌∷◌, ◌++◌, length, refl, sym, ap, subst, ◌∙◌, append-nil, append_assoc}
+use Rattle.std.proofs.Common.{◌≡◌, ℕ, true, false, List, [], ◌∷◌, ◌++◌, refl, sym, ap, subst, ◌∙◌, append-nil, append_assoc}
 use Rattle.js_semantics.specs.Terms.{Term}
 use Rattle.js_semantics.specs.Functions.{Program}
 use Rattle.js_world.specs.Heaps.{Heap}
 use Rattle.js_world.specs.Names.{GoesOn}
-use Rattle.js_world.specs.Overlays.{next_of}
 use Rattle.js_code.specs.declared.node.SourceEntry.{SourceEntry}
 use Rattle.js_code.specs.declared.table.NodeTable.{NodeTable}
 use Rattle.js_compile.proofs.GrownLemmas.{extends_same, extends_twice}
-use Rattle.pure_eval.specs.declared.cutting.TableMark.{TableMark}
 use Rattle.pure_eval.specs.declared.evaluated.Evaluated.{Evaluated}
 use Rattle.pure_eval.specs.declared.evaluated.Evaluated.TheVariants as ends
 use Rattle.pure_eval.specs.declared.evaluator.Added.{Added}
@@ -17,7 +15,7 @@ use Rattle.pure_eval.specs.declared.evaluator.EvaluatorMark.{EvaluatorMark}
 use Rattle.pure_eval.specs.Whole.{IsWhole}
 use Rattle.pure_eval.specs.Adding.{GoesOnWith}
 use Rattle.pure_eval.specs.Cutting.{IsMarkOf, IsBack}
-use Rattle.pure_eval.specs.Evaluators.{Stands, Runs, is_kept}
+use Rattle.pure_eval.specs.Evaluators.{Runs, is_kept}
 use Rattle.pure_eval.specs.Returning.{WentOn, WentOnAfter, IsMarked, IsAgain, CameFrom, CameAfter, HasAdded}
 use Rattle.pure_eval.proofs.EvaluatorLemmas.{same-names, further-names, stands-back, stands-same}
 

@@ -1,5 +1,5 @@
 -- Evaluators that went on from what they were, and come back to it.
-use Rattle.std.specs.Prelude.{◌≡◌, ℕ, ◌≤◌, List, length}
+use Rattle.std.specs.Prelude.{◌≡◌, ◌≤◌, List, length}
 use Rattle.js_semantics.specs.Terms.{Term}
 use Rattle.js_semantics.specs.Functions.{Program}
 use Rattle.js_world.specs.Heaps.{Heap}
