@@ -155,8 +155,8 @@ evaluate_by w x z us order ls u e r j k same f g h =
     let P : Answer → Type 0 = λ a. Leaves a r x z in
     subst P (answered_same (ready_in_order w x us order ls u) j k same ∙ ap (λ o. answered o k) (ready_same w x us order ls u e f g)) h
 
-next_same : (ts : List (List ℕ)) (h : Heap) → next_kept (space_of ts h) ≡ Scratch (length h.cells)
-next_same ts h = ap (λ n. Scratch n) (cells-length ts h.cells)
+pub next-same : (ts : List (List ℕ)) (h : Heap) → next_kept (space_of ts h) ≡ Scratch (length h.cells)
+next-same ts h = ap (λ n. Scratch n) (cells-length ts h.cells)
 
 source_same : (a b : Addr) (x y : Term) → a ≡ b → x ≡ y → kept_tree_at a x ≡ kept_tree_at b y
 source_same a b x y e f = ap (λ c. kept_tree_at c x) e ∙ ap (kept_tree_at b) f
@@ -172,7 +172,7 @@ stands-with ts us t u n next root x p h at e order ls s i l a m =
     let Q : SourceTree → Type 0 = λ y. Stands us u (length h.cells + 1) (y ∷ p) in
     let R : ℕ → Type 0 = λ k. Stands us u k (with_source p (space_of ts h) e) in
     let k : Stands us u (length h.cells + 1) (kept_tree_at (Scratch (length h.cells)) x ∷ p) = stands-added ts us t u n (length h.cells) root x p s b.0 (subst P i a) in
-    let o : Stands us u (length h.cells + 1) (with_source p (space_of ts h) e) = subst Q (source_same (Scratch (length h.cells)) (next_kept (space_of ts h)) x (kept_tree (next_kept (space_of ts h)) e) (sym (next_same ts h)) m.term_is) k in
+    let o : Stands us u (length h.cells + 1) (with_source p (space_of ts h) e) = subst Q (source_same (Scratch (length h.cells)) (next_kept (space_of ts h)) x (kept_tree (next_kept (space_of ts h)) e) (sym (next-same ts h)) m.term_is) k in
     subst R (sym b.1) o
 
 evaluator_answers : (ts us : List (List ℕ)) (t u : NodeTable) (n root : ℕ) (x : Term) (p : Program) (w : World) (y z : ScratchSpace) (at : Addr) (scope : Addr) (receiver : Value) (e : Made) (source : List ℕ) (order ls : List (List ℕ)) (r : Evaluated) → IsAdded ts t at x us u root → Stands us u n (with_source p y e) → IsMadeOf (next_kept y) e order ls x → (AreSameLiterals order ls → Leaves (answered (ready_in_order w y source order ls (settle (tree us u root))) (evaluated (program_of us u) scope receiver)) r y z) → Leaves (evaluate p w y scope receiver source order e) r y z
@@ -248,3 +248,7 @@ prepared-leaves q w x y scope receiver at e p order r f i h =
     let P : List ℕ → Type 0 = λ us. Leaves (evaluate q w x scope receiver us order (expression_source e.tree)) r x y in
     let Q : List (List ℕ) → Type 0 = λ o. Leaves (evaluate q w x scope receiver e.source o (expression_source e.tree)) r x y in
     subst Q (f ∙ i.order) (subst P i.source h)
+
+-- what was prepared for the next address of a session's cells
+pub prepared-there : (ts : List (List ℕ)) (h : Heap) (at : Addr) (e : Expression) (p : Prepared) → at ≡ next_of h → IsPrepared at e p → IsPrepared (next_kept (space_of ts h)) e p
+prepared-there ts h at e p f i = let P : Addr → Type 0 = λ a. IsPrepared a e p in subst P (f ∙ sym (next-same ts h)) i
