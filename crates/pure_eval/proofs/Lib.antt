@@ -11,3 +11,4 @@ pub mod SettledTerms
 pub mod OrderLemmas
 pub mod EvaluatorLemmas
 pub mod ReturnLemmas
+pub mod ForgetLemmas
