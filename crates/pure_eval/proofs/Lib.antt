@@ -1,5 +1,14 @@
+pub mod StayLemmas
+pub mod WholeLemmas
+pub mod AddLemmas
+pub mod CutLemmas
 pub mod EvaluatedLemmas
 pub mod LeavingLemmas
 pub mod PlacedLemmas
 pub mod LiteralLemmas
 pub mod ProgramLemmas
+pub mod SettledTerms
+pub mod OrderLemmas
+pub mod EvaluatorLemmas
+pub mod ReturnLemmas
+pub mod ForgetLemmas

@@ -49,3 +49,10 @@ abbrev pub refused_end : Refused → Evaluated
 refused_end refusals.Effect = ends.Effect
 refused_end (refusals.Full what) = ends.Full what
 refused_end refusals.Memory = ends.Memory
+
+-- ---- evaluations that are forgotten
+
+-- cut to a mark, a session's cells are those of before; want of memory says nothing
+abbrev pub ComesBack : Evaluated → ScratchSpace → Marked → ScratchSpace → Type 0
+ComesBack ends.Memory after m before = Unit {0}
+ComesBack end after m before = space_at after m ≡ before

@@ -1,3 +1,10 @@
+pub mod Whole
+pub mod Adding
+pub mod Cutting
 pub mod Answering
 pub mod Programs
 pub mod Leaving
+pub mod Orders
+pub mod Evaluators
+pub mod Preparing
+pub mod Returning

@@ -33,7 +33,7 @@ pub struct Outcome {
 }
 
 /// The session's cells after an evaluation: with those that it made where it came to a value or a throw, else as marked.
-fn scratch_after(overlay: Overlay<'_>, mark: Mark, end: Evaluated) -> Scratch
+pub fn scratch_after(overlay: Overlay<'_>, mark: Mark, end: Evaluated) -> Scratch
     ensures { (names : List (List ℕ)) → space_of names result ≡ space_behind end (over_world names overlay.entry) mark }
 {
     let mut scratch = overlay.into_scratch();
@@ -75,7 +75,7 @@ pub fn evaluate_prepared<T: Rows>(
 }
 
 /// How an evaluation ends that is refused before its first step.
-fn refused_end(refused: Refused) -> Evaluated
+pub fn refused_end(refused: Refused) -> Evaluated
     ensures { result ≡ refused_end refused }
 {
     match refused {
@@ -86,7 +86,7 @@ fn refused_end(refused: Refused) -> Evaluated
 }
 
 /// Keeps the source of an evaluation, and makes the cells of its string literals.
-fn prepare(
+pub fn prepare(
     alloc: Global,
     overlay: &mut Overlay<'_>,
     source: Units,

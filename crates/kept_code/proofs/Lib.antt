@@ -1,4 +1,0 @@
-pub mod StayLemmas
-pub mod WholeLemmas
-pub mod AddLemmas
-pub mod CutLemmas

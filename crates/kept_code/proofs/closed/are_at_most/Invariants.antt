@@ -1,6 +1,0 @@
-use Rattle.std.proofs.Common.{◌≤◌, ◌<◌, ℕ}
-use Rattle.kept_code.proofs.WholeLemmas.{HoldsAt}
-use Rattle.kept_code.proofs.closed.are_at_most.Given as goal
-
-abbrev pub invariant-loop-number : goal.invariant-loop-number
-invariant-loop-number l = (n : ℕ) → 0 ≤ n → n < l.number-index → HoldsAt (λ m. m ≤ l.most) l.numbers n

@@ -1,0 +1,30 @@
+use Rattle.std.proofs.Common.{ℕ, List, refl, subst}
+use Rattle.js_terms.specs.Views.{terms_view}
+use Rattle.js_world.specs.Names.{GoesOn}
+use Rattle.pure_eval.proofs.EvaluatorLemmas.{compiled, stands-first}
+use Rattle.pure_eval.proofs.evaluator.Evaluator.start.Goals as goal
+
+pub is_whole-requires-clause-table : goal.is_whole-requires-clause-table
+is_whole-requires-clause-table c =
+    let h = compiled c.code_of_scripts.new.names (terms_view c.args.scripts.now) c.in_ok-code.field-0 c.in-Some.code c.in_ok-code.ensures.code c.in-Some.is in
+    h.table
+
+pub is_whole-requires-clause-places : goal.is_whole-requires-clause-places
+is_whole-requires-clause-places c =
+    let h = compiled c.code_of_scripts.new.names (terms_view c.args.scripts.now) c.in_ok-code.field-0 c.in-Some.code c.in_ok-code.ensures.code c.in-Some.is in
+    h.places
+
+pub is_whole-requires-clause-functions : goal.is_whole-requires-clause-functions
+is_whole-requires-clause-functions c =
+    let h = compiled c.code_of_scripts.new.names (terms_view c.args.scripts.now) c.in_ok-code.field-0 c.in-Some.code c.in_ok-code.ensures.code c.in-Some.is in
+    h.functions
+
+pub returns-clause-program : goal.returns-clause-program
+returns-clause-program c =
+    let h = compiled c.code_of_scripts.new.names (terms_view c.args.scripts.now) c.in_ok-code.field-0 c.in-Some.code c.in_ok-code.ensures.code c.in-Some.is in
+    stands-first c.code_of_scripts.new.names c.in-Some.code.table (terms_view c.args.scripts.now) (c.if-not-is_whole.ensures refl) h.program
+
+pub returns-clause-names : goal.returns-clause-names
+returns-clause-names c =
+    let P : List (List ℕ) → Type 0 = λ ts. GoesOn ts c.code_of_scripts.new.names in
+    subst P c.in_ok-known.ensures c.in_ok-code.ensures.goes_on

@@ -1,0 +1,56 @@
+//! One source more.
+
+ghost use Rattle.std.specs.Prelude.{◌≡◌, IfOk, length, true};
+ghost use Rattle.js_terms.specs.Views.{term_view};
+ghost use Rattle.pure_eval.specs.Whole.{IsWhole};
+ghost use Rattle.pure_eval.specs.Adding.{IsAdded};
+
+use crate::closed::{are_closed, are_placed, is_within};
+use js_code::node::SourceEntry;
+use js_code::table::NodeTable;
+use js_compile::functions::indexed_source;
+use js_compile::terms::add_term;
+use js_heap::value::Addr;
+use js_semantics::form::Source;
+use js_terms::term::Term;
+use js_world::names::Names;
+use std::alloc::{AllocError, Global};
+
+/// The source of a term that is kept at an address, behind the others; the answer is its node.
+///
+/// # Errors
+///
+/// There is no memory for it, or something in it comes up in a run alone. The table is then given up.
+pub fn add_source(
+    alloc: Global,
+    names: &mut Names,
+    table: &mut NodeTable,
+    at: Addr,
+    term: &Term,
+) -> Result<u32, AllocError>
+    requires { IsWhole table.old }
+    ensures { IfOk result (λ root. IsAdded names.old table.old at (term_view term.now) names.new table.new root) }
+{
+    let nodes = table.nodes.len();
+    let functions = table.functions.len();
+    let Some(root) = add_term(alloc, names, table, term)? else {
+        return Err(AllocError);
+    };
+    if !are_closed(table, nodes) {
+        return Err(AllocError);
+    }
+    if !are_placed(table, functions) {
+        return Err(AllocError);
+    }
+    let plain = SourceEntry {
+        source: Source::Kept(at),
+        root,
+        functions: Vec::new(alloc),
+    };
+    let entry = indexed_source(alloc, table, &plain)?;
+    if !is_within(table, &entry) {
+        return Err(AllocError);
+    }
+    table.sources.push(entry)?;
+    Ok(root)
+}

@@ -1,0 +1,306 @@
+//! A session's evaluator.
+
+ghost use Rattle.std.specs.Prelude.{◌≡◌, ◌≤◌, ℕ, List, true, false, length, IfOk, IfSome};
+ghost use Rattle.js_tree.specs.declared.script.Expression.{Expression};
+ghost use Rattle.js_semantics.specs.Evaluation.{answered, evaluated, evaluate, evaluate_expression, next_kept, with_source};
+ghost use Rattle.js_semantics.specs.Functions.{Program};
+ghost use Rattle.js_semantics.specs.Makers.{Made};
+ghost use Rattle.js_semantics.specs.Run.{program_from};
+ghost use Rattle.js_semantics.specs.Sources.{expression_source};
+ghost use Rattle.js_semantics.specs.Terms.{settle};
+ghost use Rattle.js_world.specs.Heaps.{heap_world};
+ghost use Rattle.js_world.specs.Names.{GoesOn};
+ghost use Rattle.js_world.specs.Overlays.{space_of};
+ghost use Rattle.js_code.specs.declared.node.SourceEntry.{SourceEntry};
+ghost use Rattle.js_code.specs.declared.table.NodeTable.{NodeTable as AnyTable};
+ghost use Rattle.js_code.specs.Codes.{HasFunctions};
+ghost use Rattle.js_code.specs.Trees.{tree, program_of, IsTable};
+ghost use Rattle.js_terms.specs.Views.{term_view, terms_view};
+ghost use Rattle.pure_eval.specs.Adding.{GoesOnWith};
+ghost use Rattle.pure_eval.specs.Cutting.{IsMarkOf, IsBack};
+ghost use Rattle.pure_eval.specs.Whole.{IsWhole};
+ghost use Rattle.pure_eval.specs.Evaluators.{Runs, IsMadeOf, IsBehind, is_kept, RunsAfter};
+ghost use Rattle.pure_eval.specs.Leaving.{Leaves};
+ghost use Rattle.pure_eval.specs.Orders.{AreSameLiterals, ready_in_order};
+ghost use Rattle.pure_eval.specs.Preparing.{IsPrepared};
+ghost use Rattle.pure_eval.specs.Returning.{WentOn, WentOnAfter, IsMarked, IsAgain, CameFrom, CameAfter, HasAdded};
+
+use crate::adding::add_source;
+use crate::closed::is_whole;
+use crate::cutting::{TableMark, cut, mark};
+use crate::evaluated::Evaluated;
+use crate::orders::evaluate_in_order;
+use crate::prepared::Prepared;
+use crate::session::Outcome;
+use cdp_text::units::Units;
+use js_code::table::NodeTable;
+use js_compile::scripts::{ScriptCode, code_of_scripts};
+use js_heap::value::{Addr, Value};
+use js_steps::rows::Rows;
+use js_terms::term::{Term, Terms};
+use js_world::heap::BaseHeap;
+use js_world::names::Names;
+use js_world::overlay::Scratch;
+use std::alloc::{AllocError, Global};
+
+/// The code of a program, and of the sources that a session's evaluations keep, with its names.
+#[derive(Drop)]
+pub struct Evaluator {
+    pub names: Names,
+    pub table: NodeTable,
+    // the sources that are kept stand at addresses below this number
+    pub next: u32,
+}
+
+/// Where an evaluator's code ended, and below which number its kept sources stood.
+#[derive(Clone, Copy, Debug)]
+pub struct EvaluatorMark {
+    pub table: TableMark,
+    pub next: u32,
+}
+
+/// A source that was added: its node, where the table ended before it, and the number behind its address.
+#[derive(Clone, Copy, Debug)]
+pub struct Added {
+    pub mark: TableMark,
+    pub next: u32,
+    pub node: u32,
+}
+
+/// Whether a table of names has all that a program's cells and a session's need.
+fn are_known(names: &Names, base: &BaseHeap, scratch: &Scratch) -> bool
+    ensures base { result ≡ true → base.now.ends ≤ length names.now }
+    ensures scratch { result ≡ true → scratch.now.ends ≤ length names.now }
+{
+    let count = names.len();
+    if base.known() > count {
+        return false;
+    }
+    if scratch.known() > count {
+        return false;
+    }
+    true
+}
+
+/// The number behind an address of a session's cells that is no lower than a number.
+fn number_behind(at: Addr, from: u32) -> Option<u32>
+    ensures { IfSome result (λ n. IsBehind at from n) }
+{
+    match at {
+        Addr::Base(_) => None,
+        Addr::Scratch(number) => {
+            if number < from {
+                return None;
+            }
+            match number.checked_add(1) {
+                Some(next) => Some(next),
+                None => None,
+            }
+        }
+    }
+}
+
+/// Whether an evaluation keeps its source.
+fn is_kept(end: Evaluated) -> bool
+    ensures { result ≡ is_kept end }
+{
+    match end {
+        Evaluated::Value(_) => true,
+        Evaluated::Thrown(_) => true,
+        _ => false,
+    }
+}
+
+/// The evaluation of a source whose code a table has, with names that went on from those that the cells need.
+fn evaluate_known<T: Rows>(
+    alloc: Global,
+    table: &NodeTable,
+    names: &Names,
+    base: &BaseHeap,
+    scratch: Scratch,
+    scope: Addr,
+    receiver: Value,
+    source: &Units,
+    order: &[Units],
+    literals: &[Units],
+    node: u32,
+) -> Outcome
+    requires table { IsTable table.now }
+    requires functions { HasFunctions table.now }
+    ensures { (before : List (List ℕ)) → GoesOn before names.now → base.now.ends ≤ length before → scratch.ends ≤ length before → AreSameLiterals order.now literals.now → Leaves (answered (ready_in_order (heap_world before base.now) (space_of before scratch) source.now order.now literals.now (settle (tree names.now table.now node))) (evaluated (program_of names.now table.now) scope receiver)) result.end (space_of before scratch) (space_of names.now result.scratch) }
+{
+    base.goes_on();
+    scratch.goes_on();
+    let mut known = scratch;
+    known.know(names);
+    evaluate_in_order::<T>(
+        alloc, table, names, base, known, scope, receiver, source, order, literals, node,
+    )
+}
+
+impl Evaluator {
+    /// The evaluator of a program that has no source of an evaluation yet: the code of scripts with the addresses of their
+    /// literals, whose names go on behind these.
+    ///
+    /// # Errors
+    ///
+    /// There is no memory for it, or something in the scripts comes up in a run alone.
+    pub fn start(alloc: Global, names: &Names, scripts: &Terms) -> Result<Evaluator, AllocError>
+        ensures program { IfOk result (λ e. Runs e (program_from 1 (terms_view scripts.now))) }
+        ensures names { IfOk result (λ e. GoesOn names.now e.names) }
+    {
+        let mut known = names.copy()?;
+        let Some(code) = code_of_scripts(alloc, &mut known, scripts)? else {
+            return Err(AllocError);
+        };
+        let ScriptCode { table, root } = code;
+        let _ = root;
+        if !is_whole(&table) {
+            return Err(AllocError);
+        }
+        Ok(Evaluator {
+            names: known,
+            table,
+            next: 0,
+        })
+    }
+
+    /// Where the code ends now. It takes no memory.
+    pub fn mark(&self) -> EvaluatorMark
+        ensures marked { IsMarked self.now result }
+        ensures came { (p : Program) → Runs self.now p → CameFrom result p self.now }
+    {
+        EvaluatorMark {
+            table: mark(&self.table),
+            next: self.next,
+        }
+    }
+
+    /// Forgets the sources that were kept since a mark; its names stay. The session's cells are to be cut to where they
+    /// ended then. It takes no memory.
+    pub fn cut(&mut self, mark: EvaluatorMark)
+        ensures names { self.new.names ≡ self.old.names }
+        ensures back { (e : Evaluator) → IsWhole e.table → IsMarked e mark → WentOn e self.old → IsAgain e self.new }
+        ensures runs { (p : Program) → CameFrom mark p self.old → Runs self.new p × CameFrom mark p self.new }
+    {
+        cut(&mut self.table, mark.table);
+        self.next = mark.next;
+    }
+
+    /// Adds a source at the next address of a session's cells.
+    ///
+    /// # Errors
+    ///
+    /// There is no memory for it; a kept source stands at that address or behind it; or a name of the cells isn't known.
+    fn add(
+        &mut self,
+        alloc: Global,
+        base: &BaseHeap,
+        scratch: &Scratch,
+        term: &Term,
+    ) -> Result<Added, AllocError>
+        requires { IsWhole self.old.table }
+        ensures { IfOk result (λ a. HasAdded self.old self.new base.now scratch.now (term_view term.now) a) }
+    {
+        let at = scratch.next_address();
+        let Some(next) = number_behind(at, self.next) else {
+            return Err(AllocError);
+        };
+        if !are_known(&self.names, base, scratch) {
+            return Err(AllocError);
+        }
+        let mark = mark(&self.table);
+        let node = add_source(alloc, &mut self.names, &mut self.table, at, term)?;
+        Ok(Added { mark, next, node })
+    }
+
+    /// Keeps the source that was added behind a mark, or cuts it again.
+    fn keep(&mut self, mark: TableMark, next: u32, end: Evaluated)
+        ensures names { self.new.names ≡ self.old.names }
+        ensures kept { is_kept end ≡ true → (self.new.table ≡ self.old.table) × (self.new.next ≡ next) }
+        ensures cut { is_kept end ≡ false → (self.new.next ≡ self.old.next) × ((t : AnyTable) (es : List SourceEntry) → IsWhole t → IsMarkOf t mark → GoesOnWith t self.old.table es → IsBack t self.new.table) }
+    {
+        if is_kept(end) {
+            self.next = next;
+            return;
+        }
+        cut(&mut self.table, mark);
+    }
+
+    /// Evaluates a source in a scope with a `this`, over a program's cells and behind those of a session: the answer is
+    /// the definition's, with the cells that it made, or with those of before. The source is given with its term, in which
+    /// its literals have their addresses, and with its literals in its own order and in that of the term. Behind a value
+    /// or a throw the evaluator has the source. After want of memory it is given up, and so are the session's cells.
+    pub fn evaluate<T: Rows>(
+        &mut self,
+        alloc: Global,
+        base: &BaseHeap,
+        scratch: Scratch,
+        scope: Addr,
+        receiver: Value,
+        source: &Units,
+        order: &[Units],
+        literals: &[Units],
+        term: &Term,
+    ) -> Outcome
+        requires { IsWhole self.old.table }
+        ensures answer { (p : Program) (e : Made) → Runs self.old p → IsMadeOf (next_kept (space_of self.old.names scratch)) e order.now literals.now (term_view term.now) → Leaves (evaluate p (heap_world self.old.names base.now) (space_of self.old.names scratch) scope receiver source.now order.now e) result.end (space_of self.old.names scratch) (space_of self.new.names result.scratch) }
+        ensures program { (p : Program) (e : Made) → Runs self.old p → IsMadeOf (next_kept (space_of self.old.names scratch)) e order.now literals.now (term_view term.now) → RunsAfter result.end self.new p (with_source p (space_of self.old.names scratch) e) }
+        ensures goes_on { WentOnAfter result.end self.old self.new }
+        ensures came { (m : EvaluatorMark) (p : Program) → CameFrom m p self.old → CameAfter result.end m p self.new }
+    {
+        let Ok(added) = self.add(alloc, base, &scratch, term) else {
+            return Outcome {
+                end: Evaluated::Memory,
+                scratch,
+            };
+        };
+        let outcome = evaluate_known::<T>(
+            alloc,
+            &self.table,
+            &self.names,
+            base,
+            scratch,
+            scope,
+            receiver,
+            source,
+            order,
+            literals,
+            added.node,
+        );
+        self.keep(added.mark, added.next, outcome.end);
+        outcome
+    }
+
+    /// Evaluates an expression that is ready to be evaluated at the next address of a session's cells, in a scope with a
+    /// `this`, over a program's cells and behind those of the session: the answer is the definition's, with the cells that
+    /// it made, or with those of before. Behind a value or a throw the evaluator has the source. After want of memory it
+    /// is given up, and so are the session's cells.
+    pub fn evaluate_expression<T: Rows>(
+        &mut self,
+        alloc: Global,
+        base: &BaseHeap,
+        scratch: Scratch,
+        scope: Addr,
+        receiver: Value,
+        prepared: &Prepared,
+    ) -> Outcome
+        requires { IsWhole self.old.table }
+        ensures answer { (p : Program) (e : Expression) → Runs self.old p → IsPrepared (next_kept (space_of self.old.names scratch)) e prepared.now → Leaves (evaluate_expression p (heap_world self.old.names base.now) (space_of self.old.names scratch) scope receiver e) result.end (space_of self.old.names scratch) (space_of self.new.names result.scratch) }
+        ensures program { (p : Program) (e : Expression) → Runs self.old p → IsPrepared (next_kept (space_of self.old.names scratch)) e prepared.now → RunsAfter result.end self.new p (with_source p (space_of self.old.names scratch) (expression_source e.tree)) }
+        ensures goes_on { WentOnAfter result.end self.old self.new }
+        ensures came { (m : EvaluatorMark) (p : Program) → CameFrom m p self.old → CameAfter result.end m p self.new }
+    {
+        self.evaluate::<T>(
+            alloc,
+            base,
+            scratch,
+            scope,
+            receiver,
+            &prepared.source,
+            prepared.order.as_slice(),
+            prepared.literals.as_slice(),
+            &prepared.term,
+        )
+    }
+}
