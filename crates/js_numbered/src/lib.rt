@@ -1,0 +1,2 @@
+//! The terms of trees without numbers.
+#![tactic(auto)]
