@@ -11,30 +11,30 @@ abbrev pub Numbering : Type 0 → Type 0
 Numbering A = ℕ → Counted A
 
 -- this, of no nodes
-abbrev pub give : {A : Type 0} → A → Numbering A
+unfoldable pub give : {A : Type 0} → A → Numbering A
 give a n = record { value = a; next = n }
 
 -- a part, and behind it another
 abbrev pub and_then : {A B : Type 0} → Counted A → Counted B → Counted (A × B)
 and_then x y = record { value = (x.value, y.value); next = y.next }
 
-abbrev pub both : {A B : Type 0} → Numbering A → Numbering B → Numbering (A × B)
+unfoldable pub both : {A B : Type 0} → Numbering A → Numbering B → Numbering (A × B)
 both f g n = and_then (f n) (g (f n).next)
 
 -- something is made of a part
 abbrev pub changed : {A B : Type 0} → (A → B) → Counted A → Counted B
 changed make x = record { value = make x.value; next = x.next }
 
-abbrev pub of_part : {A B : Type 0} → (A → B) → Numbering A → Numbering B
+unfoldable pub of_part : {A B : Type 0} → (A → B) → Numbering A → Numbering B
 of_part make f n = changed make (f n)
 
 -- a node around its parts, which has the number after theirs
 abbrev pub closed : {A B : Type 0} → (ℕ → A → B) → Counted A → Counted B
 closed make x = record { value = make x.next x.value; next = suc x.next }
 
-abbrev pub node : {A B : Type 0} → (ℕ → A → B) → Numbering A → Numbering B
+unfoldable pub node : {A B : Type 0} → (ℕ → A → B) → Numbering A → Numbering B
 node make f n = closed make (f n)
 
 -- a node without parts
-abbrev pub leaf : {B : Type 0} → (ℕ → B) → Numbering B
+unfoldable pub leaf : {B : Type 0} → (ℕ → B) → Numbering B
 leaf make n = record { value = make n; next = suc n }

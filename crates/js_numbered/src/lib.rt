@@ -1,2 +1,4 @@
 //! The terms of trees without numbers.
 #![tactic(auto)]
+
+mod laws;
