@@ -1,4 +1,6 @@
 pub mod AnswerLemmas
+mod ComputedTrees
+pub mod ExpressionLemmas
 pub mod FaultLemmas
 pub mod LanguageLemmas
 pub mod LexedLemmas

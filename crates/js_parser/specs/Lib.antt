@@ -1,4 +1,5 @@
 pub mod Answers
+pub mod Expressions
 pub mod Faults
 pub mod Lexing
 pub mod Sources

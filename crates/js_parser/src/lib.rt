@@ -4,6 +4,7 @@
 mod earlier;
 mod functions;
 mod kept;
+mod laws;
 pub mod parse;
 mod reading;
 pub mod source;
