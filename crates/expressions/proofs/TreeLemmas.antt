@@ -1,0 +1,70 @@
+-- What the trees in lists and behind parts are, and the literals of statements with `else`.
+use Rattle.std.proofs.Common.{◌≡◌, ℕ, List, [], ◌++◌, Option, Some, None, map, sym, ap, ◌∙◌, append-nil}
+use Rattle.std.specs.Global.{Box}
+use Rattle.js_tree.specs.declared.node.NodeId.{NodeId}
+use Rattle.js_tree.specs.declared.tree.Expr.{Expr}
+use Rattle.js_tree.specs.declared.tree.Stmt.{Stmt}
+use Rattle.js_tree.specs.declared.tree.Block.{Block}
+use Rattle.js_tree.specs.declared.tree.Catch.{Catch}
+use Rattle.js_tree.specs.declared.tree.Declarator.{Declarator}
+use Rattle.js_tree.specs.declared.tree.Declarators.{Declarators, out-Declarators}
+use Rattle.js_tree.specs.declared.tree.Exprs.{Exprs}
+use Rattle.js_tree.specs.declared.tree.PropertyDefinitions.{PropertyDefinitions}
+use Rattle.js_tree.specs.declared.tree.Stmts.{Stmts}
+use Rattle.js_tree.specs.declared.tree.Expr.TheFolds.{fold_out-Block, fold_out-Catch, fold_out-Declarator, fold_out-Declarators, fold_out-Exprs, fold_out-PropertyDefinitions, fold_out-Stmts}
+use Rattle.js_tree.specs.declared.tree.Expr.TheViews as tree
+use Rattle.js_tree.specs.Trees as trees
+use Rattle.js_tree.specs.Trees.{Expression, Expressions, Property, Properties, Key, Statement, Statements, Handler}
+use Rattle.js_tree.specs.Views.{expressions, statements, properties, declarators, optional_view, expression_view, property_view, key_view, statement_view, block_view, catch_view, declarator_view, declarators_view, expressions_view, properties_view, statements_view, expression_step, property_step, key_step, statement_step, block_step, catch_step, declarator_step, declarators_step, expressions_step, properties_step, statements_step}
+use Rattle.js_tree.proofs.Views.{view_if_then, view_if_else, view_this, view_name, view_number, view_string, view_boolean, view_null, view_array, view_object, view_function, view_arrow, view_arrow_block, view_parenthesized, view_member, view_index, view_call, view_postfix, view_prefix, view_unary, view_binary, view_conditional, view_assign, view_comma}
+use Rattle.js_semantics.specs.Literals.{expression_literals, statement_literals, declared_literals}
+use Rattle.expressions.specs.Items.{alternate_literals}
+
+-- ---- lists
+
+pub expressions_listed : (es : Exprs) → expressions_view es ≡ expressions (map expression_view es.items.items)
+unfolding expression_view property_view key_view statement_view block_view catch_view declarator_view declarators_view expressions_view properties_view statements_view
+expressions_listed es = fold_out-Exprs Expression Property Key Statement Statements Handler trees.Declarator trees.Declarators Expressions Properties Statements expression_step property_step key_step statement_step block_step catch_step declarator_step declarators_step expressions_step properties_step statements_step es
+
+pub properties_listed : (ps : PropertyDefinitions) → properties_view ps ≡ properties (map property_view ps.items.items)
+unfolding expression_view property_view key_view statement_view block_view catch_view declarator_view declarators_view expressions_view properties_view statements_view
+properties_listed ps = fold_out-PropertyDefinitions Expression Property Key Statement Statements Handler trees.Declarator trees.Declarators Expressions Properties Statements expression_step property_step key_step statement_step block_step catch_step declarator_step declarators_step expressions_step properties_step statements_step ps
+
+pub statements_listed : (ss : Stmts) → statements_view ss ≡ statements (map statement_view ss.items.items)
+unfolding expression_view property_view key_view statement_view block_view catch_view declarator_view declarators_view expressions_view properties_view statements_view
+statements_listed ss = fold_out-Stmts Expression Property Key Statement Statements Handler trees.Declarator trees.Declarators Expressions Properties Statements expression_step property_step key_step statement_step block_step catch_step declarator_step declarators_step expressions_step properties_step statements_step ss
+
+pub declarators_listed : (ds : Declarators) → declarators_view ds ≡ declarators (map declarator_view (out-Declarators ds).items.items)
+unfolding expression_view property_view key_view statement_view block_view catch_view declarator_view declarators_view expressions_view properties_view statements_view
+declarators_listed ds = fold_out-Declarators Expression Property Key Statement Statements Handler trees.Declarator trees.Declarators Expressions Properties Statements expression_step property_step key_step statement_step block_step catch_step declarator_step declarators_step expressions_step properties_step statements_step ds
+
+-- ---- parts
+
+pub block_of : (b : Block) → block_view b ≡ statements_view b.body
+unfolding expression_view property_view key_view statement_view block_view catch_view declarator_view declarators_view expressions_view properties_view statements_view
+block_of b = fold_out-Block Expression Property Key Statement Statements Handler trees.Declarator trees.Declarators Expressions Properties Statements expression_step property_step key_step statement_step block_step catch_step declarator_step declarators_step expressions_step properties_step statements_step b
+
+pub catch_of : (h : Catch) → catch_view h ≡ trees.catch h.parameter (block_view h.block)
+unfolding expression_view property_view key_view statement_view block_view catch_view declarator_view declarators_view expressions_view properties_view statements_view
+catch_of h = fold_out-Catch Expression Property Key Statement Statements Handler trees.Declarator trees.Declarators Expressions Properties Statements expression_step property_step key_step statement_step block_step catch_step declarator_step declarators_step expressions_step properties_step statements_step h
+
+declarator_by : (n : List ℕ) (o : Option Expr) → declarator_view (record { name = n; initializer = o }) ≡ trees.declarator n (optional_view o)
+unfolding expression_view property_view key_view statement_view block_view catch_view declarator_view declarators_view expressions_view properties_view statements_view
+declarator_by n None = fold_out-Declarator Expression Property Key Statement Statements Handler trees.Declarator trees.Declarators Expressions Properties Statements expression_step property_step key_step statement_step block_step catch_step declarator_step declarators_step expressions_step properties_step statements_step (record { name = n; initializer = None })
+declarator_by n (Some e) = fold_out-Declarator Expression Property Key Statement Statements Handler trees.Declarator trees.Declarators Expressions Properties Statements expression_step property_step key_step statement_step block_step catch_step declarator_step declarators_step expressions_step properties_step statements_step (record { name = n; initializer = Some e })
+
+pub declarator_of : (d : Declarator) → declarator_view d ≡ trees.declarator d.name (optional_view d.initializer)
+declarator_of d = declarator_by d.name d.initializer
+
+pub if_literals : (node : NodeId) (test : Expr) (consequent : Box Stmt) (alternate : Option (Box Stmt))
+    → statement_literals (statement_view (tree.If node test consequent alternate))
+    ≡ expression_literals (expression_view test) ++ statement_literals (statement_view consequent.value) ++ alternate_literals alternate
+if_literals node test consequent None =
+    ap statement_literals (view_if_then node test consequent) ∙ sym (append-nil (expression_literals (expression_view test) ++ statement_literals (statement_view consequent.value)))
+if_literals node test consequent (Some s) = ap statement_literals (view_if_else node test consequent s)
+
+pub if_declared : (node : NodeId) (test : Expr) (consequent : Box Stmt) (alternate : Option (Box Stmt)) → declared_literals (statement_view (tree.If node test consequent alternate)) ≡ []
+if_declared node test consequent None = ap declared_literals (view_if_then node test consequent)
+if_declared node test consequent (Some s) = ap declared_literals (view_if_else node test consequent s)
+
+pub ruleset expression_laws = (view_this, view_name, view_number, view_string, view_boolean, view_null, view_array, view_object, view_function, view_arrow, view_arrow_block, view_parenthesized, view_member, view_index, view_call, view_postfix, view_prefix, view_unary, view_binary, view_conditional, view_assign, view_comma)
