@@ -12,3 +12,4 @@ pub mod OrderLemmas
 pub mod EvaluatorLemmas
 pub mod ReturnLemmas
 pub mod ForgetLemmas
+pub mod WorkspaceLemmas
