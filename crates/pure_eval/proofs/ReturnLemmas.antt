@@ -2,7 +2,6 @@
 use Rattle.std.proofs.Common.{◌≡◌, ℕ, ◌+◌, true, false, List, [], ◌∷◌, ◌++◌, length, refl, sym, ap, subst, ◌∙◌, append-nil, append_assoc}
 use Rattle.js_semantics.specs.Terms.{Term}
 use Rattle.js_semantics.specs.Functions.{Program, SourceTree}
-use Rattle.js_heap.specs.declared.value.Addr.TheVariants.{Scratch}
 use Rattle.js_world.specs.Heaps.{Heap}
 use Rattle.js_world.specs.Overlays.{next_of}
 use Rattle.js_world.specs.Names.{GoesOn}
@@ -16,7 +15,7 @@ use Rattle.pure_eval.specs.declared.evaluator.Added.{Added}
 use Rattle.pure_eval.specs.declared.evaluator.Evaluator.{Evaluator}
 use Rattle.pure_eval.specs.declared.evaluator.EvaluatorMark.{EvaluatorMark}
 use Rattle.pure_eval.specs.Whole.{IsWhole}
-use Rattle.pure_eval.specs.Adding.{GoesOnWith, IsAdded, kept_tree_at}
+use Rattle.pure_eval.specs.Adding.{GoesOnWith, kept_tree_at}
 use Rattle.pure_eval.specs.Cutting.{IsMarkOf, IsBack}
 use Rattle.pure_eval.specs.Evaluators.{Stands, Runs, is_kept}
 use Rattle.pure_eval.specs.Returning.{WentOn, WentOnAfter, IsMarked, IsAgain, CameFrom, CameAfter, HasAdded, IsCode, IsCodeOf, CodeAfter}

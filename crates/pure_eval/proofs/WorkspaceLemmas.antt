@@ -1,5 +1,5 @@
 -- What a session's evaluations go on from.
-use Rattle.std.proofs.Common.{◌≡◌, ℕ, zero, suc, ◌+◌, ◌<◌, ◌≤◌, Bool, true, List, [], ◌∷◌, ◌++◌, length, take, refl, sym, ap, subst, ◌∙◌, arith}
+use Rattle.std.proofs.Common.{◌≡◌, ℕ, zero, suc, ◌<◌, ◌≤◌, Bool, true, List, [], ◌∷◌, ◌++◌, length, take, refl, sym, ap, ◌∙◌, arith}
 use Rattle.std.proofs.Math.Seq.{take-length, take-append_seam}
 use Rattle.js_heap.specs.declared.value.Addr.{Addr}
 use Rattle.js_heap.specs.declared.value.Addr.TheVariants.{Scratch}
@@ -24,7 +24,7 @@ use Rattle.pure_eval.specs.Whole.{IsWhole}
 use Rattle.pure_eval.specs.Returning.{WentOn, IsMarked, IsAgain, IsCode, IsCodeOf}
 use Rattle.pure_eval.specs.Working.{IsWorking, IsOpen, IsKnown}
 use Rattle.pure_eval.specs.Workspaces.{Workspace, workspace_of, begun, emptied_workspace, Opened, opened_of, opened}
-use Rattle.pure_eval.proofs.EvaluatorLemmas.{next-same, world-further, space-further}
+use Rattle.pure_eval.proofs.EvaluatorLemmas.{next-same, world-further}
 use Rattle.pure_eval.proofs.ReturnLemmas.{went-same, went-through, code-again}
 use Rattle.pure_eval.proofs.StayLemmas.{sources-stay}
 

@@ -1,5 +1,5 @@
 -- What a session's evaluations go on from, and what one of them leaves.
-use Rattle.std.specs.Prelude.{◌≡◌, ℕ, List, [], ◌∷◌, ◌++◌, length, take}
+use Rattle.std.specs.Prelude.{◌≡◌, ℕ, [], ◌∷◌, ◌++◌, length, take}
 use Rattle.js_heap.specs.ScratchSpaces.{ScratchSpace}
 use Rattle.js_heap.specs.World.{World}
 use Rattle.js_semantics.specs.Evaluation.{Answer, a_result, a_throw, an_effect, is_full_of, spent, kept_tree, next_kept}

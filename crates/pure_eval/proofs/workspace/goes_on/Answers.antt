@@ -1,4 +1,4 @@
-use Rattle.std.proofs.Common.{arith, ◌≡◌, ◌≤◌, length}
+use Rattle.std.proofs.Common.{arith}
 use Rattle.pure_eval.proofs.WorkspaceLemmas.{names-go-on}
 use Rattle.pure_eval.proofs.workspace.goes_on.Goals as goal
 
