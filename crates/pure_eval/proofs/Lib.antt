@@ -13,3 +13,4 @@ pub mod EvaluatorLemmas
 pub mod ReturnLemmas
 pub mod ForgetLemmas
 pub mod WorkspaceLemmas
+pub mod OpenLemmas

@@ -54,7 +54,7 @@ take_program : (e : Evaluator) (m : EvaluatorMark) → IsMarked e m → take m.t
 take_program e m k =
     ap (λ n. take n (program_of e.names e.table)) (k.table.sources ∙ sym (program-length e.names e.table e.table.sources.items)) ∙ take-length (program_of e.names e.table)
 
-space_over : (ts : List (List ℕ)) (base h : Heap) (o : Over) → over_world ts o ≡ copied_world (heap_world ts base) (space_of ts h) → space_after (over_world ts o) ≡ space_of ts h
+pub space_over : (ts : List (List ℕ)) (base h : Heap) (o : Over) → over_world ts o ≡ copied_world (heap_world ts base) (space_of ts h) → space_after (over_world ts o) ≡ space_of ts h
 space_over ts base h o e = ap space_after e
 
 space_mark : (ts : List (List ℕ)) (h : Heap) → space_at (space_of ts h) (mark_of h) ≡ space_of ts h
@@ -62,7 +62,7 @@ space_mark ts h =
     let f : List Cell → ScratchSpace = λ cs. record { cells = cs; room = record { cells = h.cells_left; units = h.units_left } } in
     ap f (ap (λ n. take n (space_of ts h).cells) (sym (cells-length ts h.cells)) ∙ take-length (space_of ts h).cells)
 
-abbrev made_open : World → Program → ScratchSpace → Program → ScratchSpace → ℕ → Opened
+abbrev pub made_open : World → Program → ScratchSpace → Program → ScratchSpace → ℕ → Opened
 made_open w p x q y n = record { world = w; before = made p n x; behind = made q n y }
 
 pub opened-is : (e : Evaluator) (n : ℕ) (m : EvaluatorMark) (base h : Heap) (o : Over) (k : Marked) (names : List (List ℕ)) → IsMarked e m → IsKnown base names e.names → ((us more : List (List ℕ)) → base.ends ≤ length us → heap_world (us ++ more) base ≡ heap_world us base) → ((ts : List (List ℕ)) → over_world ts o ≡ copied_world (heap_world ts base) (space_of ts h)) → k ≡ mark_of h → opened_of e n m base o k ≡ opened (heap_world names base) (workspace_of e n h)
@@ -76,11 +76,10 @@ opened-is e n m base h o k names marked known further over is =
     ∙ ap (λ y. made_open (heap_world names base) p y p (space_after (over_world e.names o)) n) first
     ∙ ap (λ y. made_open (heap_world names base) p x p y n) there
 
-pub open-is : (e : Evaluator) (n : ℕ) (start m : EvaluatorMark) (base h : Heap) (o : Over) (k : Marked) (names : List (List ℕ)) (count : ℕ) (next : Addr) → IsWorking e n start → IsMarked e m → IsKnown base names e.names → ((ts : List (List ℕ)) → over_world ts o ≡ copied_world (heap_world ts base) (space_of ts h)) → o.base ≡ base → k ≡ mark_of h → next ≡ next_of h → ((i : ℕ) → next ≡ Scratch i → count ≡ i) → IsOpen e n start m base o k count next
-open-is e n start m base h o k names count next working marked known over based is next_is number =
+pub open-is : (e : Evaluator) (n : ℕ) (start m : EvaluatorMark) (base h : Heap) (o : Over) (k : Marked) (count : ℕ) (next : Addr) → IsWorking e n start → IsMarked e m → ((ts : List (List ℕ)) → over_world ts o ≡ copied_world (heap_world ts base) (space_of ts h)) → o.base ≡ base → k ≡ mark_of h → next ≡ next_of h → ((i : ℕ) → next ≡ Scratch i → count ≡ i) → IsOpen e n start m base o k count next
+open-is e n start m base h o k count next working marked over based is next_is number =
     let at : count ≡ length h.cells = number (length h.cells) next_is in
     let there : (ts : List (List ℕ)) → space_after (over_world ts o) ≡ space_of ts h = λ ts. space_over ts base h o (over ts) in
-    let long : length (space_after (over_world e.names o)).cells ≡ length h.cells = ap (λ (x : ScratchSpace). length x.cells) (there e.names) ∙ cells-length e.names h.cells in
     record {
       working = working;
       before = e;
@@ -90,7 +89,6 @@ open-is e n start m base h o k names count next working marked known over based 
       base_is = based;
       ready = λ ts. over ts ∙ ap (copied_world (heap_world ts base)) (sym (there ts));
       marked_cells = ap (λ (x : Marked). x.count) is ∙ sym at;
-      there = omega (arith, at, long);
       next_is = next_is ∙ sym (next-same e.names h) ∙ ap next_kept (sym (there e.names));
     }
 

@@ -1,20 +1,29 @@
 //! What a session's evaluations go on from.
 
-ghost use Rattle.std.specs.Prelude.{◌≡◌, true, IfOk, IfSome};
+ghost use Rattle.std.specs.Prelude.{◌≡◌, [], true, IfOk, IfSome};
 ghost use Rattle.js_heap.specs.declared.value.Addr.TheVariants.{Scratch as scratch_place};
 ghost use Rattle.js_heap.specs.ScratchSpaces.{copied_world};
-ghost use Rattle.js_semantics.specs.Evaluation.{next_kept};
+ghost use Rattle.js_semantics.specs.Evaluation.{evaluate_expression, next_kept};
 ghost use Rattle.js_semantics.specs.Run.{program_from};
+ghost use Rattle.js_semantics.specs.Sources.{expression_source};
 ghost use Rattle.js_terms.specs.Views.{terms_view};
+ghost use Rattle.js_tree.specs.declared.script.Expression.{Expression};
 ghost use Rattle.js_world.specs.Heaps.{heap_world};
 ghost use Rattle.js_world.specs.Names.{name_of, GoesOn};
 ghost use Rattle.js_world.specs.Overlays.{over_world};
-ghost use Rattle.pure_eval.specs.Working.{IsKnown};
-ghost use Rattle.pure_eval.specs.Workspaces.{begun, emptied_workspace, opened};
+ghost use Rattle.pure_eval.specs.Preparing.{IsPrepared};
+ghost use Rattle.pure_eval.specs.Returning.{IsCodeOf};
+ghost use Rattle.pure_eval.specs.Working.{IsKnown, is_given_up};
+ghost use Rattle.pure_eval.specs.Workspaces.{begun, emptied_workspace, opened, EvaluatesTo};
 
+use crate::evaluated::Evaluated;
 use crate::evaluator::{Evaluator, EvaluatorMark};
+use crate::prepared::Prepared;
+use crate::session::Outcome;
+use js_code::table::NodeTable;
 use js_heap::keys::same_units;
-use js_heap::value::Addr;
+use js_heap::value::{Addr, Value};
+use js_steps::rows::Rows;
 use js_terms::term::Terms;
 use js_world::heap::BaseHeap;
 use js_world::names::{NameId, Names};
@@ -136,6 +145,62 @@ fn number_of(at: Addr) -> u32
     }
 }
 
+/// Whether an evaluator is given up behind an evaluation.
+fn is_given_up(end: Evaluated) -> bool
+    ensures { result ≡ is_given_up end }
+{
+    match end {
+        Evaluated::Memory => true,
+        _ => false,
+    }
+}
+
+/// The evaluator of no sources. It takes no memory.
+fn no_sources(alloc: Global) -> Evaluator
+    ensures { IsCodeOf result [] }
+{
+    Evaluator {
+        names: Names::new(alloc),
+        table: NodeTable {
+            nodes: Vec::new(alloc),
+            kids: Vec::new(alloc),
+            constants: Vec::new(alloc),
+            blocks: Vec::new(alloc),
+            scripts: Vec::new(alloc),
+            fors: Vec::new(alloc),
+            for_ofs: Vec::new(alloc),
+            functions: Vec::new(alloc),
+            objects: Vec::new(alloc),
+            calls: Vec::new(alloc),
+            sources: Vec::new(alloc),
+        },
+        next: 0,
+    }
+}
+
+/// No sources and no cells, open over the cells of a program. It takes no memory.
+fn given_up<'b>(alloc: Global, base: &'b BaseHeap) -> Opened<'b> {
+    let evaluator = no_sources(alloc);
+    let scratch = Scratch::new(alloc);
+    let start = evaluator.mark();
+    let mark = evaluator.mark();
+    let cells = scratch.mark();
+    let next = scratch.next_address();
+    let count = number_of(next);
+    let world = Overlay::over(base, scratch);
+    Opened {
+        evaluator,
+        base,
+        world,
+        scripts: start.table.sources,
+        start,
+        mark,
+        cells,
+        count,
+        next,
+    }
+}
+
 impl Workspace {
     /// What the evaluations of a session begin with: the code of scripts with the addresses of their literals, whose names go on
     /// behind these.
@@ -207,6 +272,42 @@ impl<'b> Opened<'b> {
         ensures { result ≡ next_kept self.now.behind.scratch }
     {
         self.next
+    }
+
+    /// Evaluates an expression, which was prepared for the next address, in a scope with a `this`. Behind a value or a throw its
+    /// source is kept, and so are the cells that it made. After want of memory nothing is known of the workspace, which is to
+    /// be given up.
+    pub fn evaluate<T: Rows>(
+        &mut self,
+        alloc: Global,
+        scope: Addr,
+        receiver: Value,
+        prepared: &Prepared,
+    ) -> Evaluated
+        ensures { (e : Expression) → IsPrepared (next_kept self.old.behind.scratch) e prepared.now → EvaluatesTo (evaluate_expression self.old.behind.program self.old.world self.old.behind.scratch scope receiver e) (expression_source e.tree) result self.old self.new }
+    {
+        let base = self.base;
+        if base.known() > self.evaluator.names.len() {
+            return Evaluated::Memory;
+        }
+        if number_of(self.next) < self.count {
+            return Evaluated::Memory;
+        }
+        base.goes_on();
+        let empty = Overlay::over(base, Scratch::new(alloc));
+        let world = std::mem::replace(&mut self.world, empty);
+        let scratch = world.into_scratch();
+        let outcome = self
+            .evaluator
+            .evaluate_expression::<T>(alloc, base, scratch, scope, receiver, prepared);
+        if is_given_up(outcome.end) {
+            *self = given_up(alloc, base);
+            return Evaluated::Memory;
+        }
+        let Outcome { end, scratch } = outcome;
+        self.next = scratch.next_address();
+        self.world = Overlay::over(base, scratch);
+        end
     }
 
     /// The cells of the program with those of the session.
