@@ -91,8 +91,8 @@ below_scripts k (semantics.more t ts) = (tt, below_scripts (k + 1) ts)
 
 -- ---- the code of an evaluator
 
-same_program : (p q : Program) → p ≡ q → HasSameFunctions p q
-same_program p q e source node = let P : Program → Type 0 = λ r. HasSameFunctions p r in let k : P q = subst P e (λ s n. refl) in k source node
+pub same-program : (p q : Program) → p ≡ q → HasSameFunctions p q
+same-program p q e source node = let P : Program → Type 0 = λ r. HasSameFunctions p r in let k : P q = subst P e (λ s n. refl) in k source node
 
 same_through : (p q r : Program) → HasSameFunctions p q → HasSameFunctions q r → HasSameFunctions p r
 same_through p q r g h source node = g source node ∙ h source node
@@ -101,7 +101,7 @@ pub stands-first : (ts : List (List ℕ)) (t : NodeTable) (xs : Terms) → IsWho
 stands-first ts t xs w h = record {
   whole = w;
   below = λ us g. let P : Program → Type 0 = λ p. AreBelow 0 p in subst P (sym (h us g)) (below_scripts 1 xs);
-  same = λ us g. same_program (program_of us t) (program_from 1 xs) (h us g);
+  same = λ us g. same-program (program_of us t) (program_from 1 xs) (h us g);
 }
 
 pub stands-added : (ts us : List (List ℕ)) (t u : NodeTable) (n m root : ℕ) (x : Term) (p : Program) → Stands ts t n p → n ≤ m → IsAdded ts t (Scratch m) x us u root → Stands us u (m + 1) (kept_tree_at (Scratch m) x ∷ p)
@@ -111,7 +111,7 @@ stands-added ts us t u n m root x p s l a =
       whole = a.whole;
       below = λ vs g. let P : Program → Type 0 = λ q. AreBelow (m + 1) q in subst P (sym (a.program vs g)) (below_more n m (program_of vs t) x (s.below vs (before vs g)) l);
       same = λ vs g.
-          same_through (program_of vs u) (program_of vs t ++ kept_tree_at (Scratch m) x ∷ []) (kept_tree_at (Scratch m) x ∷ p) (same_program (program_of vs u) (program_of vs t ++ kept_tree_at (Scratch m) x ∷ []) (a.program vs g))
+          same_through (program_of vs u) (program_of vs t ++ kept_tree_at (Scratch m) x ∷ []) (kept_tree_at (Scratch m) x ∷ p) (same-program (program_of vs u) (program_of vs t ++ kept_tree_at (Scratch m) x ∷ []) (a.program vs g))
           (same_through (program_of vs t ++ kept_tree_at (Scratch m) x ∷ []) (kept_tree_at (Scratch m) x ∷ program_of vs t) (kept_tree_at (Scratch m) x ∷ p) (behind-others (program_of vs t) (kept_tree_at (Scratch m) x) (below_new n m (program_of vs t) (s.below vs (before vs g)) l))
           (in-front (program_of vs t) p (kept_tree_at (Scratch m) x) (s.same vs (before vs g))));
     }
@@ -161,13 +161,13 @@ next-same ts h = ap (λ n. Scratch n) (cells-length ts h.cells)
 source_same : (a b : Addr) (x y : Term) → a ≡ b → x ≡ y → kept_tree_at a x ≡ kept_tree_at b y
 source_same a b x y e f = ap (λ c. kept_tree_at c x) e ∙ ap (kept_tree_at b) f
 
-behind_is : (at : Addr) (h : Heap) (from n : ℕ) → at ≡ next_of h → IsBehind at from n → (from ≤ length h.cells) × (n ≡ length h.cells + 1)
-behind_is at h from n e b = let P : Addr → Type 0 = λ a. IsBehind a from n in subst P e b
+pub behind-is : (at : Addr) (h : Heap) (from n : ℕ) → at ≡ next_of h → IsBehind at from n → (from ≤ length h.cells) × (n ≡ length h.cells + 1)
+behind-is at h from n e b = let P : Addr → Type 0 = λ a. IsBehind a from n in subst P e b
 
 -- the source that was added is the one that the definition has in front
 pub stands-with : (ts us : List (List ℕ)) (t u : NodeTable) (n next root : ℕ) (x : Term) (p : Program) (h : Heap) (at : Addr) (e : Made) (order ls : List (List ℕ)) → Stands ts t n p → at ≡ next_of h → IsBehind at n next → IsAdded ts t at x us u root → IsMadeOf (next_kept (space_of ts h)) e order ls x → Stands us u next (with_source p (space_of ts h) e)
 stands-with ts us t u n next root x p h at e order ls s i l a m =
-    let b = behind_is at h n next i l in
+    let b = behind-is at h n next i l in
     let P : Addr → Type 0 = λ c. IsAdded ts t c x us u root in
     let Q : SourceTree → Type 0 = λ y. Stands us u (length h.cells + 1) (y ∷ p) in
     let R : ℕ → Type 0 = λ k. Stands us u k (with_source p (space_of ts h) e) in

@@ -12,3 +12,5 @@ pub mod OrderLemmas
 pub mod EvaluatorLemmas
 pub mod ReturnLemmas
 pub mod ForgetLemmas
+pub mod WorkspaceLemmas
+pub mod OpenLemmas

@@ -1,11 +1,13 @@
 -- Evaluators that went on, and come back.
-use Rattle.std.proofs.Common.{◌≡◌, ℕ, true, false, List, [], ◌∷◌, ◌++◌, refl, sym, ap, subst, ◌∙◌, append-nil, append_assoc}
+use Rattle.std.proofs.Common.{◌≡◌, ℕ, ◌+◌, true, false, List, [], ◌∷◌, ◌++◌, length, refl, sym, ap, subst, ◌∙◌, append-nil, append_assoc}
 use Rattle.js_semantics.specs.Terms.{Term}
-use Rattle.js_semantics.specs.Functions.{Program}
+use Rattle.js_semantics.specs.Functions.{Program, SourceTree}
 use Rattle.js_world.specs.Heaps.{Heap}
+use Rattle.js_world.specs.Overlays.{next_of}
 use Rattle.js_world.specs.Names.{GoesOn}
 use Rattle.js_code.specs.declared.node.SourceEntry.{SourceEntry}
 use Rattle.js_code.specs.declared.table.NodeTable.{NodeTable}
+use Rattle.js_code.specs.Trees.{program_of}
 use Rattle.js_compile.proofs.GrownLemmas.{extends_same, extends_twice}
 use Rattle.pure_eval.specs.declared.evaluated.Evaluated.{Evaluated}
 use Rattle.pure_eval.specs.declared.evaluated.Evaluated.TheVariants as ends
@@ -13,11 +15,11 @@ use Rattle.pure_eval.specs.declared.evaluator.Added.{Added}
 use Rattle.pure_eval.specs.declared.evaluator.Evaluator.{Evaluator}
 use Rattle.pure_eval.specs.declared.evaluator.EvaluatorMark.{EvaluatorMark}
 use Rattle.pure_eval.specs.Whole.{IsWhole}
-use Rattle.pure_eval.specs.Adding.{GoesOnWith}
+use Rattle.pure_eval.specs.Adding.{GoesOnWith, kept_tree_at}
 use Rattle.pure_eval.specs.Cutting.{IsMarkOf, IsBack}
-use Rattle.pure_eval.specs.Evaluators.{Runs, is_kept}
-use Rattle.pure_eval.specs.Returning.{WentOn, WentOnAfter, IsMarked, IsAgain, CameFrom, CameAfter, HasAdded}
-use Rattle.pure_eval.proofs.EvaluatorLemmas.{same-names, further-names, stands-back, stands-same}
+use Rattle.pure_eval.specs.Evaluators.{Stands, Runs, is_kept}
+use Rattle.pure_eval.specs.Returning.{WentOn, WentOnAfter, IsMarked, IsAgain, CameFrom, CameAfter, HasAdded, IsCode, IsCodeOf, CodeAfter}
+use Rattle.pure_eval.proofs.EvaluatorLemmas.{same-names, further-names, same-program, stands-back, stands-same, stands-added, behind-is}
 
 -- ---- going on
 
@@ -65,6 +67,7 @@ again first old new m n x back w k g =
       goes_on = record { names = subst P (sym n) g.names; entries = []; table = b.table; whole = b.whole };
       next = x ∙ k.next;
       runs = λ p r. stands-same old.names new.names new.table new.table first.next new.next p n refl (x ∙ k.next) (stands-back first.names old.names first.table new.table first.next p r g.names b);
+      program = b.program;
     }
 
 pub came-again : (old new : Evaluator) (m : EvaluatorMark) (p : Program) → ((e : Evaluator) → IsWhole e.table → IsMarked e m → WentOn e old → IsAgain e new) → CameFrom m p old → Runs new p × CameFrom m p new
@@ -90,3 +93,53 @@ went-after end old mid new base scratch x a w h n kept cut =
     went_by end old new
     (λ o. let same = kept o in record { names = names; entries = h.source.entry ∷ []; table = subst Q (sym same.0) h.source.table; whole = subst IsWhole (sym same.0) h.source.whole })
     (λ o. let back = cut o in let b : IsBack old.table new.table = back.1 old.table (h.source.entry ∷ []) w h.marked h.source.table in record { names = names; entries = []; table = b.table; whole = b.whole })
+
+-- ---- the program of a table
+
+pub code-of : (e : Evaluator) (q p : Program) → Runs e q → ((us : List (List ℕ)) → GoesOn e.names us → program_of us e.table ≡ p) → IsCodeOf e p
+code-of e q p r h =
+    let here : program_of e.names e.table ≡ p = h e.names (same-names e.names) in
+    let steady : (us : List (List ℕ)) → GoesOn e.names us → program_of us e.table ≡ program_of e.names e.table = λ us g. h us g ∙ sym here in
+    record {
+      code = record {
+        runs = record { whole = r.whole; below = r.below; same = λ us g. same-program (program_of us e.table) (program_of e.names e.table) (steady us g) };
+        steady = steady;
+      };
+      program = here;
+    }
+
+pub code-again : (e new : Evaluator) → IsCode e → IsAgain e new → IsCodeOf new (program_of e.names e.table)
+code-again e new c i =
+    code-of new (program_of e.names e.table) (program_of e.names e.table) (i.runs (program_of e.names e.table) c.runs)
+    (λ us g. i.program us ∙ c.steady us (further-names e.names new.names us i.goes_on.names g))
+
+code_by : (end : Evaluated) (new : Evaluator) (p : Program) (s : SourceTree) → (is_kept end ≡ true → IsCodeOf new (p ++ s ∷ [])) → (is_kept end ≡ false → IsCodeOf new p) → CodeAfter end new p s
+code_by (ends.Value v) new p s h k = h refl
+code_by (ends.Thrown v) new p s h k = h refl
+code_by ends.Effect new p s h k = k refl
+code_by (ends.Full what) new p s h k = k refl
+code_by ends.Spent new p s h k = k refl
+code_by ends.Memory new p s h k = tt
+
+code_kept : (old mid new : Evaluator) (base scratch : Heap) (x : Term) (a : Added) → IsCode old → HasAdded old mid base scratch x a → new.names ≡ mid.names → new.table ≡ mid.table → new.next ≡ a.next → IsCodeOf new (program_of old.names old.table ++ kept_tree_at (next_of scratch) x ∷ [])
+code_kept old mid new base scratch x a c h n t y =
+    let p : Program = program_of old.names old.table in
+    let s : SourceTree = kept_tree_at (next_of scratch) x in
+    let b = behind-is (next_of scratch) scratch old.next a.next refl h.behind in
+    let stands : Stands mid.names mid.table (length scratch.cells + 1) (s ∷ p) = stands-added old.names mid.names old.table mid.table old.next (length scratch.cells) a.node x p c.runs b.0 h.source in
+    let P : List (List ℕ) → Type 0 = λ ts. (us : List (List ℕ)) → GoesOn ts us → program_of us mid.table ≡ p ++ s ∷ [] in
+    let Q : NodeTable → Type 0 = λ u. (us : List (List ℕ)) → GoesOn new.names us → program_of us u ≡ p ++ s ∷ [] in
+    let program : P mid.names = λ us g. h.source.program us g ∙ ap (λ q. q ++ s ∷ []) (c.steady us (further-names old.names mid.names us h.source.goes_on g)) in
+    code-of new (s ∷ p) (p ++ s ∷ []) (stands-same mid.names new.names mid.table new.table (length scratch.cells + 1) new.next (s ∷ p) n t (y ∙ b.1) stands) (subst Q (sym t) (subst P (sym n) program))
+
+code_cut : (old mid new : Evaluator) (base scratch : Heap) (x : Term) (a : Added) → IsCode old → HasAdded old mid base scratch x a → new.names ≡ mid.names → new.next ≡ mid.next → IsBack old.table new.table → IsCodeOf new (program_of old.names old.table)
+code_cut old mid new base scratch x a c h n y b =
+    let p : Program = program_of old.names old.table in
+    let P : List (List ℕ) → Type 0 = λ ts. (us : List (List ℕ)) → GoesOn ts us → program_of us new.table ≡ p in
+    let program : P mid.names = λ us g. b.program us ∙ c.steady us (further-names old.names mid.names us h.source.goes_on g) in
+    code-of new p p (stands-same mid.names new.names new.table new.table old.next new.next p n refl (y ∙ h.next) (stands-back old.names mid.names old.table new.table old.next p c.runs h.source.goes_on b)) (subst P (sym n) program)
+
+pub code-after : (end : Evaluated) (old mid new : Evaluator) (base scratch : Heap) (x : Term) (a : Added) → IsCode old → HasAdded old mid base scratch x a → new.names ≡ mid.names → (is_kept end ≡ true → (new.table ≡ mid.table) × (new.next ≡ a.next)) → (is_kept end ≡ false → (new.next ≡ mid.next) × ((t : NodeTable) (es : List SourceEntry) → IsWhole t → IsMarkOf t a.mark → GoesOnWith t mid.table es → IsBack t new.table)) → CodeAfter end new (program_of old.names old.table) (kept_tree_at (next_of scratch) x)
+code-after end old mid new base scratch x a c h n kept cut =
+    code_by end new (program_of old.names old.table) (kept_tree_at (next_of scratch) x) (λ o. let same = kept o in code_kept old mid new base scratch x a c h n same.0 same.1)
+    (λ o. let back = cut o in code_cut old mid new base scratch x a c h n back.0 (back.1 old.table (h.source.entry ∷ []) c.runs.whole h.marked h.source.table))

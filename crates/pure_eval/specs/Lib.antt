@@ -8,3 +8,6 @@ pub mod Orders
 pub mod Evaluators
 pub mod Preparing
 pub mod Returning
+pub mod TermCodes
+pub mod Working
+pub mod Workspaces

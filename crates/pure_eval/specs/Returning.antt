@@ -1,11 +1,12 @@
 -- Evaluators that went on from what they were, and come back to it.
-use Rattle.std.specs.Prelude.{◌≡◌, ◌≤◌, List, length}
+use Rattle.std.specs.Prelude.{◌≡◌, ◌≤◌, ℕ, List, [], ◌∷◌, ◌++◌, length}
 use Rattle.js_semantics.specs.Terms.{Term}
-use Rattle.js_semantics.specs.Functions.{Program}
+use Rattle.js_semantics.specs.Functions.{Program, SourceTree}
 use Rattle.js_world.specs.Heaps.{Heap}
 use Rattle.js_world.specs.Names.{GoesOn}
 use Rattle.js_world.specs.Overlays.{next_of}
 use Rattle.js_code.specs.declared.node.SourceEntry.{SourceEntry}
+use Rattle.js_code.specs.Trees.{program_of}
 use Rattle.pure_eval.specs.declared.evaluated.Evaluated.{Evaluated}
 use Rattle.pure_eval.specs.declared.evaluated.Evaluated.TheVariants as ends
 use Rattle.pure_eval.specs.declared.evaluator.Added.{Added}
@@ -38,6 +39,7 @@ pub record IsAgain (old new : Evaluator) : Type 0 where
   pub goes_on : WentOn old new
   pub next : new.next ≡ old.next
   pub runs : (p : Program) → Runs old p → Runs new p
+  pub program : (ts : List (List ℕ)) → program_of ts new.table ≡ program_of ts old.table
 
 -- an evaluator went on from one that had the code of a program when it was marked
 pub record CameFrom (m : EvaluatorMark) (p : Program) (e : Evaluator) : Type 0 where
@@ -59,3 +61,20 @@ pub record HasAdded (old new : Evaluator) (base scratch : Heap) (x : Term) (a : 
   pub marked : IsMarkOf old.table a.mark
   pub source : IsAdded old.names old.table (next_of scratch) x new.names new.table a.node
   pub next : new.next ≡ old.next
+
+-- an evaluator runs the program of its table, which is the same however the names go on
+pub record IsCode (e : Evaluator) : Type 0 where
+  pub runs : Runs e (program_of e.names e.table)
+  pub steady : (us : List (List ℕ)) → GoesOn e.names us → program_of us e.table ≡ program_of e.names e.table
+
+-- an evaluator of a program, and of no other sources
+pub record IsCodeOf (e : Evaluator) (p : Program) : Type 0 where
+  pub code : IsCode e
+  pub program : program_of e.names e.table ≡ p
+
+-- behind an evaluation an evaluator has one source more, or the same; after want of memory it is given up
+abbrev pub CodeAfter : Evaluated → Evaluator → Program → SourceTree → Type 0
+CodeAfter (ends.Value v) new p s = IsCodeOf new (p ++ s ∷ [])
+CodeAfter (ends.Thrown v) new p s = IsCodeOf new (p ++ s ∷ [])
+CodeAfter ends.Memory new p s = Unit {0}
+CodeAfter end new p s = IsCodeOf new p

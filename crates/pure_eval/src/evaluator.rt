@@ -10,20 +10,20 @@ ghost use Rattle.js_semantics.specs.Sources.{expression_source};
 ghost use Rattle.js_semantics.specs.Terms.{settle};
 ghost use Rattle.js_world.specs.Heaps.{heap_world};
 ghost use Rattle.js_world.specs.Names.{GoesOn};
-ghost use Rattle.js_world.specs.Overlays.{space_of};
+ghost use Rattle.js_world.specs.Overlays.{space_of, next_of};
 ghost use Rattle.js_code.specs.declared.node.SourceEntry.{SourceEntry};
 ghost use Rattle.js_code.specs.declared.table.NodeTable.{NodeTable as AnyTable};
 ghost use Rattle.js_code.specs.Codes.{HasFunctions};
 ghost use Rattle.js_code.specs.Trees.{tree, program_of, IsTable};
 ghost use Rattle.js_terms.specs.Views.{term_view, terms_view};
-ghost use Rattle.pure_eval.specs.Adding.{GoesOnWith};
+ghost use Rattle.pure_eval.specs.Adding.{GoesOnWith, kept_tree_at};
 ghost use Rattle.pure_eval.specs.Cutting.{IsMarkOf, IsBack};
 ghost use Rattle.pure_eval.specs.Whole.{IsWhole};
 ghost use Rattle.pure_eval.specs.Evaluators.{Runs, IsMadeOf, IsBehind, is_kept, RunsAfter};
 ghost use Rattle.pure_eval.specs.Leaving.{Leaves};
 ghost use Rattle.pure_eval.specs.Orders.{AreSameLiterals, ready_in_order};
 ghost use Rattle.pure_eval.specs.Preparing.{IsPrepared};
-ghost use Rattle.pure_eval.specs.Returning.{WentOn, WentOnAfter, IsMarked, IsAgain, CameFrom, CameAfter, HasAdded};
+ghost use Rattle.pure_eval.specs.Returning.{WentOn, WentOnAfter, IsMarked, IsAgain, CameFrom, CameAfter, HasAdded, IsCode, IsCodeOf, CodeAfter};
 
 use crate::adding::add_source;
 use crate::closed::is_whole;
@@ -148,6 +148,7 @@ impl Evaluator {
     pub fn start(alloc: Global, names: &Names, scripts: &Terms) -> Result<Evaluator, AllocError>
         ensures program { IfOk result (λ e. Runs e (program_from 1 (terms_view scripts.now))) }
         ensures names { IfOk result (λ e. GoesOn names.now e.names) }
+        ensures code { IfOk result (λ e. IsCodeOf e (program_from 1 (terms_view scripts.now))) }
     {
         let mut known = names.copy()?;
         let Some(code) = code_of_scripts(alloc, &mut known, scripts)? else {
@@ -248,6 +249,7 @@ impl Evaluator {
         ensures program { (p : Program) (e : Made) → Runs self.old p → IsMadeOf (next_kept (space_of self.old.names scratch)) e order.now literals.now (term_view term.now) → RunsAfter result.end self.new p (with_source p (space_of self.old.names scratch) e) }
         ensures goes_on { WentOnAfter result.end self.old self.new }
         ensures came { (m : EvaluatorMark) (p : Program) → CameFrom m p self.old → CameAfter result.end m p self.new }
+        ensures code { IsCode self.old → CodeAfter result.end self.new (program_of self.old.names self.old.table) (kept_tree_at (next_of scratch) (term_view term.now)) }
     {
         let Ok(added) = self.add(alloc, base, &scratch, term) else {
             return Outcome {
@@ -290,6 +292,7 @@ impl Evaluator {
         ensures program { (p : Program) (e : Expression) → Runs self.old p → IsPrepared (next_kept (space_of self.old.names scratch)) e prepared.now → RunsAfter result.end self.new p (with_source p (space_of self.old.names scratch) (expression_source e.tree)) }
         ensures goes_on { WentOnAfter result.end self.old self.new }
         ensures came { (m : EvaluatorMark) (p : Program) → CameFrom m p self.old → CameAfter result.end m p self.new }
+        ensures code { IsCode self.old → CodeAfter result.end self.new (program_of self.old.names self.old.table) (kept_tree_at (next_of scratch) (term_view prepared.now.term)) }
     {
         self.evaluate::<T>(
             alloc,

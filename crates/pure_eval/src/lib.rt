@@ -12,3 +12,4 @@ pub mod orders;
 pub mod prepared;
 pub mod reducing;
 pub mod session;
+pub mod workspace;

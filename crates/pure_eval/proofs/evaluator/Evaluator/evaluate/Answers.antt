@@ -4,7 +4,7 @@ use Rattle.js_terms.specs.Views.{term_view}
 use Rattle.js_world.specs.Heaps.{heap_world}
 use Rattle.js_world.specs.Overlays.{space_of, next_of}
 use Rattle.pure_eval.proofs.EvaluatorLemmas.{stands-with, evaluator-leaves, runs-after}
-use Rattle.pure_eval.proofs.ReturnLemmas.{went-after, came-after}
+use Rattle.pure_eval.proofs.ReturnLemmas.{went-after, came-after, code-after}
 use Rattle.pure_eval.proofs.evaluator.Evaluator.evaluate.Goals as goal
 
 pub returns-clause-answer : goal.returns-clause-answer
@@ -38,3 +38,7 @@ evaluate_known-outcome-requires-clause-table g c = c.in-Ok.ensures.source.whole.
 
 pub evaluate_known-outcome-requires-clause-functions : goal.evaluate_known-outcome-requires-clause-functions
 evaluate_known-outcome-requires-clause-functions g c = c.in-Ok.ensures.source.whole.functions
+
+pub returns-clause-code : goal.returns-clause-code
+returns-clause-code g c = λ code.
+    code-after c.evaluate_known-outcome.result.end c.args.self.now c.add.new.self c.keep.new.self c.args.base.now c.args.scratch (term_view c.args.term.now) c.in-Ok.added code c.in-Ok.ensures c.keep.ensures.names c.keep.ensures.kept c.keep.ensures.cut

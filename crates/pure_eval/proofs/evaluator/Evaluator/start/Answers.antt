@@ -2,6 +2,8 @@ use Rattle.std.proofs.Common.{ℕ, List, refl, subst}
 use Rattle.js_terms.specs.Views.{terms_view}
 use Rattle.js_world.specs.Names.{GoesOn}
 use Rattle.pure_eval.proofs.EvaluatorLemmas.{compiled, stands-first}
+use Rattle.js_semantics.specs.Run.{program_from}
+use Rattle.pure_eval.proofs.ReturnLemmas.{code-of}
 use Rattle.pure_eval.proofs.evaluator.Evaluator.start.Goals as goal
 
 pub is_whole-requires-clause-table : goal.is_whole-requires-clause-table
@@ -28,3 +30,8 @@ pub returns-clause-names : goal.returns-clause-names
 returns-clause-names c =
     let P : List (List ℕ) → Type 0 = λ ts. GoesOn ts c.code_of_scripts.new.names in
     subst P c.in_ok-known.ensures c.in_ok-code.ensures.goes_on
+
+pub returns-clause-code : goal.returns-clause-code
+returns-clause-code c =
+    let h = compiled c.code_of_scripts.new.names (terms_view c.args.scripts.now) c.in_ok-code.field-0 c.in-Some.code c.in_ok-code.ensures.code c.in-Some.is in
+    code-of (record { names = c.code_of_scripts.new.names; table = c.in-Some.code.table; next = 0 }) (program_from 1 (terms_view c.args.scripts.now)) (program_from 1 (terms_view c.args.scripts.now)) (stands-first c.code_of_scripts.new.names c.in-Some.code.table (terms_view c.args.scripts.now) (c.if-not-is_whole.ensures refl) h.program) h.program

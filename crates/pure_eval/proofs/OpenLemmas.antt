@@ -1,0 +1,224 @@
+-- Evaluations over an opened workspace.
+use Rattle.std.proofs.Common.{◌≡◌, ℕ, zero, suc, ◌≤◌, false, List, [], ◌∷◌, ◌++◌, Option, Some, None, length, take, refl, sym, ap, subst, ◌∙◌, arith}
+use Rattle.std.proofs.Math.Seq.{take-length}
+use Rattle.std.specs.Prelude.{slice_get}
+use Rattle.js_heap.specs.declared.value.Addr.{Addr}
+use Rattle.js_heap.specs.declared.value.Addr.TheVariants.{Scratch}
+use Rattle.js_heap.specs.declared.value.Value.{Value}
+use Rattle.js_heap.specs.declared.cell.Cell.{Cell}
+use Rattle.js_heap.specs.World.{World}
+use Rattle.js_heap.specs.ScratchSpaces.{ScratchSpace, copied_world}
+use Rattle.js_semantics.specs.Functions.{Program, SourceTree}
+use Rattle.js_semantics.specs.Makers.{Made}
+use Rattle.js_semantics.specs.Terms.{Term}
+use Rattle.js_semantics.specs.Laws.{AnswerKeeps}
+use Rattle.js_semantics.specs.Evaluation.{Answer, evaluate_expression, kept_tree, next_kept}
+use Rattle.js_semantics.specs.Literals.{source_literals}
+use Rattle.js_semantics.specs.Sources.{expression_source}
+use Rattle.js_semantics.proofs.EvaluationLemmas.{evaluate-keeps}
+use Rattle.js_terms.specs.Views.{term_view}
+use Rattle.js_tree.specs.declared.script.Expression.{Expression}
+use Rattle.js_world.specs.Heaps.{Heap, heap_world}
+use Rattle.js_world.specs.Overlays.{Marked, Over, over_world, space_of, space_after, space_at, next_of}
+use Rattle.js_code.specs.declared.node.Node.{Node}
+use Rattle.js_code.specs.declared.table.NodeTable.{NodeTable}
+use Rattle.js_code.specs.Trees.{IsTable, IsNodeAt, program_of, source_trees}
+use Rattle.js_compile.specs.Grown.{HasPlaces, IsPlacedNode}
+use Rattle.pure_eval.specs.declared.evaluated.Evaluated.{Evaluated}
+use Rattle.pure_eval.specs.declared.evaluated.Evaluated.TheVariants as ends
+use Rattle.pure_eval.specs.declared.evaluator.Evaluator.{Evaluator}
+use Rattle.pure_eval.specs.declared.evaluator.EvaluatorMark.{EvaluatorMark}
+use Rattle.pure_eval.specs.declared.prepared.Prepared.{Prepared}
+use Rattle.pure_eval.specs.Adding.{kept_tree_at}
+use Rattle.pure_eval.specs.Evaluators.{AreBelow, Runs}
+use Rattle.pure_eval.specs.Leaving.{Leaves}
+use Rattle.pure_eval.specs.Preparing.{IsPrepared}
+use Rattle.pure_eval.specs.Returning.{WentOn, WentOnAfter, IsCode, IsCodeOf, CodeAfter}
+use Rattle.pure_eval.specs.Whole.{IsWhole}
+use Rattle.pure_eval.specs.Working.{IsWorking, IsOpen, is_given_up}
+use Rattle.pure_eval.specs.Workspaces.{Opened, opened_of, source_kept, EvaluatesTo}
+use Rattle.pure_eval.proofs.EvaluatorLemmas.{next-same, world-further, same-program}
+use Rattle.pure_eval.proofs.ReturnLemmas.{went-through, code-of}
+use Rattle.pure_eval.proofs.WorkspaceLemmas.{space_over, made_open, program-first}
+
+-- ---- no sources
+
+none_there : {A : Type 0} → (xs : List A) (n : ℕ) → xs ≡ [] → slice_get xs n ≡ None
+none_there [] zero e = refl
+none_there [] (suc n) e = refl
+none_there (x ∷ xs) n e = absurd cc
+
+not_there : {A : Type 0} → (xs : List A) (n : ℕ) (x : A) → xs ≡ [] → slice_get xs n ≡ Some x → ⊥
+not_there xs n x e f = let g : slice_get xs n ≡ None = none_there xs n e in absurd cc
+
+nodes_none : (t : NodeTable) → t.nodes.items ≡ [] → IsTable t
+nodes_none t e = record { nodes = λ n. let P : Option Node → Type 0 = λ o. IsNodeAt t n o in subst P (sym (none_there t.nodes.items n e)) tt }
+
+places_none : (t : NodeTable) → t.nodes.items ≡ [] → HasPlaces t
+places_none t e = record { nodes = λ n. let P : Option Node → Type 0 = λ o. IsPlacedNode t n o in subst P (sym (none_there t.nodes.items n e)) tt }
+
+whole_none : (t : NodeTable) → t.nodes.items ≡ [] → t.functions.items ≡ [] → t.sources.items ≡ [] → IsWhole t
+whole_none t nodes functions sources = record {
+  table = nodes_none t nodes;
+  places = places_none t nodes;
+  functions = record { finds = λ ts i e there node. absurd (not_there t.sources.items i e sources there) };
+  closed = λ n node from there. absurd (not_there t.nodes.items n node nodes there);
+  placed = λ i e from there. absurd (not_there t.functions.items i e functions there);
+  sources = λ i e there. absurd (not_there t.sources.items i e sources there);
+}
+
+pub no-sources : (e : Evaluator) → e.table.nodes.items ≡ [] → e.table.functions.items ≡ [] → e.table.sources.items ≡ [] → IsCodeOf e []
+no-sources e nodes functions sources =
+    let none : (us : List (List ℕ)) → program_of us e.table ≡ [] = λ us. ap (source_trees us e.table) sources in
+    let P : Program → Type 0 = λ p. AreBelow e.next p in
+    let runs : Runs e [] = record {
+      whole = whole_none e.table nodes functions sources;
+      below = λ us g. subst P (sym (none us)) tt;
+      same = λ us g. same-program (program_of us e.table) [] (none us);
+    } in
+    code-of e [] [] runs (λ us g. none us)
+
+-- ---- what holds behind an evaluation
+
+went_on : (end : Evaluated) (old new : Evaluator) → is_given_up end ≡ false → WentOnAfter end old new → WentOn old new
+went_on (ends.Value v) old new f g = g
+went_on (ends.Thrown v) old new f g = g
+went_on ends.Effect old new f g = g
+went_on (ends.Full what) old new f g = g
+went_on ends.Spent old new f g = g
+went_on ends.Memory old new f g = absurd cc
+
+code_on : (end : Evaluated) (new : Evaluator) (p : Program) (s : SourceTree) → is_given_up end ≡ false → CodeAfter end new p s → IsCode new
+code_on (ends.Value v) new p s f c = c.code
+code_on (ends.Thrown v) new p s f c = c.code
+code_on ends.Effect new p s f c = c.code
+code_on (ends.Full what) new p s f c = c.code
+code_on ends.Spent new p s f c = c.code
+code_on ends.Memory new p s f c = absurd cc
+
+working_on : (old new : Evaluator) (n : ℕ) (m : EvaluatorMark) → IsWorking old n m → WentOn old new → IsCode new → IsWorking new n m
+working_on old new n m w g c = record {
+  code = c;
+  first = w.first;
+  first_code = w.first_code;
+  marked = w.marked;
+  goes_on = went-through w.first old new w.goes_on g;
+  count = w.count;
+}
+
+pub open-on : (end : Evaluated) (old new : Evaluator) (n : ℕ) (start m : EvaluatorMark) (base h : Heap) (o q : Over) (k : Marked) (count : ℕ) (next later : Addr) (p : Program) (s : SourceTree) → is_given_up end ≡ false → IsOpen old n start m base o k count next → WentOnAfter end old new → CodeAfter end new p s → ((ts : List (List ℕ)) → over_world ts q ≡ copied_world (heap_world ts base) (space_of ts h)) → q.base ≡ base → later ≡ next_of h → IsOpen new n start m base q k count later
+open-on end old new n start m base h o q k count next later p s f i went code over based next_is =
+    let g : WentOn old new = went_on end old new f went in
+    let there : (ts : List (List ℕ)) → space_after (over_world ts q) ≡ space_of ts h = λ ts. space_over ts base h q (over ts) in
+    record {
+      working = working_on old new n start i.working g (code_on end new p s f code);
+      before = i.before;
+      before_working = i.before_working;
+      marked = i.marked;
+      goes_on = went-through i.before old new i.goes_on g;
+      base_is = based;
+      ready = λ ts. over ts ∙ ap (copied_world (heap_world ts base)) (sym (there ts));
+      marked_cells = i.marked_cells;
+      next_is = next_is ∙ sym (next-same new.names h) ∙ ap next_kept (sym (there new.names));
+    }
+
+-- ---- the cells of when it was opened
+
+take_first : {A : Type 0} → (k l : ℕ) (ys : List A) → k ≤ l → take k (take l ys) ≡ take k ys
+take_first zero l ys h = refl
+take_first (suc k) zero ys h = absurd (omega (arith, h))
+take_first (suc k) (suc l) [] h = refl
+take_first (suc k) (suc l) (y ∷ ys) h = ap (λ zs. y ∷ zs) (take_first k l ys (omega (arith, h)))
+
+cells_stay : (x y : ScratchSpace) (k : Marked) → k.count ≤ length x.cells → take (length x.cells) y.cells ≡ x.cells → space_at y k ≡ space_at x k
+cells_stay x y k h e =
+    let f : List Cell → ScratchSpace = λ cs. record { cells = cs; room = record { cells = k.cells_left; units = k.units_left } } in
+    ap f (sym (take_first k.count (length x.cells) y.cells h) ∙ ap (take k.count) e)
+
+-- ---- what an evaluation comes to
+
+open_same : (w v : World) (p r a b : Program) (x y z u : ScratchSpace) (n : ℕ) → w ≡ v → p ≡ r → x ≡ y → a ≡ b → z ≡ u → made_open w p x a z n ≡ made_open v r y b u n
+open_same w v p r a b x y z u n e f g h i =
+    ap (λ s. made_open s p x a z n) e ∙ ap (λ s. made_open v s x a z n) f ∙ ap (λ s. made_open v r s a z n) g ∙ ap (λ s. made_open v r y s z n) h ∙ ap (λ s. made_open v r y b s n) i
+
+-- behind an evaluation over an opened workspace, which did not give up the evaluator
+record Behind (old new : Evaluator) (n : ℕ) (start m : EvaluatorMark) (base h : Heap) (o q : Over) (k : Marked) (count : ℕ) (next : Addr) : Type 0 where
+  pub open_old : IsOpen old n start m base o k count next
+  pub went : WentOn old new
+  pub code : IsCode new
+  pub further : (us more : List (List ℕ)) → base.ends ≤ length us → heap_world (us ++ more) base ≡ heap_world us base
+  pub known : base.ends ≤ length old.names
+  pub there : k.count ≤ length (space_after (over_world old.names o)).cells
+  pub over : (ts : List (List ℕ)) → over_world ts q ≡ copied_world (heap_world ts base) (space_of ts h)
+
+open_behind : (old new : Evaluator) (n : ℕ) (start m : EvaluatorMark) (base h : Heap) (o q : Over) (k : Marked) (count : ℕ) (next : Addr) (p : Program) (y : ScratchSpace) → Behind old new n start m base h o q k count next → program_of new.names new.table ≡ p → space_of new.names h ≡ y → take (length (space_after (over_world old.names o)).cells) y.cells ≡ (space_after (over_world old.names o)).cells → opened_of new n m base q k ≡ made_open (heap_world old.names base) (take m.table.sources (program_of old.names old.table)) (space_at (space_after (over_world old.names o)) k) p y n
+open_behind old new n start m base h o q k count next p y b program space cells =
+    let i = b.open_old in
+    let x : ScratchSpace = space_after (over_world old.names o) in
+    let there : space_after (over_world new.names q) ≡ y = space_over new.names base h q (b.over new.names) ∙ space in
+    let first : take m.table.sources (program_of new.names new.table) ≡ take m.table.sources (program_of old.names old.table) =
+    program-first i.before new m.table.sources i.before_working.code (went-through i.before old new i.goes_on b.went) i.marked.table.sources
+    ∙ sym (program-first i.before old m.table.sources i.before_working.code i.goes_on i.marked.table.sources) in
+    open_same (heap_world new.names base) (heap_world old.names base) (take m.table.sources (program_of new.names new.table)) (take m.table.sources (program_of old.names old.table)) (program_of new.names new.table) p
+    (space_at (space_after (over_world new.names q)) k) (space_at x k) (space_after (over_world new.names q)) y n
+    (world-further old.names new.names base b.went.names b.further b.known) first (ap (λ z. space_at z k) there ∙ cells_stay x y k b.there cells) program there
+
+source_same : (a b : Addr) (x y : Term) → a ≡ b → x ≡ y → kept_tree_at a x ≡ kept_tree_at b y
+source_same a b x y e f = ap (λ c. kept_tree_at c x) e ∙ ap (kept_tree_at b) f
+
+source_is : (ts : List (List ℕ)) (g : Heap) (x : ScratchSpace) (t : Term) (e : Made) → space_of ts g ≡ x → t ≡ kept_tree (next_kept x) e → kept_tree_at (next_of g) t ≡ source_kept x e
+source_is ts g x t e f h = source_same (next_of g) (next_kept x) t (kept_tree (next_kept x) e) (sym (next-same ts g) ∙ ap next_kept f) h
+
+same_cells : (x y : ScratchSpace) → y ≡ x → take (length x.cells) y.cells ≡ x.cells
+same_cells x y e = ap (λ (z : ScratchSpace). take (length x.cells) z.cells) e ∙ take-length x.cells
+
+with_more : (p q : Program) (s t : SourceTree) → q ≡ p ++ s ∷ [] → s ≡ t → q ≡ p ++ t ∷ []
+with_more p q s t e f = e ∙ ap (λ u. p ++ u ∷ []) f
+
+comes_to : (end : Evaluated) (a : Answer) (e : Made) (w : World) (s : SourceTree) (old new : Evaluator) (n : ℕ) (start m : EvaluatorMark) (base h : Heap) (o q : Over) (k : Marked) (count : ℕ) (next : Addr) → Behind old new n start m base h o q k count next → CodeAfter end new (program_of old.names old.table) s → s ≡ source_kept (space_after (over_world old.names o)) e → AnswerKeeps w (space_after (over_world old.names o)) a → Leaves a end (space_after (over_world old.names o)) (space_of new.names h) → EvaluatesTo a e end (opened_of old n m base o k) (opened_of new n m base q k)
+comes_to (ends.Value v) a e w s old new n start m base h o q k count next b c f kept l =
+    let x : ScratchSpace = space_after (over_world old.names o) in
+    let P : Answer → Type 0 = λ z. AnswerKeeps w x z in
+    let u = subst P l.1 kept in
+    (l.0, l.1, open_behind old new n start m base h o q k count next (program_of old.names old.table ++ source_kept x e ∷ []) (space_after l.0) b (with_more (program_of old.names old.table) (program_of new.names new.table) s (source_kept x e) c.program f) l.2 u.earlier)
+comes_to (ends.Thrown v) a e w s old new n start m base h o q k count next b c f kept l =
+    let x : ScratchSpace = space_after (over_world old.names o) in
+    let P : Answer → Type 0 = λ z. AnswerKeeps w x z in
+    let u = subst P l.1 kept in
+    (l.0, l.1, open_behind old new n start m base h o q k count next (program_of old.names old.table ++ source_kept x e ∷ []) (space_after l.0) b (with_more (program_of old.names old.table) (program_of new.names new.table) s (source_kept x e) c.program f) l.2 u.earlier)
+comes_to ends.Effect a e w s old new n start m base h o q k count next b c f kept l =
+    let x : ScratchSpace = space_after (over_world old.names o) in
+    (l.0, open_behind old new n start m base h o q k count next (program_of old.names old.table) x b c.program l.1 (same_cells x x refl))
+comes_to (ends.Full what) a e w s old new n start m base h o q k count next b c f kept l =
+    let x : ScratchSpace = space_after (over_world old.names o) in
+    (l.0, open_behind old new n start m base h o q k count next (program_of old.names old.table) x b c.program l.1 (same_cells x x refl))
+comes_to ends.Spent a e w s old new n start m base h o q k count next b c f kept l =
+    let x : ScratchSpace = space_after (over_world old.names o) in
+    (l.0, open_behind old new n start m base h o q k count next (program_of old.names old.table) x b c.program l.1 (same_cells x x refl))
+comes_to ends.Memory a e w s old new n start m base h o q k count next b c f kept l = tt
+
+-- an evaluation of an expression over an opened workspace
+abbrev pub Evaluates : Evaluated → Addr → Value → Prepared → Opened → Opened → Type 0
+Evaluates end scope receiver x old new = (e : Expression) → IsPrepared (next_kept old.behind.scratch) e x → EvaluatesTo (evaluate_expression old.behind.program old.world old.behind.scratch scope receiver e) (expression_source e.tree) end old new
+
+pub evaluates-open : (end : Evaluated) (x : Prepared) (scope : Addr) (receiver : Value) (old new : Evaluator) (n : ℕ) (start m : EvaluatorMark) (base g h : Heap) (o q : Over) (k : Marked) (count from : ℕ) (next : Addr) → is_given_up end ≡ false → IsOpen old n start m base o k count next → WentOnAfter end old new → CodeAfter end new (program_of old.names old.table) (kept_tree_at (next_of g) (term_view x.term)) → ((us more : List (List ℕ)) → base.ends ≤ length us → heap_world (us ++ more) base ≡ heap_world us base) → base.ends ≤ length old.names → ((i : ℕ) → next ≡ Scratch i → from ≡ i) → count ≤ from → ((ts : List (List ℕ)) → space_of ts g ≡ space_after (over_world ts o)) → ((ts : List (List ℕ)) → over_world ts q ≡ copied_world (heap_world ts base) (space_of ts h)) → ((p : Program) (e : Expression) → Runs old p → IsPrepared (next_kept (space_of old.names g)) e x → Leaves (evaluate_expression p (heap_world old.names base) (space_of old.names g) scope receiver e) end (space_of old.names g) (space_of new.names h)) → Evaluates end scope receiver x (opened_of old n m base o k) (opened_of new n m base q k)
+evaluates-open end x scope receiver old new n start m base g h o q k count from next f i went code further known number long before over answer = λ e prepared.
+    let y : ScratchSpace = space_after (over_world old.names o) in
+    let p : Program = program_of old.names old.table in
+    let w : World = heap_world old.names base in
+    let at : from ≡ length y.cells = number (length y.cells) i.next_is in
+    let counts : k.count ≡ count = i.marked_cells in
+    let b : Behind old new n start m base h o q k count next = record {
+      open_old = i;
+      went = went_on end old new f went;
+      code = code_on end new p (kept_tree_at (next_of g) (term_view x.term)) f code;
+      further = further;
+      known = known;
+      there = omega (arith, long, at, counts);
+      over = over;
+    } in
+    let P : ScratchSpace → Type 0 = λ z. IsPrepared (next_kept z) e x → Leaves (evaluate_expression p w z scope receiver e) end z (space_of new.names h) in
+    let l : P y = subst P (before old.names) (answer p e i.working.code.runs) in
+    comes_to end (evaluate_expression p w y scope receiver e) (expression_source e.tree) w (kept_tree_at (next_of g) (term_view x.term)) old new n start m base h o q k count next b code
+    (source_is old.names g y (term_view x.term) (expression_source e.tree) (before old.names) prepared.term)
+    (evaluate-keeps p w y scope receiver e.source (source_literals e.tree) (expression_source e.tree)) (l prepared)

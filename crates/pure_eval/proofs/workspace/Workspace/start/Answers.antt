@@ -1,0 +1,11 @@
+use Rattle.js_semantics.specs.Run.{program_from}
+use Rattle.js_terms.specs.Views.{terms_view}
+use Rattle.pure_eval.proofs.WorkspaceLemmas.{begun-is, working-first}
+use Rattle.pure_eval.proofs.workspace.Workspace.start.Goals as goal
+
+pub invariant_of-result : goal.invariant_of-result
+invariant_of-result c = working-first c.in_ok-evaluator.evaluator c.mark-start.result.table.sources c.mark-start.result c.in_ok-evaluator.ensures.code.code c.mark-start.ensures.marked c.mark-start.ensures.marked.table.sources
+
+pub returns : goal.returns
+returns c =
+    begun-is c.in_ok-evaluator.evaluator c.mark-start.result.table.sources c.new-scratch.result (program_from 1 (terms_view c.args.scripts.now)) c.in_ok-evaluator.ensures.code c.mark-start.ensures.marked.table.sources (c.new-scratch.ensures c.in_ok-evaluator.evaluator.names)

@@ -1,0 +1,380 @@
+//! What a session's evaluations go on from.
+
+ghost use Rattle.std.specs.Prelude.{◌≡◌, [], true, IfOk, IfSome};
+ghost use Rattle.js_heap.specs.declared.value.Addr.TheVariants.{Scratch as scratch_place};
+ghost use Rattle.js_heap.specs.ScratchSpaces.{copied_world};
+ghost use Rattle.js_semantics.specs.Evaluation.{evaluate_expression, next_kept};
+ghost use Rattle.js_semantics.specs.Run.{program_from};
+ghost use Rattle.js_semantics.specs.Sources.{expression_source};
+ghost use Rattle.js_terms.specs.Views.{terms_view};
+ghost use Rattle.js_tree.specs.declared.script.Expression.{Expression};
+ghost use Rattle.js_world.specs.Heaps.{heap_world};
+ghost use Rattle.js_world.specs.Names.{name_of, GoesOn};
+ghost use Rattle.js_world.specs.Overlays.{over_world};
+ghost use Rattle.pure_eval.specs.Preparing.{IsPrepared};
+ghost use Rattle.pure_eval.specs.Returning.{IsCodeOf};
+ghost use Rattle.pure_eval.specs.Working.{IsKnown, is_given_up};
+ghost use Rattle.pure_eval.specs.Workspaces.{begun, emptied_workspace, opened, EvaluatesTo};
+
+use crate::evaluated::Evaluated;
+use crate::evaluator::{Evaluator, EvaluatorMark};
+use crate::prepared::Prepared;
+use crate::session::Outcome;
+use js_code::table::NodeTable;
+use js_heap::keys::same_units;
+use js_heap::value::{Addr, Value};
+use js_steps::rows::Rows;
+use js_terms::term::Terms;
+use js_world::heap::BaseHeap;
+use js_world::names::{NameId, Names};
+use js_world::overlay::{Mark, Overlay, Scratch};
+use std::alloc::{AllocError, Global};
+use std::marker::Model;
+
+/// The code that a session's evaluations run, and the cells that they made.
+#[derive(Drop)]
+pub struct Workspace {
+    evaluator: Evaluator,
+    scratch: Scratch,
+    // how many of the sources are scripts, and where their code ends
+    scripts: usize,
+    start: EvaluatorMark,
+}
+
+impl Model for Workspace {
+    ghost use Rattle.std.specs.Coded.{codes};
+    ghost use Rattle.pure_eval.specs.TermCodes.{term_coded};
+    ghost use Rattle.pure_eval.specs.Workspaces as workspaces;
+    ghost use Rattle.pure_eval.specs.Working.{IsWorking};
+
+    ghost Value = { workspaces.Workspace };
+
+    ghost coded = { Prim.hlevel (codes, term_coded) };
+
+    ghost view = { λ w. workspaces.workspace_of w.evaluator w.scripts w.scratch };
+
+    ghost invariant = { λ w. IsWorking w.evaluator w.scripts w.start };
+}
+
+/// The cells of a program with those of a session, and the names of both.
+#[derive(Clone, Copy)]
+pub struct Seen<'o, 'b> {
+    pub world: &'o Overlay<'b>,
+    pub names: &'o Names,
+}
+
+/// A workspace that is open over the cells of a program.
+#[derive(Drop)]
+pub struct Opened<'b> {
+    evaluator: Evaluator,
+    base: &'b BaseHeap,
+    world: Overlay<'b>,
+    scripts: usize,
+    start: EvaluatorMark,
+    // where the code, and how many cells there were, when it was opened
+    mark: EvaluatorMark,
+    cells: Mark,
+    count: u32,
+    // where the next cell will stand
+    next: Addr,
+}
+
+impl<'b> Model for Opened<'b> {
+    ghost use Rattle.std.specs.Coded.{codes};
+    ghost use Rattle.pure_eval.specs.TermCodes.{term_coded};
+    ghost use Rattle.pure_eval.specs.Workspaces as workspaces;
+    ghost use Rattle.pure_eval.specs.Working.{IsOpen};
+
+    ghost Value = { workspaces.Opened };
+
+    ghost coded = { Prim.hlevel (codes, term_coded) };
+
+    ghost view = { λ o. workspaces.opened_of o.evaluator o.scripts o.mark o.base.now o.world o.cells };
+
+    ghost invariant = { λ o. IsOpen o.evaluator o.scripts o.start o.mark o.base.now o.world o.cells o.count o.next };
+}
+
+/// Whether two tables have the same text at a number.
+fn is_same_name(names: &Names, own: &Names, name: NameId) -> bool
+    ensures { result ≡ true → name_of names.now name.number ≡ name_of own.now name.number }
+{
+    let Ok(text) = names.text(name) else {
+        return false;
+    };
+    let Ok(other) = own.text(name) else {
+        return false;
+    };
+    same_units(text, other)
+}
+
+/// Whether a table of names goes on behind another.
+fn goes_on(names: &Names, own: &Names) -> bool
+    ensures { result ≡ true → GoesOn names.now own.now }
+{
+    let Ok(count) = u32::try_from(names.len()) else {
+        return false;
+    };
+    if own.len() < names.len() {
+        return false;
+    }
+    for number in 0..count {
+        if !is_same_name(names, own, NameId { number }) {
+            return false;
+        }
+    }
+    true
+}
+
+/// Whether a table of names goes on behind another, which has all that a program's cells need.
+fn is_known(base: &BaseHeap, names: &Names, own: &Names) -> bool
+    ensures { result ≡ true → IsKnown base.now names.now own.now }
+{
+    if base.known() > names.len() {
+        return false;
+    }
+    goes_on(names, own)
+}
+
+/// The number of an address of a session's cells.
+fn number_of(at: Addr) -> u32
+    ensures { (n : _) → at ≡ scratch_place n → result ≡ n }
+{
+    match at {
+        Addr::Scratch(number) => number,
+        Addr::Base(_) => 0,
+    }
+}
+
+/// Whether an evaluator is given up behind an evaluation.
+fn is_given_up(end: Evaluated) -> bool
+    ensures { result ≡ is_given_up end }
+{
+    match end {
+        Evaluated::Memory => true,
+        _ => false,
+    }
+}
+
+/// The evaluator of no sources. It takes no memory.
+fn no_sources(alloc: Global) -> Evaluator
+    ensures { IsCodeOf result [] }
+{
+    Evaluator {
+        names: Names::new(alloc),
+        table: NodeTable {
+            nodes: Vec::new(alloc),
+            kids: Vec::new(alloc),
+            constants: Vec::new(alloc),
+            blocks: Vec::new(alloc),
+            scripts: Vec::new(alloc),
+            fors: Vec::new(alloc),
+            for_ofs: Vec::new(alloc),
+            functions: Vec::new(alloc),
+            objects: Vec::new(alloc),
+            calls: Vec::new(alloc),
+            sources: Vec::new(alloc),
+        },
+        next: 0,
+    }
+}
+
+/// No sources and no cells, open over the cells of a program. It takes no memory.
+fn given_up<'b>(alloc: Global, base: &'b BaseHeap) -> Opened<'b> {
+    let evaluator = no_sources(alloc);
+    let scratch = Scratch::new(alloc);
+    let start = evaluator.mark();
+    let mark = evaluator.mark();
+    let cells = scratch.mark();
+    let next = scratch.next_address();
+    let count = number_of(next);
+    let world = Overlay::over(base, scratch);
+    Opened {
+        evaluator,
+        base,
+        world,
+        scripts: start.table.sources,
+        start,
+        mark,
+        cells,
+        count,
+        next,
+    }
+}
+
+impl Workspace {
+    /// What the evaluations of a session begin with: the code of scripts with the addresses of their literals, whose names go on
+    /// behind these.
+    ///
+    /// # Errors
+    ///
+    /// There is no memory for it, or something in the scripts comes up in a run alone.
+    pub fn start(alloc: Global, names: &Names, scripts: &Terms) -> Result<Workspace, AllocError>
+        ensures { IfOk result (λ w. w ≡ begun (program_from 1 (terms_view scripts.now))) }
+    {
+        let evaluator = Evaluator::start(alloc, names, scripts)?;
+        let start = evaluator.mark();
+        let scratch = Scratch::new(alloc);
+        Ok(Workspace {
+            evaluator,
+            scratch,
+            scripts: start.table.sources,
+            start,
+        })
+    }
+
+    /// Gives up all that evaluations made and kept. It takes no memory.
+    pub fn empty(&mut self)
+        ensures { self.new ≡ emptied_workspace self.old }
+    {
+        let alloc = *self.evaluator.table.sources.allocator();
+        let start = self.start;
+        let scratch = Scratch::new(alloc);
+        self.evaluator.cut(start);
+        self.scratch = scratch;
+    }
+
+    /// Opens it over the cells of a program. None where the names of the program aren't those with which it began.
+    pub fn open<'b>(self, base: &'b BaseHeap, names: &Names) -> Option<Opened<'b>>
+        ensures { IfSome result (λ o. o ≡ opened (heap_world names.now base.now) self) }
+    {
+        if !is_known(base, names, &self.evaluator.names) {
+            return None;
+        }
+        base.goes_on();
+        let Workspace {
+            evaluator,
+            scratch,
+            scripts,
+            start,
+        } = self;
+        let mark = evaluator.mark();
+        let cells = scratch.mark();
+        let next = scratch.next_address();
+        let count = number_of(next);
+        let world = Overlay::over(base, scratch);
+        Some(Opened {
+            evaluator,
+            base,
+            world,
+            scripts,
+            start,
+            mark,
+            cells,
+            count,
+            next,
+        })
+    }
+}
+
+impl<'b> Opened<'b> {
+    /// The address at which the source of the next evaluation is kept.
+    pub fn next_address(&self) -> Addr
+        ensures { result ≡ next_kept self.now.behind.scratch }
+    {
+        self.next
+    }
+
+    /// Evaluates an expression, which was prepared for the next address, in a scope with a `this`. Behind a value or a throw its
+    /// source is kept, and so are the cells that it made. After want of memory nothing is known of the workspace, which is to
+    /// be given up.
+    pub fn evaluate<T: Rows>(
+        &mut self,
+        alloc: Global,
+        scope: Addr,
+        receiver: Value,
+        prepared: &Prepared,
+    ) -> Evaluated
+        ensures { (e : Expression) → IsPrepared (next_kept self.old.behind.scratch) e prepared.now → EvaluatesTo (evaluate_expression self.old.behind.program self.old.world self.old.behind.scratch scope receiver e) (expression_source e.tree) result self.old self.new }
+    {
+        let base = self.base;
+        if base.known() > self.evaluator.names.len() {
+            return Evaluated::Memory;
+        }
+        if number_of(self.next) < self.count {
+            return Evaluated::Memory;
+        }
+        base.goes_on();
+        let empty = Overlay::over(base, Scratch::new(alloc));
+        let world = std::mem::replace(&mut self.world, empty);
+        let scratch = world.into_scratch();
+        let outcome = self
+            .evaluator
+            .evaluate_expression::<T>(alloc, base, scratch, scope, receiver, prepared);
+        if is_given_up(outcome.end) {
+            *self = given_up(alloc, base);
+            return Evaluated::Memory;
+        }
+        let Outcome { end, scratch } = outcome;
+        self.next = scratch.next_address();
+        self.world = Overlay::over(base, scratch);
+        end
+    }
+
+    /// The cells of the program with those of the session.
+    pub fn seen(&self) -> Seen<'_, 'b>
+        ensures { over_world result.names.now result.world.now ≡ copied_world self.now.world self.now.behind.scratch }
+    {
+        Seen {
+            world: &self.world,
+            names: &self.evaluator.names,
+        }
+    }
+
+    /// The workspace with all that evaluations made since it was opened. It takes no memory.
+    pub fn keep(self) -> Workspace
+        ensures { result ≡ self.entry.behind }
+    {
+        let Opened {
+            evaluator,
+            base,
+            world,
+            scripts,
+            start,
+            mark,
+            cells,
+            count,
+            next,
+        } = self;
+        let _ = base;
+        let _ = mark;
+        let _ = cells;
+        let _ = count;
+        let _ = next;
+        let scratch = world.into_scratch();
+        Workspace {
+            evaluator,
+            scratch,
+            scripts,
+            start,
+        }
+    }
+    /// The workspace as it was opened. It takes no memory.
+    pub fn forget(self) -> Workspace
+        ensures { result ≡ self.entry.before }
+    {
+        let Opened {
+            evaluator,
+            base,
+            world,
+            scripts,
+            start,
+            mark,
+            cells,
+            count,
+            next,
+        } = self;
+        let _ = base;
+        let _ = count;
+        let _ = next;
+        let mut evaluator = evaluator;
+        evaluator.cut(mark);
+        let mut scratch = world.into_scratch();
+        scratch.cut(cells);
+        Workspace {
+            evaluator,
+            scratch,
+            scripts,
+            start,
+        }
+    }
+}
