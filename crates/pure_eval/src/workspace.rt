@@ -287,6 +287,7 @@ impl<'b> Opened<'b> {
         ensures { (e : Expression) → IsPrepared (next_kept self.old.behind.scratch) e prepared.now → EvaluatesTo (evaluate_expression self.old.behind.program self.old.world self.old.behind.scratch scope receiver e) (expression_source e.tree) result self.old self.new }
     {
         let base = self.base;
+        // neither of these comes up in a workspace that was opened; that they don't is tested here rather than carried on
         if base.known() > self.evaluator.names.len() {
             return Evaluated::Memory;
         }
@@ -301,6 +302,7 @@ impl<'b> Opened<'b> {
             .evaluator
             .evaluate_expression::<T>(alloc, base, scratch, scope, receiver, prepared);
         if is_given_up(outcome.end) {
+            // nothing is known of the code that is left
             *self = given_up(alloc, base);
             return Evaluated::Memory;
         }
