@@ -1,4 +1,5 @@
 pub mod CommandLemmas
+pub mod CopyLemmas
 pub mod GivenLemmas
 pub mod MessageLemmas
 pub mod OrderLemmas

@@ -1,5 +1,5 @@
 -- The parameters of each method (Chrome DevTools Protocol 1.3), read off a JSON value. Members without a meaning are passed over.
-use Rattle.std.specs.Prelude.{ℕ, List, [], ◌∷◌, Bool, bytes_eq, if◌then◌else◌, codes, Option, Some, None, option_map, option_and_then}
+use Rattle.std.specs.Prelude.{ℕ, List, [], ◌∷◌, Bool, true, ◌&&◌, bytes_eq, if◌then◌else◌, codes, Option, Some, None, is_some, option_map, option_and_then}
 use Rattle.cdp_text.specs.declared.position.Pos.{Pos}
 use Rattle.serde_json.specs.Data.{Data}
 use Rattle.serde_json.specs.Find.{get, as_bool, as_str}
@@ -7,6 +7,7 @@ use Rattle.cdp_json.specs.Members.{required, optional, text_of, is_integer, posi
 use Rattle.cdp_json.specs.declared.method.Method.{Method}
 use Rattle.cdp_json.specs.declared.method.Method.TheVariants as methods
 use Rattle.cdp_json.specs.declared.params.Location.{Location}
+use Rattle.cdp_json.specs.declared.params.Evaluation.{Evaluation}
 use Rattle.cdp_json.specs.declared.params.ExceptionPauses.{ExceptionPauses}
 use Rattle.cdp_json.specs.declared.params.ExceptionPauses.TheVariants.{Never, Uncaught, All}
 use Rattle.cdp_json.specs.declared.params.Params.{Params}
@@ -106,6 +107,49 @@ possible_of d = possible_from (required location_of (codes "start") d) (optional
 abbrev pub source_of : Data → Option Params
 source_of d = option_map params.GetScriptSource (required text_of (codes "scriptId") d)
 
+-- whether a flag is absent, or a truth value
+abbrev pub is_flag : List ℕ → Data → Bool
+is_flag name d = is_some (optional as_bool name d)
+
+-- `silent?, returnByValue?, generatePreview?`: their kinds are tested, and their values don't change what is answered
+abbrev pub are_flags : Data → Bool
+are_flags d = is_flag (codes "silent") d && is_flag (codes "returnByValue") d && is_flag (codes "generatePreview") d
+
+-- a flag that is absent is true
+abbrev pub unless_false : Option Bool → Bool
+unless_false None = true
+unless_false (Some flag) = flag
+
+-- an evaluation, where its text is there and its group and flag are of their kinds
+abbrev pub evaluation_from : Option (List ℕ) → Option (Option (List ℕ)) → Option (Option Bool) → Option Evaluation
+evaluation_from None group throws = None
+evaluation_from (Some expression) None throws = None
+evaluation_from (Some expression) (Some group) None = None
+evaluation_from (Some expression) (Some group) (Some throws) =
+    Some (record { expression = expression; object_group = group; throw_on_side_effect = unless_false throws })
+
+-- `expression, objectGroup?, throwOnSideEffect?`
+abbrev pub evaluated_of : Data → Option Evaluation
+evaluated_of d = evaluation_from (required text_of (codes "expression") d) (optional text_of (codes "objectGroup") d) (optional as_bool (codes "throwOnSideEffect") d)
+
+-- `expression, objectGroup?, silent?, returnByValue?, generatePreview?, throwOnSideEffect?`
+abbrev pub evaluation_of : Data → Option Evaluation
+evaluation_of d = if are_flags d then evaluated_of d else None
+
+-- the parameters of an evaluation
+abbrev pub evaluate_of : Data → Option Params
+evaluate_of d = option_map params.Evaluate (evaluation_of d)
+
+-- an evaluation in a frame, where both are there
+abbrev pub on_frame_from : Option (List ℕ) → Option Evaluation → Option Params
+on_frame_from None evaluation = None
+on_frame_from (Some id) None = None
+on_frame_from (Some id) (Some evaluation) = Some (params.EvaluateOnCallFrame id evaluation)
+
+-- `callFrameId`, and the parameters of an evaluation
+abbrev pub on_frame_of : Data → Option Params
+on_frame_of d = on_frame_from (required text_of (codes "callFrameId") d) (evaluation_of d)
+
 -- `objectId, ownProperties?, generatePreview?`; the flags are read, and don't change what is answered
 abbrev pub properties_from : Option (List ℕ) → Option (Option Bool) → Option (Option Bool) → Option Params
 properties_from None own preview = None
@@ -143,6 +187,8 @@ params_of methods.SetPauseOnExceptions d = state_of d
 params_of methods.SetAsyncCallStackDepth d = depth_of d
 params_of methods.GetPossibleBreakpoints d = possible_of d
 params_of methods.GetScriptSource d = source_of d
+params_of methods.EvaluateOnCallFrame d = on_frame_of d
+params_of methods.Evaluate d = evaluate_of d
 params_of methods.GetProperties d = properties_of d
 params_of methods.ReleaseObject d = release_of d
 params_of methods.ReleaseObjectGroup d = release_group_of d

@@ -1,7 +1,9 @@
 -- The codes and messages of refusals (JSON-RPC 2.0, section 5.1).
 use Rattle.std.specs.Prelude.{ℕ, ℤ, negsuc, List, ◌++◌, codes, decimal}
 use Rattle.cdp_json.specs.declared.refusal.Refusal.{Refusal}
-use Rattle.cdp_json.specs.declared.refusal.Refusal.TheVariants.{NotJson, NotObject, NoId, NoMethod, UnknownMethod, InvalidParameters, NotPaused, UnknownObject, UnknownFrame, UnknownScript, Unresolved, BreakpointExists, NotEnabled, BreakpointsFull}
+use Rattle.cdp_json.specs.declared.refusal.Refusal.TheVariants.{NotJson, NotObject, NoId, NoMethod, UnknownMethod, InvalidParameters, NotPaused, UnknownObject, UnknownFrame, UnknownScript, Unresolved, BreakpointExists, NotEnabled, BreakpointsFull, NeedsNoSideEffect, BudgetSpent, ScratchFull}
+use Rattle.cdp_json.specs.declared.refusal.ScratchLimit.{ScratchLimit}
+use Rattle.cdp_json.specs.declared.refusal.ScratchLimit.TheVariants.{Cells, Units}
 
 -- -32700 of a text that isn't JSON, -32600 of what is no command, -32601 of an unknown method, -32602 of wrong parameters, else -32000
 abbrev pub code_of : Refusal → ℤ
@@ -19,6 +21,14 @@ code_of Unresolved = negsuc 31999
 code_of BreakpointExists = negsuc 31999
 code_of NotEnabled = negsuc 31999
 code_of (BreakpointsFull count) = negsuc 31999
+code_of NeedsNoSideEffect = negsuc 31999
+code_of BudgetSpent = negsuc 31999
+code_of (ScratchFull count what) = negsuc 31999
+
+-- what a limit counts
+abbrev pub counted : ScratchLimit → List ℕ
+counted Cells = codes " cells"
+counted Units = codes " units"
 
 -- the message, in units
 abbrev pub message_of : Refusal → List ℕ
@@ -36,3 +46,6 @@ message_of Unresolved = codes "Could not resolve breakpoint"
 message_of BreakpointExists = codes "Breakpoint at specified location already exists."
 message_of NotEnabled = codes "Debugger agent is not enabled"
 message_of (BreakpointsFull count) = codes "Breakpoints are full: " ++ decimal count
+message_of NeedsNoSideEffect = codes "Evaluation needs throwOnSideEffect"
+message_of BudgetSpent = codes "Evaluation spent its budget of 100000 steps"
+message_of (ScratchFull count what) = codes "Scratch heap is full: " ++ decimal count ++ counted what

@@ -3,6 +3,7 @@
 
 pub mod command;
 mod compact;
+mod copies;
 mod key_order;
 pub mod laws;
 mod members;
@@ -17,4 +18,5 @@ pub mod value;
 
 pub use command::read_command;
 pub use compact::compact_text;
+pub use copies::copied;
 pub use message::{event_text, refusal_text, result_text};

@@ -41,6 +41,20 @@ pub(crate) fn text_at(alloc: Global, value: &Value, name: &str) -> Result<Option
     }
 }
 
+/// The text of a member that may be absent, in units.
+pub(crate) fn optional_text_at(
+    alloc: Global,
+    value: &Value,
+    name: &str,
+) -> Result<Option<Option<Units>>, AllocError>
+    ensures { IfOk result (λ units. units ≡ optional text_of name.now (view value.now)) }
+{
+    match value.get(name) {
+        Some(member) => Ok(text(alloc, member)?.map(Some)),
+        None => Ok(Some(None)),
+    }
+}
+
 /// The truth value of a member.
 pub(crate) fn bool_at(value: &Value, name: &str) -> Option<bool>
     ensures { result ≡ required as_bool name.now (view value.now) }

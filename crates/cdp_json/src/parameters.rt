@@ -6,11 +6,13 @@ ghost use Rattle.std.specs.Prelude.{◌≡◌, IfOk, Some, codes, option_map, op
 ghost use Rattle.serde_json.specs.View.{view};
 ghost use Rattle.serde_json.specs.Find.{as_str};
 ghost use Rattle.cdp_json.specs.Members.{required, optional};
-ghost use Rattle.cdp_json.specs.Parameters.{location_from, location_of, unless_empty, condition_of, continue_of, by_url_from, by_url_of, at_location_from, at_location_of, remove_of, active_of, skip_of, state_named, state_of, depth_of, possible_from, possible_of, source_of, properties_from, properties_of, release_of, release_group_of, params_of};
+ghost use Rattle.cdp_json.specs.Parameters.{location_from, location_of, unless_empty, condition_of, continue_of, by_url_from, by_url_of, at_location_from, at_location_of, remove_of, active_of, skip_of, state_named, state_of, depth_of, possible_from, possible_of, source_of, is_flag, are_flags, unless_false, evaluation_from, evaluated_of, evaluation_of, evaluate_of, on_frame_from, on_frame_of, properties_from, properties_of, release_of, release_group_of, params_of};
 
-use crate::members::{bool_at, is_whole, optional_bool_at, position, str_at, text, text_at};
+use crate::members::{
+    bool_at, is_whole, optional_bool_at, optional_text_at, position, str_at, text, text_at,
+};
 use crate::method::Method;
-use crate::params::{ExceptionPauses, Location, Params};
+use crate::params::{Evaluation, ExceptionPauses, Location, Params};
 use cdp_text::position::Pos;
 use cdp_text::units::Units;
 use serde_json::Value;
@@ -289,6 +291,112 @@ fn source(alloc: Global, value: &Value) -> Result<Option<Params>, AllocError>
     }
 }
 
+/// Whether a flag is absent, or a truth value.
+fn flag_fits(value: &Value, name: &str) -> bool
+    ensures { result ≡ is_flag name.now (view value.now) }
+{
+    optional_bool_at(value, name).is_some()
+}
+
+/// `silent?, returnByValue?, generatePreview?`: whether they are of their kind
+fn flags_fit(value: &Value) -> bool
+    ensures { result ≡ are_flags (view value.now) }
+{
+    flag_fits(value, "silent")
+        && flag_fits(value, "returnByValue")
+        && flag_fits(value, "generatePreview")
+}
+
+/// A flag, true where it is absent.
+fn flag_or_true(flag: Option<bool>) -> bool
+    ensures { result ≡ unless_false flag }
+{
+    match flag {
+        Some(flag) => flag,
+        None => true,
+    }
+}
+
+/// An evaluation, where all of its parameters are there.
+fn made_evaluation(
+    expression: Option<Units>,
+    object_group: Option<Option<Units>>,
+    throws: Option<Option<bool>>,
+) -> Option<Evaluation>
+    ensures { result ≡ evaluation_from expression object_group throws }
+{
+    match expression {
+        Some(expression) => match object_group {
+            Some(object_group) => match throws {
+                Some(throws) => Some(Evaluation {
+                    expression,
+                    object_group,
+                    throw_on_side_effect: flag_or_true(throws),
+                }),
+                None => None,
+            },
+            None => None,
+        },
+        None => None,
+    }
+}
+
+/// `expression, objectGroup?, throwOnSideEffect?`
+fn evaluated(alloc: Global, value: &Value) -> Result<Option<Evaluation>, AllocError>
+    ensures { IfOk result (λ evaluation. evaluation ≡ evaluated_of (view value.now)) }
+{
+    let expression = text_at(alloc, value, "expression")?;
+    let object_group = optional_text_at(alloc, value, "objectGroup")?;
+    let throws = optional_bool_at(value, "throwOnSideEffect");
+    Ok(made_evaluation(expression, object_group, throws))
+}
+
+/// `expression, objectGroup?, silent?, returnByValue?, generatePreview?, throwOnSideEffect?`
+fn evaluation(alloc: Global, value: &Value) -> Result<Option<Evaluation>, AllocError>
+    ensures { IfOk result (λ evaluation. evaluation ≡ evaluation_of (view value.now)) }
+{
+    if flags_fit(value) {
+        evaluated(alloc, value)
+    } else {
+        Ok(None)
+    }
+}
+
+/// The parameters of an evaluation.
+fn evaluate(alloc: Global, value: &Value) -> Result<Option<Params>, AllocError>
+    ensures { IfOk result (λ params. params ≡ evaluate_of (view value.now)) }
+{
+    match evaluation(alloc, value)? {
+        Some(evaluation) => Ok(Some(Params::Evaluate { evaluation })),
+        None => Ok(None),
+    }
+}
+
+/// The parameters of an evaluation in a frame, where all are there.
+fn made_on_frame(call_frame_id: Option<Units>, evaluation: Option<Evaluation>) -> Option<Params>
+    ensures { result ≡ on_frame_from call_frame_id evaluation }
+{
+    match call_frame_id {
+        Some(call_frame_id) => match evaluation {
+            Some(evaluation) => Some(Params::EvaluateOnCallFrame {
+                call_frame_id,
+                evaluation,
+            }),
+            None => None,
+        },
+        None => None,
+    }
+}
+
+/// `callFrameId`, and the parameters of an evaluation
+fn on_frame(alloc: Global, value: &Value) -> Result<Option<Params>, AllocError>
+    ensures { IfOk result (λ params. params ≡ on_frame_of (view value.now)) }
+{
+    let call_frame_id = text_at(alloc, value, "callFrameId")?;
+    let evaluation = evaluation(alloc, value)?;
+    Ok(made_on_frame(call_frame_id, evaluation))
+}
+
 /// The parameters of a list of properties, where all are of their kinds.
 fn made_properties(
     object_id: Option<Units>,
@@ -365,6 +473,8 @@ pub(crate) fn params(
         Method::SetAsyncCallStackDepth => Ok(stack_depth(value)),
         Method::GetPossibleBreakpoints => possible(alloc, value),
         Method::GetScriptSource => source(alloc, value),
+        Method::EvaluateOnCallFrame => on_frame(alloc, value),
+        Method::Evaluate => evaluate(alloc, value),
         Method::GetProperties => properties(alloc, value),
         Method::ReleaseObject => release(alloc, value),
         Method::ReleaseObjectGroup => release_group(alloc, value),

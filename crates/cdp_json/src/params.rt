@@ -18,6 +18,16 @@ pub enum ExceptionPauses {
     All,
 }
 
+/// A text that is to be evaluated, and the group of the objects that it comes to. An absent `throwOnSideEffect` is true.
+/// `silent`, `returnByValue` and `generatePreview` must be truth values where they are given, but have no effect yet, so
+/// they aren't kept.
+#[derive(Debug, Drop)]
+pub struct Evaluation {
+    pub expression: Units,
+    pub object_group: Option<Units>,
+    pub throw_on_side_effect: bool,
+}
+
 /// The parameters of a command, one variant for each method. An absent column is 0, and an empty condition is none.
 #[derive(Debug, Drop)]
 pub enum Params {
@@ -61,6 +71,13 @@ pub enum Params {
     },
     GetScriptSource {
         script_id: Units,
+    },
+    EvaluateOnCallFrame {
+        call_frame_id: Units,
+        evaluation: Evaluation,
+    },
+    Evaluate {
+        evaluation: Evaluation,
     },
     GetProperties {
         object_id: Units,

@@ -1,10 +1,19 @@
 //! Why commands are refused.
 
 ghost use Rattle.std.specs.Prelude.{◌≡◌, ◌++◌, IfOk, codes, decimal};
-ghost use Rattle.cdp_json.specs.Refusals.{code_of, message_of};
+ghost use Rattle.cdp_json.specs.Refusals.{code_of, counted, message_of};
 
 use cdp_text::units::{Units, ascii};
 use std::alloc::{AllocError, Global};
+
+/// What the scratch heap of evaluations is limited in.
+#[derive(Clone, Copy, Debug, PartialEq, Eq)]
+pub enum ScratchLimit {
+    /// The cells that evaluations made.
+    Cells,
+    /// The UTF-16 code units that these cells and the sources that are kept hold.
+    Units,
+}
 
 /// Why a command is refused, with what its message names.
 #[derive(Debug, Drop)]
@@ -37,6 +46,12 @@ pub enum Refusal {
     NotEnabled,
     /// As many breakpoints are set as may be.
     BreakpointsFull { count: u64 },
+    /// The evaluation is asked for with `throwOnSideEffect` false.
+    NeedsNoSideEffect,
+    /// The evaluation came to no end within its steps.
+    BudgetSpent,
+    /// The evaluation would pass this limit of the scratch heap.
+    ScratchFull { count: u64, what: ScratchLimit },
 }
 
 /// The code of a refusal (JSON-RPC 2.0, section 5.1).
@@ -77,6 +92,9 @@ pub(crate) fn message(alloc: Global, refusal: &Refusal) -> Result<Units, AllocEr
         }
         Refusal::NotEnabled => ascii(alloc, b"Debugger agent is not enabled"),
         Refusal::BreakpointsFull { count } => full(alloc, *count),
+        Refusal::NeedsNoSideEffect => ascii(alloc, b"Evaluation needs throwOnSideEffect"),
+        Refusal::BudgetSpent => ascii(alloc, b"Evaluation spent its budget of 100000 steps"),
+        Refusal::ScratchFull { count, what } => scratch_full(alloc, *count, *what),
     }
 }
 
@@ -105,5 +123,31 @@ fn full(alloc: Global, count: u64) -> Result<Units, AllocError>
     ensures { IfOk result (λ units. units ≡ codes "Breakpoints are full: " ++ decimal count) }
 {
     let text = format!(in alloc; "Breakpoints are full: {count}")?;
+    ascii(alloc, text.as_bytes())
+}
+
+/// The message that the scratch heap holds so many cells or units.
+fn scratch_full(alloc: Global, count: u64, what: ScratchLimit) -> Result<Units, AllocError>
+    ensures { IfOk result (λ units. units ≡ codes "Scratch heap is full: " ++ decimal count ++ counted what) }
+{
+    match what {
+        ScratchLimit::Cells => cells_full(alloc, count),
+        ScratchLimit::Units => units_full(alloc, count),
+    }
+}
+
+/// The message that the scratch heap holds so many cells.
+fn cells_full(alloc: Global, count: u64) -> Result<Units, AllocError>
+    ensures { IfOk result (λ units. units ≡ codes "Scratch heap is full: " ++ decimal count ++ codes " cells") }
+{
+    let text = format!(in alloc; "Scratch heap is full: {count} cells")?;
+    ascii(alloc, text.as_bytes())
+}
+
+/// The message that the scratch heap holds so many units.
+fn units_full(alloc: Global, count: u64) -> Result<Units, AllocError>
+    ensures { IfOk result (λ units. units ≡ codes "Scratch heap is full: " ++ decimal count ++ codes " units") }
+{
+    let text = format!(in alloc; "Scratch heap is full: {count} units")?;
     ascii(alloc, text.as_bytes())
 }
