@@ -1,6 +1,6 @@
 //! The handles of a session.
 
-ghost use Rattle.std.specs.Prelude.{◌≡◌, ◌+◌, ◌<◌, ◌++◌, ◌∷◌, [], false, length, filter, IfOk, OnErr, OnOk, if◌then◌else◌};
+ghost use Rattle.std.specs.Prelude.{◌≡◌, ◌+◌, ◌<◌, ◌++◌, ◌∷◌, [], false, is_some, length, filter, IfOk, OnErr, OnOk, if◌then◌else◌};
 ghost use Rattle.std.specs.List.{find, list_any};
 ghost use Rattle.std.specs.Option.{is_some, option_copied};
 ghost use Rattle.object_groups.specs.Groups.{AreGroupsOf};
@@ -113,6 +113,13 @@ impl Handles {
             return Some(HandleFault::Full { count: MOST_MADE });
         }
         None
+    }
+
+    /// Whether no handle can be made any more: 100,000 are held, or 2^62 were made.
+    pub fn is_full(&self) -> bool
+        ensures { result ≡ is_some (fault_of self.now) }
+    {
+        self.fault().is_some()
     }
 
     /// Makes a handle on a target, in a group or in none, and answers its number: one more than how many were made before.

@@ -21,12 +21,7 @@ pub(crate) fn object_id(alloc: Global, session: u64, number: u64) -> Result<Unit
 }
 
 /// The id of a frame: the number of its session, that of the stop, and how far it is from the top one.
-pub(crate) fn frame_id(
-    alloc: Global,
-    session: u64,
-    stop: u64,
-    depth: u64,
-) -> Result<Units, AllocError>
+pub fn frame_id(alloc: Global, session: u64, stop: u64, depth: u64) -> Result<Units, AllocError>
     ensures { IfOk result (λ id. id ≡ frame_id session stop depth) }
 {
     let text = format!(in alloc; "{session}.{stop}.{depth}")?;

@@ -18,4 +18,4 @@ mod values;
 pub use describer::Describer;
 pub use detail::Detail;
 pub use frames::backtrace;
-pub use ids::read_object_id;
+pub use ids::{frame_id, read_object_id};
