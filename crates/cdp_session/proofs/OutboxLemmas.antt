@@ -1,5 +1,5 @@
 -- An answer's texts come behind those that wait; nothing else changes them.
-use Rattle.std.proofs.Common.{◌≡◌, ℕ, List, ◌++◌, true, is_some, if◌then◌else◌, refl, ap, Option, Some, None}
+use Rattle.std.proofs.Common.{◌≡◌, ℕ, List, ◌++◌, Bool, true, false, is_some, if◌then◌else◌, refl, ap, Option, Some, None}
 use Rattle.std.specs.Option.{option_map_or}
 use Rattle.cdp_text.specs.declared.position.Place.{Place}
 use Rattle.js_tree.specs.declared.script.Script.{Script}
@@ -18,7 +18,18 @@ use Rattle.cdp_session.specs.Objects.{handle_of}
 use Rattle.cdp_session.specs.declared.situation.Pause.{Pause}
 use Rattle.cdp_session.specs.Situations.{Situation, script_of}
 use Rattle.cdp_session.specs.Sessions.{Session, with_rules}
-use Rattle.cdp_session.specs.Rows.{Row, Refuses, Does, does, row, step_from, in_script, continue_at, adds, adds_at, properties_of, releases}
+use Rattle.js_heap.specs.World.{World}
+use Rattle.js_heap.specs.declared.value.Addr.{Addr}
+use Rattle.js_heap.specs.declared.value.Value.{Value}
+use Rattle.js_tree.specs.Trees.{Expression}
+use Rattle.js_semantics.specs.Evaluation.{Answer, a_result, a_throw, an_effect, is_full_of, spent}
+use Rattle.js_semantics.specs.Makers.{Made as Source}
+use Rattle.js_parser.specs.Expressions.{expression_of}
+use Rattle.call_frames.specs.Frames.{ShownFrame}
+use Rattle.cdp_json.specs.declared.params.Evaluation.{Evaluation}
+use Rattle.cdp_json.specs.declared.refusal.Refusal.TheVariants as refusals
+use Rattle.cdp_session.specs.Evaluations.{Evaluates, Stops, Answers, evaluates, evaluates_in, evaluates_at, frame_of, holds_on, kept_by, outcome_of_answer, outcome_of_tree}
+use Rattle.cdp_session.specs.Rows.{Row, Refuses, Does, does, row, row_of, step_from, in_script, continue_at, adds, adds_at, properties_of, releases}
 use Rattle.cdp_session.specs.Replies.{IsDone, refusal_of, comes_to, outcome_by, outcome_for, outcome_of, answer_by, answer_texts, answer_of}
 
 -- the session that a row leaves has the texts that waited
@@ -58,6 +69,43 @@ release_keeps : (x : Session) (o : Option Handle) → KeepsOutbox (releases x o)
 release_keeps x None = tt
 release_keeps x (Some h) = refl
 
+-- ---- evaluations
+
+-- the session that an evaluation leaves has the texts that waited
+abbrev LeavesOutbox : Evaluates → Session → Type 0
+LeavesOutbox (Stops refusal) x = Unit {0}
+LeavesOutbox (Answers result y) x = y.outbox ≡ x.outbox
+
+evaluates_keep : (x : Session) (e : Evaluates) → LeavesOutbox e x → KeepsOutbox (row_of e) x
+evaluates_keep x (Stops refusal) keeps = tt
+evaluates_keep x (Answers result y) keeps = keeps
+
+kept_outbox : (b : Bool) (e : Source) (w : World) (x : Session) → (kept_by b e w x).outbox ≡ x.outbox
+kept_outbox true e w x = refl
+kept_outbox false e w x = refl
+
+answer_keeps : (s : Situation) (x : Session) (group : Option (List ℕ)) (e : Source) (a : Answer) → LeavesOutbox (outcome_of_answer s x group e a) x
+answer_keeps s x group e (a_result v w) = kept_outbox (holds_on v x.handles) e w x
+answer_keeps s x group e (a_throw v w) = kept_outbox (holds_on v x.handles) e w x
+answer_keeps s x group e an_effect = refl
+answer_keeps s x group e (is_full_of what) = tt
+answer_keeps s x group e spent = tt
+
+tree_keeps : (s : Situation) (x : Session) (scope : Addr) (receiver : Value) (group : Option (List ℕ)) (source : List ℕ) (o : Option Expression) → LeavesOutbox (outcome_of_tree s x scope receiver group source o) x
+tree_keeps s x scope receiver group source None = refl
+tree_keeps s x scope receiver group source (Some e) = answer_keeps s x group _ _
+
+asked_keeps : (s : Situation) (x : Session) (b : Bool) (e : Evaluates) → LeavesOutbox e x → LeavesOutbox (if b then e else Stops refusals.NeedsNoSideEffect) x
+asked_keeps s x true e keeps = keeps
+asked_keeps s x false e keeps = tt
+
+evaluated_keeps : (s : Situation) (x : Session) (scope : Addr) (receiver : Value) (ev : Evaluation) → LeavesOutbox (evaluates_in s x scope receiver ev) x
+evaluated_keeps s x scope receiver ev = asked_keeps s x ev.throw_on_side_effect _ (tree_keeps s x scope receiver ev.object_group ev.expression (expression_of ev.expression))
+
+at_frame_keeps : (s : Situation) (x : Session) (o : Option ShownFrame) (ev : Evaluation) → LeavesOutbox (evaluates_at s x o ev) x
+at_frame_keeps s x None ev = tt
+at_frame_keeps s x (Some f) ev = evaluated_keeps s x _ _ ev
+
 row_keeps : (s : Situation) (x : Session) (ps : Params) → KeepsOutbox (row s x ps) x
 row_keeps s x params.DebuggerEnable = refl
 row_keeps s x params.DebuggerDisable = refl
@@ -79,6 +127,8 @@ row_keeps s x (params.GetScriptSource id) = script_keeps (script_of id s.scripts
 row_keeps s x (params.GetProperties id) = properties_keep s x (handle_of x id)
 row_keeps s x (params.ReleaseObject id) = release_keeps x (handle_of x id)
 row_keeps s x (params.ReleaseObjectGroup group) = refl
+row_keeps s x (params.Evaluate evaluation) = evaluates_keep x (evaluates s x evaluation) (evaluated_keeps s x _ _ evaluation)
+row_keeps s x (params.EvaluateOnCallFrame id evaluation) = evaluates_keep x (evaluates_at s x (frame_of s x s.paused id) evaluation) (at_frame_keeps s x (frame_of s x s.paused id) evaluation)
 
 -- ---- answers
 

@@ -2,8 +2,10 @@ pub mod Situations
 pub mod Sessions
 pub mod Results
 pub mod Pauses
-pub mod Stops
 pub mod Objects
+pub mod Evaluations
+pub mod Conditions
+pub mod Stops
 pub mod Rows
 pub mod Replies
 pub mod Finding

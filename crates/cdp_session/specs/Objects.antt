@@ -1,7 +1,6 @@
 -- The objects that a session holds (Chrome DevTools Protocol 1.3, domain Runtime).
-use Rattle.std.specs.Prelude.{ℕ, List, Option, Some, None, option_and_then}
+use Rattle.std.specs.Prelude.{ℕ, List, Option, option_and_then}
 use Rattle.std.specs.List.{find}
-use Rattle.object_groups.specs.Handles as handles
 use Rattle.object_groups.specs.Handles.{has_number}
 use Rattle.object_groups.specs.declared.handle.Handle.{Handle}
 use Rattle.remote_objects.specs.Ids.{number_in_id}

@@ -18,12 +18,6 @@ use Rattle.cdp_session.specs.declared.asks.Asks.TheVariants.{Nothing}
 
 -- ---- before a method acts
 
--- a breakpoint with a condition, which isn't taken yet
-abbrev pub has_condition : Params → Bool
-has_condition (params.SetBreakpointByUrl url p condition) = is_some condition
-has_condition (params.SetBreakpoint at condition) = is_some condition
-has_condition other = false
-
 -- all methods of the domain Debugger but these want it enabled
 abbrev pub wants_enabled : Params → Bool
 wants_enabled params.DebuggerEnable = false
@@ -31,6 +25,7 @@ wants_enabled params.DebuggerDisable = false
 wants_enabled (params.GetProperties id) = false
 wants_enabled (params.ReleaseObject id) = false
 wants_enabled (params.ReleaseObjectGroup group) = false
+wants_enabled (params.Evaluate evaluation) = false
 wants_enabled other = true
 
 -- these want the program paused
@@ -40,13 +35,13 @@ wants_pause params.StepInto = true
 wants_pause params.StepOver = true
 wants_pause params.StepOut = true
 wants_pause (params.ContinueToLocation at) = true
+wants_pause (params.EvaluateOnCallFrame id evaluation) = true
 wants_pause other = false
 
--- why a command is refused before it acts, if it is: its parameters, then the debugger isn't enabled, then the program isn't paused
+-- why a command is refused before it acts, if it is: the debugger isn't enabled, then the program isn't paused
 abbrev pub refusal_of : Situation → Session → Params → Option Refusal
 refusal_of s x params =
-    if has_condition params then Some refusals.InvalidParameters
-    else if wants_enabled params && not x.rules.enabled then Some refusals.NotEnabled
+    if wants_enabled params && not x.rules.enabled then Some refusals.NotEnabled
     else if wants_pause params && not (is_some s.paused) then Some refusals.NotPaused else None
 
 -- what a command comes to

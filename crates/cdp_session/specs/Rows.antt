@@ -31,8 +31,9 @@ use Rattle.cdp_json.specs.Parts.{nothing}
 use Rattle.remote_objects.specs.Descriptors.{descriptors}
 use Rattle.remote_objects.specs.Making.{Made}
 use Rattle.cdp_session.specs.Objects.{handle_of}
-use Rattle.cdp_session.specs.Pauses.{enabling_told, sight_of}
-use Rattle.cdp_session.specs.Sessions.{Session, with_rules, with_breakpoints, with_handles, without_backtrace}
+use Rattle.cdp_session.specs.Evaluations.{Answers, Evaluates, Stops, evaluates, evaluates_at, frame_of, sight_with}
+use Rattle.cdp_session.specs.Pauses.{enabling_told}
+use Rattle.cdp_session.specs.Sessions.{Session, holding, with_rules, with_breakpoints, with_handles, without_backtrace}
 use Rattle.cdp_session.specs.Results.{debugger_id, set_by_url, set_at, spot_locations, script_source, properties}
 use Rattle.cdp_session.specs.declared.situation.Pause.{Pause}
 use Rattle.cdp_session.specs.declared.asks.Asks.{Asks}
@@ -183,7 +184,7 @@ lists x m = answers (properties m.made) (with_handles m.handles x)
 
 abbrev pub properties_of : Situation → Session → Option Handle → Row
 properties_of s x None = Refuses refusals.UnknownObject
-properties_of s x (Some h) = lists x (descriptors (sight_of s x) h.group h.target x.handles)
+properties_of s x (Some h) = lists x (descriptors (sight_with s x x.workspace.scratch) h.group h.target x.handles)
 
 abbrev pub get_properties : Situation → Session → List ℕ → Row
 get_properties s x id = properties_of s x (handle_of x id)
@@ -191,14 +192,21 @@ get_properties s x id = properties_of s x (handle_of x id)
 -- a handle ends
 abbrev pub releases : Session → Option Handle → Row
 releases x None = Refuses refusals.UnknownObject
-releases x (Some h) = does (with_handles (handles.without h.number x.handles) x)
+releases x (Some h) = does (holding (handles.without h.number x.handles) x)
 
 abbrev pub release : Session → List ℕ → Row
 release x id = releases x (handle_of x id)
 
 -- the handles of a group end; a group that has none changes nothing
 abbrev pub release_group : Session → List ℕ → Row
-release_group x group = does (with_handles (without_group group x.handles) x)
+release_group x group = does (holding (without_group group x.handles) x)
+
+-- ---- evaluations
+
+-- an evaluation is refused, or answered
+abbrev pub row_of : Evaluates → Row
+row_of (Stops refusal) = Refuses refusal
+row_of (Answers result x) = answers result x
 
 -- ---- all of them
 
@@ -223,3 +231,5 @@ row s x (params.GetScriptSource id) = source s x id
 row s x (params.GetProperties id) = get_properties s x id
 row s x (params.ReleaseObject id) = release x id
 row s x (params.ReleaseObjectGroup group) = release_group x group
+row s x (params.Evaluate evaluation) = row_of (evaluates s x evaluation)
+row s x (params.EvaluateOnCallFrame id evaluation) = row_of (evaluates_at s x (frame_of s x s.paused id) evaluation)

@@ -5,8 +5,12 @@
 #![tactic(auto)]
 
 pub mod asks;
+mod conditions;
+mod describing;
 mod done;
+mod evaluating;
 mod events;
+mod exceptions;
 mod finding;
 mod found;
 mod objects;

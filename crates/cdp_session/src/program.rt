@@ -1,9 +1,11 @@
 //! The program that a session debugs, where it stands still.
 
 use call_frames::CallFrame;
-use js_heap::value::Value;
+use js_heap::value::{Addr, Value};
+use js_tree::script::Expression;
 use js_world::heap::BaseHeap;
 use js_world::names::Names;
+use pure_eval::prepared::Prepared;
 use std::alloc::{AllocError, Global};
 
 /// The cells of a program, with the table of its names.
@@ -19,6 +21,7 @@ pub trait Program {
     ghost use Rattle.call_frames.specs.Views.{frame_of};
     ghost use Rattle.cdp_session.specs.Situations.{Standing};
     ghost use Rattle.js_world.specs.Heaps.{heap_world};
+    ghost use Rattle.pure_eval.specs.Preparing.{IsPrepared};
 
     ghost standing: { Self → Standing };
 
@@ -37,4 +40,17 @@ pub trait Program {
     /// The value of a throw that stands, if one does. Takes no memory.
     fn thrown(&self) -> Option<Value>
         ensures { result ≡ (standing self.now).thrown };
+
+    /// An expression that is ready to be evaluated, its source to be kept at an address.
+    ///
+    /// # Errors
+    ///
+    /// There is no memory for it.
+    fn prepared(
+        &self,
+        alloc: Global,
+        at: Addr,
+        expression: &Expression,
+    ) -> Result<Prepared, AllocError>
+        ensures { IfOk result (λ p. IsPrepared at expression.now p) };
 }

@@ -6,16 +6,15 @@ ghost use Rattle.breakpoints.specs.Resolving.{resolved_at};
 ghost use Rattle.cdp_json.specs.Views.{json_view};
 ghost use Rattle.cdp_json.specs.Parts as parts;
 ghost use Rattle.remote_objects.specs.Descriptors.{descriptors};
-ghost use Rattle.cdp_session.specs.Pauses.{sight_of};
+ghost use Rattle.cdp_session.specs.Evaluations.{sight_with};
 ghost use Rattle.cdp_session.specs.Made.{made_fault, KeepsIfRefused, Makes};
 ghost use Rattle.cdp_session.specs.Rows as rows;
 ghost use Rattle.cdp_session.specs.Rows.{end_of, throws_of};
 
 use crate::asks::Asks;
+use crate::describing::properties_of;
 use crate::done::{Done, Fault};
 use crate::finding::find_script;
-use crate::objects::group_of;
-use crate::pausing::describer;
 use crate::program::Program;
 use crate::results::{debugger_id, properties, script_source, set_at, set_by_url, spot_locations};
 use crate::session::Session;
@@ -69,7 +68,7 @@ fn fault_of(fault: AddFault) -> Fault
 }
 
 /// Done, with this to answer.
-fn answering(answer: Json) -> Done
+pub(crate) fn answering(answer: Json) -> Done
     ensures { result ≡ record { answer = answer; event = None; asks = Asks.Nothing } }
 {
     Done {
@@ -140,6 +139,11 @@ impl Session {
             Params::GetProperties { object_id } => self.get_properties(situation, &object_id),
             Params::ReleaseObject { object_id } => self.release(&object_id),
             Params::ReleaseObjectGroup { object_group } => self.release_group(&object_group),
+            Params::Evaluate { evaluation } => self.evaluate(situation, evaluation),
+            Params::EvaluateOnCallFrame {
+                call_frame_id,
+                evaluation,
+            } => self.evaluate_on_call_frame(situation, &call_frame_id, evaluation),
         }
     }
 
@@ -163,9 +167,11 @@ impl Session {
         ensures made { Makes result self.new (rows.disable self.old) }
         ensures kept { KeepsIfRefused result self.old self.new }
     {
+        self.handles.release_group(backtrace());
+        self.give_up_unheld();
         self.rules = Rules::new();
         self.breakpoints = Breakpoints::new(self.alloc);
-        self.handles.release_group(backtrace());
+        self.conditions.clear();
         Ok(asking(self.alloc, Asks::Leave))
     }
 
@@ -299,6 +305,8 @@ impl Session {
         ensures kept { KeepsIfRefused result self.old self.new }
     {
         self.breakpoints.remove(id.as_slice());
+        // the others are parsed again where they are used
+        self.conditions.clear();
         Ok(done(self.alloc))
     }
 
@@ -384,12 +392,19 @@ impl Session {
         situation: &Situation<'_, P>,
         object: &Handle,
     ) -> Result<Done, Fault>
-        ensures made { Makes result self.new (rows.lists self.old (descriptors (sight_of (seen P.standing situation.now) self.old) object.now.group object.now.target self.old.handles)) }
+        ensures made { Makes result self.new (rows.lists self.old (descriptors (sight_with (seen P.standing situation.now) self.old self.old.workspace.scratch) object.now.group object.now.target self.old.handles)) }
         ensures kept { KeepsIfRefused result self.old self.new }
     {
-        let describer = describer(self.alloc, situation, self.number);
-        let group = group_of(object);
-        let values = describer.descriptors(object.target, group, &mut self.handles)?;
+        let opened = self.opened(situation)?;
+        let values = properties_of(
+            self.alloc,
+            &opened,
+            situation.scripts,
+            self.number,
+            object,
+            &mut self.handles,
+        )?;
+        self.workspace = Some(opened.keep());
         Ok(answering(properties(self.alloc, values)?))
     }
 
@@ -401,6 +416,7 @@ impl Session {
         match self.handle_of(object_id)? {
             Some(object) => {
                 self.handles.release(object.number);
+                self.give_up_unheld();
                 Ok(done(self.alloc))
             }
             None => Err(Fault::Refused(Refusal::UnknownObject)),
@@ -413,6 +429,7 @@ impl Session {
         ensures kept { KeepsIfRefused result self.old self.new }
     {
         self.handles.release_group(group.as_slice());
+        self.give_up_unheld();
         Ok(done(self.alloc))
     }
 }

@@ -1,17 +1,22 @@
 //! A session: what it keeps, by which rule it names a stop, and how it answers a text.
 
-ghost use Rattle.std.specs.Prelude.{◌≡◌, ◌∷◌, [], ◌++◌, map, IfOk, OnOk, option_to_list, string_bytes};
+ghost use Rattle.std.specs.Prelude.{◌≡◌, ◌≤◌, ◌^◌, ◌∷◌, [], ◌++◌, List, map, IfOk, OnOk, option_to_list, string_bytes, if◌then◌else◌};
 ghost use Rattle.cdp_session.specs.Situations.{HasSpots, seen};
-ghost use Rattle.cdp_session.specs.Sessions.{emptied, fresh, is_silent, sent, with_handles, without_backtrace};
-ghost use Rattle.cdp_session.specs.Stops.{cause_of, hit_ids, ids_where, is_hit_at, resumed, stop_told, stopped};
+ghost use Rattle.cdp_session.specs.Sessions.{emptied, fresh, holding, is_silent, sent, with_exception, with_handles, without_backtrace};
+ghost use Rattle.breakpoints.specs.Breakpoints.{id_of};
+ghost use Rattle.breakpoints.specs.declared.breakpoint.Breakpoint.{Breakpoint};
+ghost use Rattle.stepping.specs.Causes.{first_cause};
+ghost use Rattle.cdp_session.specs.Conditions.{is_some_hit};
+ghost use Rattle.cdp_session.specs.Stops.{cause_of, hits_of, may_be_hit, may_name, resumed, stop_told, stopped};
 ghost use Rattle.cdp_session.specs.Replies.{answer_by, answer_of, comes_to, outcome_by, refusal_of, IsRefused};
 ghost use Rattle.cdp_session.specs.Made.{done_texts, KeepsIfRefused, Makes};
 
 use crate::asks::Asks;
+use crate::conditions::{Condition, ids_hit};
 use crate::done::{Done, Fault};
 use crate::events::resumed_text;
 use crate::program::Program;
-use crate::refusing::{has_condition, wants_enabled, wants_pause};
+use crate::refusing::{wants_enabled, wants_pause};
 use crate::situation::Situation;
 use breakpoints::breakpoints::Breakpoints;
 use cdp_json::command::Reading;
@@ -21,6 +26,7 @@ use cdp_json::{read_command, refusal_text, result_text};
 use cdp_text::position::Place;
 use cdp_text::units::Units;
 use object_groups::Handles;
+use pure_eval::workspace::Workspace;
 use remote_objects::backtrace;
 use std::alloc::{AllocError, Global};
 use std::marker::Model;
@@ -37,21 +43,35 @@ pub struct Session {
     pub(crate) rules: Rules,
     pub(crate) breakpoints: Breakpoints,
     pub(crate) handles: Handles,
+    // those of its breakpoints that were used, parsed
+    pub(crate) conditions: Vec<Condition>,
+    // none once there was no memory for an evaluation
+    pub(crate) workspace: Option<Workspace>,
+    exceptions: u64,
     outbox: Vec<String>,
 }
 
 impl Model for Session {
-    ghost use Rattle.std.specs.Prelude.{map, string_bytes};
-    ghost use Rattle.cdp_session.specs.Sessions.{Session as Kept};
+    ghost use Rattle.std.specs.Prelude.{◌≤◌, ◌^◌, map, string_bytes, unwrap_or};
+    ghost use Rattle.std.specs.Coded.{codes};
+    ghost use Rattle.pure_eval.specs.TermCodes.{term_coded};
+    ghost use Rattle.cdp_session.specs.Sessions.{Session as Kept, no_workspace};
 
     ghost Value = { Kept };
 
-    ghost view = { λ x. record { number = x.number; rules = x.rules; breakpoints = x.breakpoints; handles = x.handles; outbox = map string_bytes x.outbox.items } };
+    ghost coded = { Prim.hlevel (codes, term_coded) };
+
+    ghost view = { λ x. record { number = x.number; rules = x.rules; breakpoints = x.breakpoints; handles = x.handles; workspace = unwrap_or x.workspace no_workspace; exceptions = x.exceptions; outbox = map string_bytes x.outbox.items } };
+
+    ghost invariant = { λ x. x.exceptions ≤ 2 ^ 62 };
 }
 
-/// Whether an active breakpoint stands where the program arrived, if it did.
-fn is_hit_at(breakpoints: &Breakpoints, place: Option<Place>) -> bool
-    ensures { result ≡ is_hit_at place breakpoints.now }
+/// The greatest number of an exception of a session.
+const GREATEST_EXCEPTION: u64 = 1 << 62;
+
+/// Whether an active breakpoint stands where the program arrived, if it did, whatever its condition.
+fn may_be_hit(breakpoints: &Breakpoints, place: Option<Place>) -> bool
+    ensures { result ≡ may_be_hit place breakpoints.now }
 {
     match place {
         Some(place) => breakpoints.is_hit(place),
@@ -59,24 +79,10 @@ fn is_hit_at(breakpoints: &Breakpoints, place: Option<Place>) -> bool
     }
 }
 
-/// The ids of the active breakpoints that stand where the program arrived, in the order in which they were set.
-fn ids_where(
-    alloc: Global,
-    breakpoints: &Breakpoints,
-    place: Option<Place>,
-) -> Result<Vec<Units>, AllocError>
-    ensures { IfOk result (λ ids. ids.items ≡ ids_where place breakpoints.now) }
-{
-    match place {
-        Some(place) => breakpoints.ids_at(alloc, place),
-        None => Ok(Vec::new(alloc)),
-    }
-}
-
 impl Session {
-    /// A session of this number that asks for nothing. It takes no memory.
-    pub fn new(alloc: Global, number: u64) -> Session
-        ensures { result ≡ fresh number }
+    /// A session of this number that asks for nothing, and whose evaluations begin with this. It takes no memory.
+    pub fn new(alloc: Global, number: u64, workspace: Workspace) -> Session
+        ensures { result ≡ fresh number workspace }
     {
         Session {
             alloc,
@@ -84,6 +90,9 @@ impl Session {
             rules: Rules::new(),
             breakpoints: Breakpoints::new(alloc),
             handles: Handles::new(alloc),
+            conditions: Vec::new(alloc),
+            workspace: Some(workspace),
+            exceptions: 0,
             outbox: Vec::new(alloc),
         }
     }
@@ -102,15 +111,59 @@ impl Session {
         !self.rules.enabled || self.rules.skip
     }
 
-    /// The first rule by which the session names a stop behind a step that leads to this arrival, if one does. Takes no
-    /// memory.
-    pub fn names(&self, arrival: &Arrival) -> Option<Cause>
-        ensures { result ≡ cause_of arrival.now self.now }
+    /// Whether the session names a stop behind a step that leads to this arrival, or would if the conditions of its breakpoints
+    /// held. Takes no memory.
+    pub fn may_name(&self, arrival: &Arrival) -> bool
+        ensures { result ≡ may_name arrival.now self.now }
     {
-        names(
-            &self.rules,
-            arrival,
-            is_hit_at(&self.breakpoints, arrival.place),
+        let may_be_hit = may_be_hit(&self.breakpoints, arrival.place);
+        names(&self.rules, arrival, may_be_hit).is_some()
+    }
+
+    /// The first rule by which the session names a stop behind a step that leads to this arrival, if one does. The conditions
+    /// of the breakpoints there are evaluated where the program stands; nothing of them is kept.
+    ///
+    /// # Errors
+    ///
+    /// There is no memory for an evaluation. The session is to be dropped.
+    pub fn names<P: Program>(
+        &mut self,
+        situation: &Situation<'_, P>,
+        arrival: &Arrival,
+    ) -> Result<Option<Cause>, AllocError>
+        ensures cause { IfOk result (λ cause. cause ≡ cause_of (seen P.standing situation.now).standing arrival.now self.old) }
+        ensures kept { OnOk result (self.new ≡ self.old) }
+    {
+        if self.is_silent() {
+            return Ok(None);
+        }
+        let hits = self.ids_hit(situation, arrival)?;
+        Ok(self.cause_with(arrival, &hits))
+    }
+
+    /// The first rule by which the session names a stop, where these breakpoints of it are hit.
+    fn cause_with(&self, arrival: &Arrival, hits: &Vec<Units>) -> Option<Cause>
+        ensures { (bs : List Breakpoint) → hits.now.items ≡ map id_of bs → result ≡ first_cause self.now.rules arrival.now (is_some_hit bs) }
+    {
+        names(&self.rules, arrival, !hits.is_empty())
+    }
+
+    /// The ids of the breakpoints that are hit where the program arrived, in the order in which they were set.
+    fn ids_hit<P: Program>(
+        &mut self,
+        situation: &Situation<'_, P>,
+        arrival: &Arrival,
+    ) -> Result<Vec<Units>, AllocError>
+        ensures ids { IfOk result (λ ids. ids.items ≡ map id_of (hits_of (seen P.standing situation.now).standing arrival.now self.old)) }
+        ensures kept { OnOk result (self.new ≡ self.old) }
+    {
+        ids_hit(
+            self.alloc,
+            &self.breakpoints,
+            &mut self.conditions,
+            &mut self.workspace,
+            situation,
+            arrival.place,
         )
     }
 
@@ -131,14 +184,15 @@ impl Session {
         Ok(())
     }
 
-    /// The ids of the breakpoints that the session hits where the program stopped.
-    fn hit_ids(&self, arrival: &Arrival) -> Result<Vec<Units>, AllocError>
-        ensures { IfOk result (λ ids. ids.items ≡ hit_ids arrival.now self.now) }
+    /// The ids of hit breakpoints that the session is told of: none where it skips pauses.
+    fn unless_skipped(&self, hits: Vec<Units>) -> Vec<Units>
+        ensures { result.items ≡ (if self.now.rules.skip then [] else hits.items) }
     {
         if self.rules.skip {
-            return Ok(Vec::new(self.alloc));
+            Vec::new(self.alloc)
+        } else {
+            hits
         }
-        ids_where(self.alloc, &self.breakpoints, arrival.place)
     }
 
     /// The event that tells of the stop of this number. The objects that it names are held from then on.
@@ -151,9 +205,10 @@ impl Session {
         ensures made { IfOk result (λ text. string_bytes text ≡ (stop_told (seen P.standing situation.now) number arrival.now self.old).made) }
         ensures held { OnOk result (self.new ≡ with_handles (stop_told (seen P.standing situation.now) number arrival.now self.old).handles self.old) }
     {
-        let hits = self.hit_ids(arrival)?;
-        let cause = self.names(arrival);
-        self.pause_told(situation, number, hits, cause)
+        let hits = self.ids_hit(situation, arrival)?;
+        let cause = self.cause_with(arrival, &hits);
+        let told = self.unless_skipped(hits);
+        self.pause_told(situation, number, told, cause)
     }
 
     /// The program stopped behind a step that led to this arrival, and the stop has this number: the session's requests end,
@@ -188,11 +243,36 @@ impl Session {
         ensures { OnOk result (self.new ≡ resumed self.old) }
     {
         self.handles.release_group(backtrace());
+        self.give_up_unheld();
         if !self.rules.enabled {
             return Ok(());
         }
         let text = resumed_text(self.alloc)?;
         self.send(text)
+    }
+
+    /// Gives up the cells of the session's evaluations, and their sources, where it holds no object in them.
+    pub(crate) fn give_up_unheld(&mut self)
+        ensures { self.new ≡ holding self.old.handles self.old }
+    {
+        if self.handles.holds_scratch() {
+            return;
+        }
+        if let Some(workspace) = &mut self.workspace {
+            workspace.empty();
+        }
+    }
+
+    /// Counts one more exception of which the session is told, and answers its number; the count stays at 2^62.
+    pub(crate) fn count_exception(&mut self) -> u64
+        ensures number { result ≡ (with_exception self.old).exceptions }
+        ensures most { result ≤ 2 ^ 62 }
+        ensures counted { self.new ≡ with_exception self.old }
+    {
+        if self.exceptions < GREATEST_EXCEPTION {
+            self.exceptions += 1;
+        }
+        self.exceptions
     }
 
     // ---- commands
@@ -293,9 +373,7 @@ impl Session {
     fn refusal<P: Program>(&self, situation: &Situation<'_, P>, params: &Params) -> Option<Refusal>
         ensures { result ≡ refusal_of (seen P.standing situation.now) self.now params.now }
     {
-        if has_condition(params) {
-            Some(Refusal::InvalidParameters)
-        } else if wants_enabled(params) && !self.rules.enabled {
+        if wants_enabled(params) && !self.rules.enabled {
             Some(Refusal::NotEnabled)
         } else if wants_pause(params) && situation.paused.is_none() {
             Some(Refusal::NotPaused)

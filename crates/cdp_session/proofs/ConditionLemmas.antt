@@ -1,0 +1,109 @@
+-- What the evaluation of a condition comes to, and what it leaves.
+use Rattle.std.proofs.Common.{◌≡◌, ℕ, List, [], ◌∷◌, ◌++◌, Bool, true, false, cond, filter, length, map, ap, sym, subst, ◌∙◌, append_assoc, Option, Some, None}
+use Rattle.js_heap.specs.World.{World}
+use Rattle.js_heap.specs.declared.value.Addr.{Addr}
+use Rattle.js_heap.specs.declared.value.Value.{Value}
+use Rattle.js_numbered.specs.Numbered.{numbered_made}
+use Rattle.js_numbered.proofs.NumberedLaws.{numbered_same}
+use Rattle.js_parser.specs.Expressions.{expression_of, UnlessMemory}
+use Rattle.js_semantics.specs.Evaluation.{Answer, evaluate, evaluate_expression as definition, next_kept}
+use Rattle.js_semantics.specs.Literals.{source_literals}
+use Rattle.js_semantics.specs.Makers.{Made as Source}
+use Rattle.js_semantics.specs.Sources.{expression_source}
+use Rattle.js_syntax.specs.declared.fault.ParseFault.{ParseFault}
+use Rattle.js_syntax.specs.declared.fault.ParseFault.TheVariants as parse_faults
+use Rattle.js_tree.specs.Views.{expression_view}
+use Rattle.js_tree.specs.declared.script.Expression.{Expression}
+use Rattle.breakpoints.specs.Breakpoints.{id_of}
+use Rattle.breakpoints.specs.declared.breakpoint.Breakpoint.{Breakpoint}
+use Rattle.call_frames.specs.Frames.{ShownFrame}
+use Rattle.pure_eval.specs.Preparing.{IsPrepared}
+use Rattle.pure_eval.specs.Workspaces.{Opened, Workspace, opened, EvaluatesTo}
+use Rattle.pure_eval.specs.declared.evaluated.Evaluated.{Evaluated}
+use Rattle.pure_eval.specs.declared.prepared.Prepared.{Prepared}
+use Rattle.cdp_session.specs.Conditions.{IsParsed, IsParsedTo, comes_true, condition_holds, expression_holds, holds, is_met, lacks_memory, top_scope, top_this, tree_holds}
+use Rattle.cdp_session.specs.Evaluations.{is_memory}
+use Rattle.cdp_session.specs.Situations.{Standing}
+use Rattle.cdp_session.proofs.EvaluationLemmas.{evaluated-from, stays}
+
+-- ---- texts
+
+-- a text that the parser refuses, and not for want of memory
+pub refused-for : (P : Type 0) (f : ParseFault) → UnlessMemory P f → lacks_memory f ≡ false → P
+refused-for P parse_faults.Memory says some = absurd cc
+refused-for P (parse_faults.Token at) says some = says
+refused-for P (parse_faults.Syntax at) says some = says
+refused-for P (parse_faults.TooMany at) says some = says
+refused-for P (parse_faults.TooLong units) says some = says
+refused-for P parse_faults.TooDeep says some = says
+
+-- a condition holds where the expression to which it was parsed does
+parsed_holds : (s : Standing) (w : Workspace) (text : List ℕ) (e : Expression) → IsParsedTo text e → expression_holds s w e ≡ holds s w text
+unfolding holds
+parsed_holds s w text e p =
+    let f : List ℕ → Source → Bool = λ t m. comes_true s.world (evaluate w.program s.world w.scratch (top_scope s.frames) (top_this s.frames) t (source_literals e.tree) m) in
+    let made : numbered_made (expression_view e.tree) ≡ expression_source e.tree = numbered_same e.tree (length e.spans) p.numbered in
+    ap (λ t. f t (expression_source e.tree)) p.kept
+    ∙ ap (f text) (sym made)
+    ∙ sym (ap (tree_holds s w text) p.tree)
+
+pub some-holds : (s : Standing) (w : Workspace) (text now : List ℕ) (o : Option Expression) (e : Expression) → IsParsed text o → o ≡ Some e → text ≡ now → expression_holds s w e ≡ holds s w now
+some-holds s w text now o e p is same = parsed_holds s w text e (subst (IsParsed text) is p) ∙ ap (holds s w) same
+
+none_holds : (s : Standing) (w : Workspace) (text : List ℕ) → expression_of text ≡ None → false ≡ holds s w text
+unfolding holds
+none_holds s w text none = sym (ap (tree_holds s w text) none)
+
+-- where it is no expression it never holds
+pub none-holds : (s : Standing) (w : Workspace) (text now : List ℕ) (o : Option Expression) → IsParsed text o → o ≡ None → text ≡ now → false ≡ holds s w now
+none-holds s w text now o p is same = none_holds s w text (subst (IsParsed text) is p) ∙ ap (holds s w) same
+
+-- ---- evaluations
+
+-- what was opened, was evaluated in the top frame and is true exactly where the definition's answer is
+pub holds-at : (s : Standing) (w : Workspace) (fs : List ShownFrame) (scope : Addr) (this : Value) (ex : Expression) (at : Addr) (p : Prepared) (end : Evaluated) (o n : Opened) (told : Bool)
+    → o ≡ opened s.world w → at ≡ next_kept o.behind.scratch → IsPrepared at ex p
+    → ((e : Expression) → IsPrepared (next_kept o.behind.scratch) e p → EvaluatesTo (definition o.behind.program o.world o.behind.scratch scope this e) (expression_source e.tree) end o n)
+    → ((base : World) (x : Workspace) (a : Answer) (e : Source) → EvaluatesTo a e end (opened base x) n → told ≡ comes_true base a)
+    → fs ≡ s.frames → scope ≡ top_scope fs → this ≡ top_this fs → told ≡ expression_holds s w ex
+holds-at s w fs scope this ex at p end o n told is place ready says value frames scope_is this_is =
+    let a : Answer = definition w.program s.world w.scratch scope this ex in
+    let to : EvaluatesTo a (expression_source ex.tree) end o n = evaluated-from s.world w scope this ex at p end o n is place ready says in
+    value s.world w a (expression_source ex.tree) (subst (λ k. EvaluatesTo a (expression_source ex.tree) end k n) is to)
+    ∙ ap (λ k. comes_true s.world (definition w.program s.world w.scratch k this ex)) (scope_is ∙ ap top_scope frames)
+    ∙ ap (λ k. comes_true s.world (definition w.program s.world w.scratch (top_scope s.frames) k ex)) (this_is ∙ ap top_this frames)
+
+-- and as it was opened it is forgotten
+pub forgets : (s : Standing) (w : Workspace) (scope : Addr) (this : Value) (ex : Expression) (at : Addr) (p : Prepared) (end : Evaluated) (o n : Opened)
+    → o ≡ opened s.world w → at ≡ next_kept o.behind.scratch → IsPrepared at ex p
+    → ((e : Expression) → IsPrepared (next_kept o.behind.scratch) e p → EvaluatesTo (definition o.behind.program o.world o.behind.scratch scope this e) (expression_source e.tree) end o n)
+    → is_memory end ≡ false → n.before ≡ w
+forgets s w scope this ex at p end o n is place ready says some =
+    let to = evaluated-from s.world w scope this ex at p end o n is place ready says in
+    (stays _ (expression_source ex.tree) end o n some to).before ∙ ap (λ k. k.before) is
+
+-- ---- breakpoints
+
+-- these ids and those of what is left of the breakpoints and is met are all, and the workspace is as it was
+pub record Collects (s : Standing) (w now : Workspace) (all ids : List (List ℕ)) (left : List Breakpoint) : Type 0 where
+  pub collected : ids ++ map id_of (filter (is_met s w) left) ≡ all
+  pub kept : now ≡ w
+
+-- one breakpoint more that is met, and one that isn't
+pub collects-met : (s : Standing) (w now new : Workspace) (all ids : List (List ℕ)) (b : Breakpoint) (left : List Breakpoint) (met : Bool) → Collects s w now all ids (b ∷ left)
+    → met ≡ condition_holds s now b.condition → met ≡ true → new ≡ now → Collects s w new all (ids ++ b.id ∷ []) left
+collects-met s w now new all ids b left met was is by same =
+    let here : is_met s w b ≡ true = ap (λ k. condition_holds s k b.condition) (sym was.kept) ∙ sym is ∙ by in
+    record {
+      collected = append_assoc ids (b.id ∷ []) _ ∙ ap (λ t. ids ++ map id_of (cond t (b ∷ filter (is_met s w) left) (filter (is_met s w) left))) (sym here) ∙ was.collected;
+      kept = same ∙ was.kept;
+    }
+
+pub collects-unmet : (s : Standing) (w now new : Workspace) (all ids : List (List ℕ)) (b : Breakpoint) (left : List Breakpoint) (met : Bool) → Collects s w now all ids (b ∷ left)
+    → met ≡ condition_holds s now b.condition → met ≡ false → new ≡ now → Collects s w new all ids left
+collects-unmet s w now new all ids b left met was is by same =
+    let here : is_met s w b ≡ false = ap (λ k. condition_holds s k b.condition) (sym was.kept) ∙ sym is ∙ by in
+    record {
+      collected = ap (λ t. ids ++ map id_of (cond t (b ∷ filter (is_met s w) left) (filter (is_met s w) left))) (sym here) ∙ was.collected;
+      kept = same ∙ was.kept;
+    }

@@ -1,0 +1,26 @@
+use Rattle.std.proofs.Common.{map, ap, ◌∙◌, unwrap_or}
+use Rattle.call_frames.specs.Views.{frame_of}
+use Rattle.cdp_session.specs.Conditions.{top_scope, top_this}
+use Rattle.cdp_session.specs.Sessions.{no_workspace}
+use Rattle.cdp_session.specs.Situations.{seen}
+use Rattle.cdp_session.proofs.ConditionLemmas.{forgets, holds-at}
+use Rattle.cdp_session.proofs.conditions.holds_at_top.Goals as goal
+
+pub returns-clause-holds : goal.returns-clause-holds
+returns-clause-holds g c =
+    let s = (seen g.P.Program.standing c.args.situation.now).standing in
+    let w = unwrap_or c.args.workspace.now no_workspace in
+    let fs = map frame_of c.in_ok-frames.frames.items in
+    holds-at s w fs c.top_scope-scope.result c.top_this-this.result c.args.expression.now c.next_address-at.result c.in_ok-prepared.prepared c.evaluate-end.result
+    c.in_ok-opened.opened c.evaluate-end.new.self c.in_ok-holds.holds c.in_ok-opened.ensures.opened c.next_address-at.ensures c.in_ok-prepared.ensures c.evaluate-end.ensures
+    c.in_ok-holds.ensures.value c.in_ok-frames.ensures
+    (c.top_scope-scope.ensures ∙ ap (λ xs. top_scope (map frame_of xs)) c.as_slice.ensures.value)
+    (c.top_this-this.ensures ∙ ap (λ xs. top_this (map frame_of xs)) c.as_slice-2.ensures.value)
+
+pub returns-clause-kept : goal.returns-clause-kept
+returns-clause-kept g c =
+    let s = (seen g.P.Program.standing c.args.situation.now).standing in
+    let w = unwrap_or c.args.workspace.now no_workspace in
+    c.forget.ensures
+    ∙ forgets s w c.top_scope-scope.result c.top_this-this.result c.args.expression.now c.next_address-at.result c.in_ok-prepared.prepared c.evaluate-end.result
+    c.in_ok-opened.opened c.evaluate-end.new.self c.in_ok-opened.ensures.opened c.next_address-at.ensures c.in_ok-prepared.ensures c.evaluate-end.ensures c.in_ok-holds.ensures.memory

@@ -1,0 +1,262 @@
+//! Conditions of breakpoints, evaluated where the program arrived: nothing of an evaluation is kept (Chrome DevTools Protocol
+//! 1.3, `Debugger.setBreakpoint`).
+
+ghost use Rattle.std.specs.Prelude.{◌≡◌, false, filter, map, slice_get, unwrap_or, IfOk, IfSome, OnOk, Some};
+ghost use Rattle.breakpoints.specs.Breakpoints.{hits_at, id_of};
+ghost use Rattle.call_frames.specs.Views.{frame_of};
+ghost use Rattle.js_heap.specs.World.{World};
+ghost use Rattle.js_semantics.specs.Evaluation.{Answer};
+ghost use Rattle.js_semantics.specs.Makers.{Made as Source};
+ghost use Rattle.pure_eval.specs.Workspaces.{opened as just_opened, EvaluatesTo, Workspace as Kept};
+ghost use Rattle.cdp_session.specs.Conditions as conditions;
+ghost use Rattle.cdp_session.specs.Conditions.{IsParsed, expression_holds, hits};
+ghost use Rattle.cdp_session.specs.Evaluations.{is_memory};
+ghost use Rattle.cdp_session.specs.Sessions.{no_workspace};
+ghost use Rattle.cdp_session.specs.Situations.{seen};
+
+use crate::evaluating::{innermost, open, script_scope};
+use crate::program::Program;
+use crate::situation::Situation;
+use breakpoints::breakpoints::Breakpoints;
+use call_frames::CallFrame;
+use cdp_text::position::Place;
+use cdp_text::units::Units;
+use js_heap::value::{Addr, Value};
+use js_operations::seen::Seen;
+use js_parser::parse::parse_expression;
+use js_rows::table::Table;
+use js_syntax::fault::ParseFault;
+use js_tree::script::Expression;
+use js_values::values::is_truthy;
+use pure_eval::evaluated::Evaluated;
+use pure_eval::workspace::{Opened, Workspace};
+use std::alloc::{AllocError, Global};
+use std::marker::Model;
+
+/// A condition that was parsed: its text, and the expression that it is, if it is one.
+#[derive(Drop)]
+pub(crate) struct Condition {
+    text: Units,
+    expression: Option<Expression>,
+}
+
+impl Model for Condition {
+    ghost use Rattle.std.specs.Prelude.{List, ℕ};
+    ghost use Rattle.cdp_session.specs.Conditions.{IsParsed};
+
+    ghost Value = { List ℕ };
+
+    ghost view = { λ c. c.text };
+
+    ghost invariant = { λ c. IsParsed c.text c.expression };
+}
+
+/// Whether the parser met want of memory.
+fn lacks_memory(fault: ParseFault) -> bool
+    ensures { result ≡ conditions.lacks_memory fault }
+{
+    match fault {
+        ParseFault::Memory => true,
+        _ => false,
+    }
+}
+
+/// The expression that a text is; none where the parser refuses it.
+fn expression_of(alloc: Global, text: &Units) -> Result<Option<Expression>, AllocError>
+    ensures { IfOk result (λ expression. IsParsed text.now expression) }
+{
+    match parse_expression(alloc, text.as_slice()) {
+        Ok(expression) => Ok(Some(expression)),
+        Err(fault) => {
+            if lacks_memory(fault) {
+                Err(AllocError)
+            } else {
+                Ok(None)
+            }
+        }
+    }
+}
+
+impl Condition {
+    /// Parses the text of a condition. A text that is no expression is kept, and never holds.
+    fn parse(alloc: Global, text: &Units) -> Result<Condition, AllocError>
+        ensures { IfOk result (λ c. c ≡ text.now) }
+    {
+        let expression = expression_of(alloc, text)?;
+        let text = text.clone()?;
+        Ok(Condition { text, expression })
+    }
+}
+
+/// Where the condition of this text stands, if it was parsed.
+fn find(parsed: &[Condition], text: &Units) -> Option<usize>
+    ensures { IfSome result (λ at. slice_get parsed.now at ≡ Some text.now) }
+{
+    for (at, condition) in parsed.iter().enumerate() {
+        if condition.text == *text {
+            return Some(at);
+        }
+    }
+    None
+}
+
+/// Where the condition of this text stands; it is parsed now where it wasn't yet.
+fn find_or_parse(
+    alloc: Global,
+    parsed: &mut Vec<Condition>,
+    text: &Units,
+) -> Result<usize, AllocError>
+    ensures { IfOk result (λ at. slice_get parsed.new.items at ≡ Some text.now) }
+{
+    if let Some(at) = find(parsed.as_slice(), text) {
+        return Ok(at);
+    }
+    let at = parsed.len();
+    parsed.push(Condition::parse(alloc, text)?)?;
+    Ok(at)
+}
+
+// ---- evaluations
+
+/// The innermost scope of the top frame.
+fn top_scope(frames: &[CallFrame<'_>]) -> Addr
+    ensures { result ≡ conditions.top_scope (map frame_of frames.now) }
+{
+    match frames.first() {
+        Some(frame) => innermost(frame.scopes.as_slice()),
+        None => script_scope(),
+    }
+}
+
+/// The `this` of the top frame.
+fn top_this(frames: &[CallFrame<'_>]) -> Value
+    ensures { result ≡ conditions.top_this (map frame_of frames.now) }
+{
+    match frames.first() {
+        Some(frame) => frame.this,
+        None => Value::Undefined,
+    }
+}
+
+/// Whether an evaluation came to a value that counts as true.
+fn comes_true(opened: &Opened<'_>, end: Evaluated) -> Result<bool, AllocError>
+    ensures value { IfOk result (λ is. (base : World) (w : Kept) (a : Answer) (e : Source) → EvaluatesTo a e end (just_opened base w) opened.now → is ≡ conditions.comes_true base a) }
+    ensures memory { IfOk result (λ is. is_memory end ≡ false) }
+{
+    match end {
+        Evaluated::Value(value) => {
+            let seen = opened.seen();
+            let cells = Seen {
+                names: seen.names,
+                world: seen.world,
+            };
+            Ok(is_truthy(&cells, value))
+        }
+        Evaluated::Memory => Err(AllocError),
+        _ => Ok(false),
+    }
+}
+
+/// Whether an expression comes to a value that counts as true in the top frame of the program. Nothing of its evaluation is kept.
+fn holds_at_top<P: Program>(
+    alloc: Global,
+    workspace: &mut Option<Workspace>,
+    situation: &Situation<'_, P>,
+    expression: &Expression,
+) -> Result<bool, AllocError>
+    ensures holds { IfOk result (λ is. is ≡ expression_holds (seen P.standing situation.now).standing (unwrap_or workspace.old no_workspace) expression.now) }
+    ensures kept { OnOk result (unwrap_or workspace.new no_workspace ≡ unwrap_or workspace.old no_workspace) }
+{
+    let frames = situation.program.call_frames(alloc)?;
+    let scope = top_scope(frames.as_slice());
+    let this = top_this(frames.as_slice());
+    let mut opened = open(workspace, situation)?;
+    let at = opened.next_address();
+    let prepared = situation.program.prepared(alloc, at, expression)?;
+    let end = opened.evaluate::<Table>(alloc, scope, this, &prepared);
+    let holds = comes_true(&opened, end)?;
+    *workspace = Some(opened.forget());
+    Ok(holds)
+}
+
+impl Condition {
+    /// Whether the condition holds where the program stands. Nothing of its evaluation is kept.
+    fn holds<P: Program>(
+        &self,
+        alloc: Global,
+        workspace: &mut Option<Workspace>,
+        situation: &Situation<'_, P>,
+    ) -> Result<bool, AllocError>
+        ensures holds { IfOk result (λ is. is ≡ conditions.holds (seen P.standing situation.now).standing (unwrap_or workspace.old no_workspace) self.now) }
+        ensures kept { OnOk result (unwrap_or workspace.new no_workspace ≡ unwrap_or workspace.old no_workspace) }
+    {
+        match &self.expression {
+            Some(expression) => holds_at_top(alloc, workspace, situation, expression),
+            None => Ok(false),
+        }
+    }
+}
+
+/// Whether a breakpoint of this condition, or of none, is met where the program stands. The condition is parsed at its first use.
+fn is_met<P: Program>(
+    alloc: Global,
+    parsed: &mut Vec<Condition>,
+    workspace: &mut Option<Workspace>,
+    situation: &Situation<'_, P>,
+    condition: &Option<Units>,
+) -> Result<bool, AllocError>
+    ensures met { IfOk result (λ is. is ≡ conditions.condition_holds (seen P.standing situation.now).standing (unwrap_or workspace.old no_workspace) condition.now) }
+    ensures kept { OnOk result (unwrap_or workspace.new no_workspace ≡ unwrap_or workspace.old no_workspace) }
+{
+    let Some(text) = condition else {
+        return Ok(true);
+    };
+    let at = find_or_parse(alloc, parsed, text)?;
+    match parsed.as_slice().get(at) {
+        Some(condition) => condition.holds(alloc, workspace, situation),
+        None => Err(AllocError),
+    }
+}
+
+/// The ids of the active breakpoints at a place that are met where the program stands, in the order in which they were set.
+fn ids_met<P: Program>(
+    alloc: Global,
+    breakpoints: &Breakpoints,
+    parsed: &mut Vec<Condition>,
+    workspace: &mut Option<Workspace>,
+    situation: &Situation<'_, P>,
+    place: Place,
+) -> Result<Vec<Units>, AllocError>
+    ensures ids { IfOk result (λ ids. ids.items ≡ map id_of (filter (conditions.is_met (seen P.standing situation.now).standing (unwrap_or workspace.old no_workspace)) (hits_at place breakpoints.now))) }
+    ensures kept { OnOk result (unwrap_or workspace.new no_workspace ≡ unwrap_or workspace.old no_workspace) }
+{
+    let mut ids = Vec::new(alloc);
+    for breakpoint in breakpoints.at(place) {
+        if is_met(alloc, parsed, workspace, situation, &breakpoint.condition)? {
+            ids.push(breakpoint.id.clone()?)?;
+        }
+    }
+    Ok(ids)
+}
+
+/// The ids of the breakpoints that are hit where the program arrived, if it did, in the order in which they were set.
+///
+/// # Errors
+///
+/// There is no memory for them, or for an evaluation. The session is to be dropped.
+pub(crate) fn ids_hit<P: Program>(
+    alloc: Global,
+    breakpoints: &Breakpoints,
+    parsed: &mut Vec<Condition>,
+    workspace: &mut Option<Workspace>,
+    situation: &Situation<'_, P>,
+    place: Option<Place>,
+) -> Result<Vec<Units>, AllocError>
+    ensures ids { IfOk result (λ ids. ids.items ≡ map id_of (hits (seen P.standing situation.now).standing (unwrap_or workspace.old no_workspace) breakpoints.now place)) }
+    ensures kept { OnOk result (unwrap_or workspace.new no_workspace ≡ unwrap_or workspace.old no_workspace) }
+{
+    match place {
+        Some(place) => ids_met(alloc, breakpoints, parsed, workspace, situation, place),
+        None => Ok(Vec::new(alloc)),
+    }
+}

@@ -1,0 +1,357 @@
+//! Evaluations without effects (Chrome DevTools Protocol 1.3, `Runtime.evaluate` and `Debugger.evaluateOnCallFrame`).
+
+ghost use Rattle.std.specs.Prelude.{◌≡◌, Err, IfOk, None, OnOk, bytes_eq, map, option_copied, option_map, unwrap_or, if◌then◌else◌};
+ghost use Rattle.js_heap.specs.BuiltIns.{script_scope};
+ghost use Rattle.js_syntax.specs.declared.fault.ParseFault.TheVariants as parse_faults;
+ghost use Rattle.cdp_session.specs.declared.done.Fault.TheVariants as faults;
+ghost use Rattle.js_semantics.specs.Evaluation.{Answer, evaluate_expression as definition};
+ghost use Rattle.js_semantics.specs.Makers.{Made as Source};
+ghost use Rattle.js_semantics.specs.Sources.{expression_source};
+ghost use Rattle.call_frames.specs.Views.{frame_of, scope_of};
+ghost use Rattle.js_heap.specs.ScratchSpaces.{copied_world};
+ghost use Rattle.pure_eval.specs.Workspaces.{opened as just_opened, EvaluatesTo};
+ghost use Rattle.remote_objects.specs.Views.{sight_of};
+ghost use Rattle.remote_objects.specs.Ids as ids;
+ghost use Rattle.remote_objects.specs.Remote.{remote};
+ghost use Rattle.cdp_session.specs.Sessions.{no_workspace, with_handles, with_workspace};
+ghost use Rattle.cdp_json.specs.Views.{json_view};
+ghost use Rattle.cdp_session.specs.Evaluations as evaluations;
+ghost use Rattle.cdp_session.specs.Made.{KeepsIfRefused, Makes};
+ghost use Rattle.cdp_session.specs.Rows.{row_of};
+ghost use Rattle.cdp_session.specs.Situations.{seen, Situation as Seen};
+
+use crate::describing::value_of;
+use crate::done::{Done, Fault};
+use crate::exceptions::{effect_object, syntax_result, thrown_result, value_result};
+use crate::program::Program;
+use crate::rows::answering;
+use crate::session::Session;
+use crate::situation::Situation;
+use call_frames::{CallFrame, Scope};
+use cdp_json::params::Evaluation as Asked;
+use cdp_json::refusal::{Refusal, ScratchLimit};
+use cdp_json::value::Json;
+use cdp_text::units::Units;
+use js_heap::change::Counted;
+use js_heap::value::{Addr, Value};
+use js_parser::parse::parse_expression;
+use js_rows::table::Table;
+use js_syntax::fault::ParseFault;
+use js_tree::script::{Expression, Script};
+use object_groups::Handles;
+use pure_eval::evaluated::Evaluated;
+use pure_eval::workspace::{Opened, Workspace};
+use remote_objects::frame_id;
+use std::alloc::{AllocError, Global};
+
+/// The cells and the units of a session's evaluations.
+const MOST_CELLS: u64 = 65_536;
+
+const MOST_UNITS: u64 = 1_048_576;
+
+/// The scope of the scripts.
+pub(crate) fn script_scope() -> Addr
+    ensures { result ≡ script_scope }
+{
+    Addr::Base(1)
+}
+
+/// The refusal for a limit of a session's cells that an evaluation would pass.
+fn limit_of(what: Counted) -> Refusal
+    ensures { result ≡ evaluations.limit_of what }
+{
+    match what {
+        Counted::Cells => Refusal::ScratchFull {
+            count: MOST_CELLS,
+            what: ScratchLimit::Cells,
+        },
+        Counted::Units => Refusal::ScratchFull {
+            count: MOST_UNITS,
+            what: ScratchLimit::Units,
+        },
+    }
+}
+
+/// Whether a reply that describes a value makes a handle on a cell of the session's evaluations.
+fn holds_on(value: Value, handles: &Handles) -> bool
+    ensures { result ≡ evaluations.holds_on value handles.now }
+{
+    match value {
+        Value::Object(Addr::Scratch(_)) => !handles.is_full(),
+        _ => false,
+    }
+}
+
+/// What evaluations go on from behind one that is kept, or forgotten.
+fn kept_or_forgotten(keeps: bool, opened: Opened<'_>) -> Workspace
+    ensures { result ≡ (if keeps then opened.entry.behind else opened.entry.before) }
+{
+    if keeps {
+        opened.keep()
+    } else {
+        opened.forget()
+    }
+}
+
+/// Whether there was no memory for an evaluation.
+fn is_memory(end: Evaluated) -> bool
+    ensures { result ≡ evaluations.is_memory end }
+{
+    match end {
+        Evaluated::Memory => true,
+        _ => false,
+    }
+}
+
+/// The name of a group, if there is one.
+fn name_of(group: &Option<Units>) -> Option<&[u16]>
+    ensures { option_copied result ≡ group.now }
+{
+    match group {
+        Some(name) => Some(name.as_slice()),
+        None => None,
+    }
+}
+
+/// What evaluations go on from, open over the cells of the program. Until it is put back there is none.
+pub(crate) fn open<'p, P: Program>(
+    workspace: &mut Option<Workspace>,
+    situation: &Situation<'p, P>,
+) -> Result<Opened<'p>, AllocError>
+    ensures opened { IfOk result (λ o. o ≡ just_opened (seen P.standing situation.now).standing.world (unwrap_or workspace.old no_workspace)) }
+    ensures rest { OnOk result (workspace.new ≡ None) }
+{
+    let Some(workspace) = workspace.take() else {
+        return Err(AllocError);
+    };
+    let cells = situation.program.cells();
+    match workspace.open(cells.heap, cells.names) {
+        Some(opened) => Ok(opened),
+        None => Err(AllocError),
+    }
+}
+
+// ---- frames
+
+/// The innermost of the scopes of a frame.
+pub(crate) fn innermost(scopes: &[Scope<'_>]) -> Addr
+    ensures { result ≡ evaluations.innermost (map scope_of scopes.now) }
+{
+    match scopes.first() {
+        Some(scope) => scope.bindings,
+        None => script_scope(),
+    }
+}
+
+/// Whether an id is that of the frame that is so far from the top one, at the stop of this number.
+fn is_frame(
+    alloc: Global,
+    session: u64,
+    stop: u64,
+    depth: usize,
+    id: &Units,
+) -> Result<bool, AllocError>
+    ensures { IfOk result (λ is. is ≡ bytes_eq (ids.frame_id session stop depth) id.now) }
+{
+    let own = frame_id(alloc, session, stop, depth as u64)?;
+    Ok(own == *id)
+}
+
+/// The frame whose id this is, of the frames of the stop of this number from the top one outward.
+fn find_frame<'f, 'm>(
+    alloc: Global,
+    session: u64,
+    stop: u64,
+    id: &Units,
+    frames: &'f [CallFrame<'m>],
+) -> Result<Option<&'f CallFrame<'m>>, AllocError>
+    ensures { IfOk result (λ found. option_map (λ f. frame_of f.now) found ≡ evaluations.frame_from session stop id.now 0 (map frame_of frames.now)) }
+{
+    for (depth, frame) in frames.iter().enumerate() {
+        if is_frame(alloc, session, stop, depth, id)? {
+            return Ok(Some(frame));
+        }
+    }
+    Ok(None)
+}
+
+impl Session {
+    /// `Runtime.evaluate`: in the scope of the scripts.
+    pub(crate) fn evaluate<P: Program>(
+        &mut self,
+        situation: &Situation<'_, P>,
+        asked: Asked,
+    ) -> Result<Done, Fault>
+        ensures made { Makes result self.new (row_of (evaluations.evaluates (seen P.standing situation.now) self.old asked)) }
+        ensures kept { KeepsIfRefused result self.old self.new }
+    {
+        self.evaluate_in(situation, script_scope(), Value::Undefined, asked)
+    }
+
+    /// `Debugger.evaluateOnCallFrame`: in the innermost scope of a frame of the present stop, with its `this`.
+    pub(crate) fn evaluate_on_call_frame<P: Program>(
+        &mut self,
+        situation: &Situation<'_, P>,
+        id: &Units,
+        asked: Asked,
+    ) -> Result<Done, Fault>
+        ensures made { Makes result self.new (row_of (evaluations.evaluates_at (seen P.standing situation.now) self.old (evaluations.frame_of (seen P.standing situation.now) self.old situation.now.paused id.now) asked)) }
+        ensures kept { KeepsIfRefused result self.old self.new }
+    {
+        let Some(pause) = situation.paused else {
+            return Err(Fault::Refused(Refusal::UnknownFrame));
+        };
+        let frames = situation.program.call_frames(self.alloc)?;
+        match find_frame(self.alloc, self.number, pause.number, id, frames.as_slice())? {
+            Some(frame) => {
+                let scope = innermost(frame.scopes.as_slice());
+                self.evaluate_in(situation, scope, frame.this, asked)
+            }
+            None => Err(Fault::Refused(Refusal::UnknownFrame)),
+        }
+    }
+
+    /// The evaluation of a text in a scope with a `this`.
+    fn evaluate_in<P: Program>(
+        &mut self,
+        situation: &Situation<'_, P>,
+        scope: Addr,
+        receiver: Value,
+        asked: Asked,
+    ) -> Result<Done, Fault>
+        ensures made { Makes result self.new (row_of (evaluations.evaluates_in (seen P.standing situation.now) self.old scope receiver asked)) }
+        ensures kept { KeepsIfRefused result self.old self.new }
+    {
+        if !asked.throw_on_side_effect {
+            return Err(Fault::Refused(Refusal::NeedsNoSideEffect));
+        }
+        match parse_expression(self.alloc, asked.expression.as_slice()) {
+            Ok(expression) => self.evaluate_expression(
+                situation,
+                scope,
+                receiver,
+                &asked.object_group,
+                &expression,
+            ),
+            Err(fault) => self.refuse_text(fault),
+        }
+    }
+
+    /// The answer to a text that the parser refuses.
+    fn refuse_text(&mut self, fault: ParseFault) -> Result<Done, Fault>
+        ensures made { Makes result self.new (row_of (evaluations.no_expression self.old)) }
+        ensures memory { fault ≡ parse_faults.Memory → result ≡ Err faults.Memory }
+        ensures kept { KeepsIfRefused result self.old self.new }
+    {
+        match fault {
+            ParseFault::Memory => Err(Fault::Memory),
+            _ => self.answer_no_expression(),
+        }
+    }
+
+    /// The answer to a text that is no expression.
+    fn answer_no_expression(&mut self) -> Result<Done, Fault>
+        ensures made { Makes result self.new (row_of (evaluations.no_expression self.old)) }
+        ensures kept { KeepsIfRefused result self.old self.new }
+    {
+        let id = self.count_exception();
+        Ok(answering(syntax_result(self.alloc, id)?))
+    }
+
+    /// The evaluation of an expression in a scope with a `this`.
+    fn evaluate_expression<P: Program>(
+        &mut self,
+        situation: &Situation<'_, P>,
+        scope: Addr,
+        receiver: Value,
+        group: &Option<Units>,
+        expression: &Expression,
+    ) -> Result<Done, Fault>
+        ensures made { Makes result self.new (row_of (evaluations.outcome_of_answer (seen P.standing situation.now) self.old group.now (expression_source expression.now.tree) (definition self.old.workspace.program (seen P.standing situation.now).standing.world self.old.workspace.scratch scope receiver expression.now))) }
+        ensures kept { KeepsIfRefused result self.old self.new }
+    {
+        let mut opened = self.opened(situation)?;
+        let at = opened.next_address();
+        let prepared = situation.program.prepared(self.alloc, at, expression)?;
+        let end = opened.evaluate::<Table>(self.alloc, scope, receiver, &prepared);
+        if is_memory(end) {
+            return Err(Fault::Memory);
+        }
+        self.answer_evaluation(situation.scripts, name_of(group), end, opened)
+    }
+
+    /// What the session's evaluations go on from, open over the cells of the program. Until it is put back the session has none.
+    pub(crate) fn opened<'p, P: Program>(
+        &mut self,
+        situation: &Situation<'p, P>,
+    ) -> Result<Opened<'p>, AllocError>
+        ensures opened { IfOk result (λ o. o ≡ just_opened (seen P.standing situation.now).standing.world self.old.workspace) }
+        ensures rest { OnOk result (self.new ≡ with_workspace no_workspace self.old) }
+    {
+        open(&mut self.workspace, situation)
+    }
+
+    /// The answer to an evaluation that ended so.
+    fn answer_evaluation(
+        &mut self,
+        scripts: &[Script],
+        group: Option<&[u16]>,
+        end: Evaluated,
+        opened: Opened<'_>,
+    ) -> Result<Done, Fault>
+        ensures made { (s : Seen) (e : Source) (a : Answer) → s.scripts ≡ scripts.now → s.standing.world ≡ opened.entry.world → EvaluatesTo a e end (just_opened opened.entry.world opened.entry.before) opened.entry → Makes result self.new (row_of (evaluations.outcome_of_answer s (with_workspace opened.entry.before self.old) (option_copied group.entry) e a)) }
+        ensures kept { KeepsIfRefused result (with_workspace opened.entry.before self.old) self.new }
+    {
+        match end {
+            Evaluated::Value(value) => {
+                let described = self.describe(scripts, value, group, opened)?;
+                Ok(answering(value_result(self.alloc, described)?))
+            }
+            Evaluated::Thrown(value) => {
+                let described = self.describe(scripts, value, group, opened)?;
+                let id = self.count_exception();
+                Ok(answering(thrown_result(self.alloc, id, described)?))
+            }
+            Evaluated::Effect => {
+                self.workspace = Some(opened.forget());
+                let id = self.count_exception();
+                let described = effect_object(self.alloc)?;
+                Ok(answering(thrown_result(self.alloc, id, described)?))
+            }
+            Evaluated::Full(what) => {
+                self.workspace = Some(opened.forget());
+                Err(Fault::Refused(limit_of(what)))
+            }
+            Evaluated::Spent => {
+                self.workspace = Some(opened.forget());
+                Err(Fault::Refused(Refusal::BudgetSpent))
+            }
+            Evaluated::Memory => Err(Fault::Memory),
+        }
+    }
+
+    /// Describes the value to which an evaluation came, and keeps what the evaluation made where the description holds on to it.
+    fn describe(
+        &mut self,
+        scripts: &[Script],
+        value: Value,
+        group: Option<&[u16]>,
+        opened: Opened<'_>,
+    ) -> Result<Json, AllocError>
+        ensures described { IfOk result (λ j. json_view j ≡ (remote (sight_of (copied_world opened.entry.world opened.entry.behind.scratch) scripts.now self.old.number) (option_copied group.entry) value self.old.handles).made) }
+        ensures session { OnOk result (self.new ≡ with_handles (remote (sight_of (copied_world opened.entry.world opened.entry.behind.scratch) scripts.now self.old.number) (option_copied group.entry) value self.old.handles).handles (with_workspace (if evaluations.holds_on value self.old.handles then opened.entry.behind else opened.entry.before) self.old)) }
+    {
+        let holds = holds_on(value, &self.handles);
+        let described = value_of(
+            self.alloc,
+            &opened,
+            scripts,
+            self.number,
+            value,
+            group,
+            &mut self.handles,
+        )?;
+        self.workspace = Some(kept_or_forgotten(holds, opened));
+        Ok(described)
+    }
+}
