@@ -30,9 +30,12 @@ use Rattle.stepping.specs.declared.rules.Exceptions.{Exceptions}
 use Rattle.stepping.specs.declared.rules.Exceptions.TheVariants as throws
 use Rattle.stepping.specs.Causes.{stops_at_raise}
 use Rattle.cdp_session.specs.Sessions.{Session}
+use Rattle.cdp_session.specs.Situations.{Standing}
+use Rattle.cdp_session.proofs.StopLemmas.{never-causes}
 use Rattle.cdp_host.specs.Arrivals.{arrival_at, at_the_end, is_uncaught, place_at}
+use Rattle.cdp_host.specs.Standings.{standing_of}
 use Rattle.cdp_host.specs.Programs.{arrival_of, code_of, next, nexts, is_over, has_thrown, printed_of}
-use Rattle.cdp_host.specs.Meaning.{names}
+use Rattle.cdp_host.specs.Meaning.{names, may_name}
 use Rattle.cdp_host.specs.Hosts.{Parts, machine_run, machine_arrival, run_with}
 use Rattle.cdp_host.specs.Ran.{Advances}
 
@@ -65,16 +68,21 @@ arrives_by scripts (Some ends.Lost) t s kept = absurd kept
 pub arrives : (scripts : List Script) (m : Machine) (h : Heap) (taken : List (List ℕ)) → IsKept m.ended → machine_arrival scripts m ≡ arrival_of scripts (machine_run m h taken)
 arrives scripts m h taken kept = arrives_by scripts m.ended (term_of m) (state_of m (heap_world m.names h) taken) kept
 
--- nobody names a stop where a program is over
+-- nobody may name a stop where a program is over
 unraised : (b : Bool) (e : Exceptions) → is_some (if b then None else if stops_at_raise e None then Some causes.Exception else None) ≡ false
 unraised true e = refl
 unraised false throws.Never = refl
 unraised false throws.Uncaught = refl
 unraised false throws.All = refl
 
-pub unnamed-end : (s : State) (o : Option Session) → names (at_the_end s) o ≡ false
+pub unnamed-end : (s : State) (o : Option Session) → may_name (at_the_end s) o ≡ false
 unnamed-end s None = refl
 unnamed-end s (Some x) = unraised (not x.rules.enabled || x.rules.skip) x.rules.exceptions
+
+-- where it may name none, it names none, however the program stands
+never-named : (s : Standing) (a : Arrival) (o : Option Session) → may_name a o ≡ false → names s a o ≡ false
+never-named s a None never = refl
+never-named s a (Some x) never = never-causes s a x never
 
 -- ---- texts printed
 
@@ -170,11 +178,11 @@ unfinished-thrown m h taken kept goes none = not_thrown m h taken m.ended refl k
 pub same-program : (m n : Machine) → HasSameCode m n → program_of n ≡ program_of m
 same-program m n same = ap (λ t. trees.program_of n.names t) same.table ∙ ap (λ names. trees.program_of names m.table) same.names
 
--- the question whether a session names a stop, as it is put behind a step
+-- the question whether a session may name a stop, as it is put behind a step
 abbrev pub asked : List Script → Option Session → Term → List Frame → Bool
-asked scripts session t frames = names (arrival_at scripts t frames) session
+asked scripts session t frames = may_name (arrival_at scripts t frames) session
 
-asked_there : (scripts : List Script) (session : Option Session) (r : Run) → asks_at (asked scripts session) r ≡ names (arrival_of scripts r) session
+asked_there : (scripts : List Script) (session : Option Session) (r : Run) → asks_at (asked scripts session) r ≡ may_name (arrival_of scripts r) session
 unfolding arrival_of
 asked_there scripts session (running t s) = refl
 asked_there scripts session (over f s) = sym (unnamed-end s session)
@@ -240,5 +248,6 @@ has-advanced scripts session most m h n i k why ran code some kept goes taken =
       runs = λ j below. ap is_over (sym (there j)) ∙ left_over k j (program_of m) script_scope r (ran.left taken) below;
       passes = λ j first below.
           let low = all_but_last why k in
-          sym (asked_there scripts session (nexts scripts j r)) ∙ ap (asks_at (asked scripts session)) (sym (there j)) ∙ (ran.passed taken).none j first (omega (arith, low));
+          never-named (standing_of scripts (nexts scripts j r)) (arrival_of scripts (nexts scripts j r)) session
+          (sym (asked_there scripts session (nexts scripts j r)) ∙ ap (asks_at (asked scripts session)) (sym (there j)) ∙ (ran.passed taken).none j first (omega (arith, low)));
     }

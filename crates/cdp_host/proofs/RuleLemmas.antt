@@ -143,7 +143,7 @@ ran_texts : (scripts : List Script) (n m : Meaning Run) (q r : Run) (b : Bool) �
     → outbox_of n ++ (if is_named scripts n q then stops_texts scripts q (next_number n.stops) n.session else [])
     ≡ outbox_of m ++ (if b && is_named scripts m r then stops_texts scripts r (next_number m.stops) m.session else [])
 ran_texts scripts n m q r b session stops program some =
-    let texts : ℕ → Option Session → Run → List (List ℕ) = λ k o p. if names (arrival_of scripts p) o then stops_texts scripts p (next_number k) o else [] in
+    let texts : ℕ → Option Session → Run → List (List ℕ) = λ k o p. if names (standing_of scripts p) (arrival_of scripts p) o then stops_texts scripts p (next_number k) o else [] in
     ap (λ xs. xs ++ texts n.stops n.session q) (same_outbox n m session)
     ∙ ap (λ k. outbox_of m ++ texts k n.session q) stops
     ∙ ap (λ o. outbox_of m ++ texts m.stops o q) session

@@ -1,8 +1,9 @@
 -- The start of a host.
-use Rattle.std.proofs.Common.{◌≡◌, ℕ, List, [], map, false, Option, None, sym, ap, subst, ◌∙◌}
+use Rattle.std.proofs.Common.{◌≡◌, ℕ, ◌+◌, List, [], map, false, Option, None, Some, sym, ap, subst, ◌∙◌}
 use Rattle.js_tree.specs.declared.script.Script.{Script}
-use Rattle.js_semantics.specs.Run.{Run}
+use Rattle.js_semantics.specs.Run.{Run, placed_scripts, program_from}
 use Rattle.js_semantics.specs.Sources.{terms_of_scripts}
+use Rattle.js_semantics.specs.Terms.{Terms}
 use Rattle.locations.specs.declared.spot.Spot.{Spot}
 use Rattle.locations.specs.Locations.{break_locations}
 use Rattle.js_machine.specs.declared.end.End.{End}
@@ -11,7 +12,10 @@ use Rattle.js_machine.specs.Machines.{IsKept}
 use Rattle.js_machine.specs.Starts.{IsStarted}
 use Rattle.cdp_host.specs.Programs.{code_of, start, printed_of}
 use Rattle.cdp_host.specs.Meaning.{Meaning, begin}
-use Rattle.cdp_host.specs.Hosts.{Parts, AreLines, IsSound, meant}
+use Rattle.pure_eval.specs.Workspaces.{Workspace, begun}
+use Rattle.cdp_session.specs.Sessions.{Session, fresh}
+use Rattle.cdp_host.specs.Histories.{Attach}
+use Rattle.cdp_host.specs.Hosts.{Parts, AreLines, HostState, IsSound, after, meant}
 use Rattle.cdp_host.proofs.ProgramLemmas.{start-prints}
 use Rattle.cdp_host.proofs.PartLemmas.{run-printed}
 
@@ -38,5 +42,20 @@ start-sound scripts input lines spots s is located found =
       kept = λ works. subst K (sym is.going) tt;
       alone = λ fails. absurd cc;
     }
+
+-- what the evaluations of a session begin with
+pub code-begun : (scripts : List Script) (terms placed : Terms) (w : Workspace) → terms ≡ terms_of_scripts scripts → placed ≡ placed_scripts terms → w ≡ begun (program_from 1 placed) → w ≡ begun (code_of scripts)
+unfolding code_of
+code-begun scripts terms placed w made put is = is ∙ ap (λ ts. begun (program_from 1 ts)) (put ∙ ap placed_scripts made)
+
+-- a host with its first session is one with the entry that attaches it
+pub attaches : (host now : HostState) (r : Session) (w : Workspace) → host ≡ now → now.meaning.attached ≡ 0 → r ≡ fresh 1 w → w ≡ begun (code_of host.scripts)
+    → (let m : HostState = record host { meaning = record host.meaning { attached = 1; session = Some r } } in m ≡ after now Attach)
+attaches host now r w same none is made =
+    let f : ℕ → Session → HostState = λ n x. record host { meaning = record host.meaning { attached = n; session = Some x } } in
+    let one : 1 ≡ host.meaning.attached + 1 = ap (λ n. n + 1) (sym (ap (λ h. h.meaning.attached) same ∙ none)) in
+    ap (f 1) (is ∙ ap (fresh 1) made)
+    ∙ ap (λ n. f n (fresh n (begun (code_of host.scripts)))) one
+    ∙ ap (λ h. after h Attach) same
 
 pub ruleset starts = (start-means, start-sound)

@@ -11,7 +11,9 @@ use Rattle.stepping.specs.declared.rules.StepKind.{StepKind}
 use Rattle.stepping.specs.Causes.{cause_at, ends_at}
 use Rattle.cdp_session.specs.declared.situation.Pause.{Pause}
 use Rattle.cdp_session.specs.Sessions.{Session, emptied}
-use Rattle.cdp_session.specs.Stops.{is_hit_at}
+use Rattle.cdp_session.specs.Conditions.{hits, is_some_hit}
+use Rattle.cdp_session.specs.Situations.{Standing}
+use Rattle.cdp_session.proofs.StopLemmas.{none-hit}
 use Rattle.cdp_session.specs.Replies.{answer_of}
 use Rattle.cdp_host.specs.Programs.{arrival_of, plain, next}
 use Rattle.cdp_host.specs.Standings.{standing_of}
@@ -26,18 +28,18 @@ chosen true ends = refl
 chosen false true = refl
 chosen false false = refl
 
-by_place : (x : Session) (kind : StepKind) (depth : ℕ) (a : Arrival) (o : Option Place) → StepsAlone x kind depth
-    → is_some (cause_at x.rules a (is_hit_at o x.breakpoints) o) ≡ (is_some o && (a.debugger || ends_at kind depth a.depth))
-by_place x kind depth a None alone = refl
-by_place x kind depth a (Some place) alone =
-    rw (alone.none_hit place, alone.rules.no_pause, alone.rules.step, alone.rules.no_place) (chosen a.debugger (ends_at kind depth a.depth))
+by_place : (x : Session) (kind : StepKind) (depth : ℕ) (s : Standing) (a : Arrival) (o : Option Place) → StepsAlone x kind depth
+    → is_some (cause_at x.rules a (is_some_hit (hits s x.workspace x.breakpoints o)) o) ≡ (is_some o && (a.debugger || ends_at kind depth a.depth))
+by_place x kind depth s a None alone = refl
+by_place x kind depth s a (Some place) alone =
+    rw (none-hit s x.workspace place x.breakpoints (alone.none_hit place), alone.rules.no_pause, alone.rules.step, alone.rules.no_place) (chosen a.debugger (ends_at kind depth a.depth))
 
 -- it names exactly the arrivals that end the step
-pub names-step : (x : Session) (kind : StepKind) (depth : ℕ) (a : Arrival) → StepsAlone x kind depth → names a (Some x) ≡ ends_step kind depth a
-names-step x kind depth a alone = rw (alone.rules.enabled, alone.rules.heeded, alone.rules.no_throws) (by_place x kind depth a a.place alone)
+pub names-step : (x : Session) (kind : StepKind) (depth : ℕ) (s : Standing) (a : Arrival) → StepsAlone x kind depth → names s a (Some x) ≡ ends_step kind depth a
+names-step x kind depth s a alone = rw (alone.rules.enabled, alone.rules.heeded, alone.rules.no_throws) (by_place x kind depth s a a.place alone)
 
 named_step : (scripts : List Script) (m : Meaning Run) (r : Run) (x : Session) (kind : StepKind) (depth : ℕ) → m.session ≡ Some x → StepsAlone x kind depth → is_named scripts m r ≡ ends_step kind depth (arrival_of scripts r)
-named_step scripts m r x kind depth is alone = ap (λ o. names (arrival_of scripts r) o) is ∙ names-step x kind depth (arrival_of scripts r) alone
+named_step scripts m r x kind depth is alone = ap (λ o. names (standing_of scripts r) (arrival_of scripts r) o) is ∙ names-step x kind depth (standing_of scripts r) (arrival_of scripts r) alone
 
 -- so a run stops at the first of them
 pub steps-stop : (scripts : List Script) (input : List (List ℕ)) (made n : ℕ) (m : Meaning Run) (x : Session) (kind : StepKind) (depth : ℕ) → StopsExactly scripts input made m n → m.session ≡ Some x → StepsAlone x kind depth

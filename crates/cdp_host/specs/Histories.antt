@@ -11,6 +11,8 @@ use Rattle.cdp_session.specs.Results.{resumed_text}
 use Rattle.cdp_session.specs.Situations.{Standing}
 use Rattle.cdp_session.specs.Stops.{resumed}
 use Rattle.cdp_session.specs.Replies.{Answer, answer_of, answer_texts, outcome_of}
+use Rattle.pure_eval.specs.Workspaces.{begun}
+use Rattle.cdp_host.specs.Programs.{code_of}
 use Rattle.cdp_host.specs.Meaning.{Meaning, begin, is_attached, situation, after_steps}
 use Rattle.cdp_host.specs.Standings.{standing_of}
 
@@ -53,7 +55,7 @@ told stands scripts text m = option_map_or (λ x. with_answer m (answer_of (situ
 
 -- an entry of a session that isn't attached changes nothing; without a session that has the debugger enabled a paused program goes on
 abbrev pub changed : {A : Type 0} → (A → Standing) → List Script → Meaning A → Entry → Meaning A
-changed stands scripts m Attach = record m { attached = m.attached + 1; session = Some (fresh (m.attached + 1)) }
+changed stands scripts m Attach = record m { attached = m.attached + 1; session = Some (fresh (m.attached + 1) (begun (code_of scripts))) }
 changed stands scripts m (Tell s text) = if is_attached m s then told stands scripts text m else m
 changed stands scripts m (Take s) = if is_attached m s then record m { session = option_map emptied m.session } else m
 changed stands scripts m (Detach s) = if is_attached m s then record m { stop = None; session = None } else m

@@ -65,13 +65,13 @@ abbrev pub stops_from : ℕ → Option ℕ → ℕ
 stops_from stops None = stops
 stops_from stops (Some depth) = next_number stops
 
--- the depth at which a session stops the program, if it does
-abbrev pub depth_of : Arrival → Option Session → Option ℕ
-depth_of a o = if names a o then Some a.depth else None
+-- the depth at which a session stops a program that stands so, if it does
+abbrev pub depth_of : Standing → Arrival → Option Session → Option ℕ
+depth_of s a o = if names s a o then Some a.depth else None
 
 -- what a session is behind that, where it sees the program so and the stop has this number
 abbrev pub session_behind : Situation → ℕ → Arrival → Option Session → Option Session
-session_behind s number a o = if names a o then option_map (stopped s number a) o else o
+session_behind s number a o = if names s.standing a o then option_map (stopped s number a) o else o
 
 -- the numbers are where the lines of scripts begin whose positions are of 32 bits
 pub record AreLines (scripts : List Script) (lines : List (List ℕ)) : Type 0 where

@@ -7,7 +7,7 @@ use Rattle.stepping.specs.declared.arrival.Arrival.{Arrival}
 use Rattle.cdp_session.specs.declared.situation.Pause.{Pause}
 use Rattle.cdp_session.specs.Situations.{Situation, Standing}
 use Rattle.cdp_session.specs.Sessions.{Session}
-use Rattle.cdp_session.specs.Stops.{cause_of, stopped}
+use Rattle.cdp_session.specs.Stops.{cause_of, may_name as sessions_may_name, stopped}
 use Rattle.cdp_host.specs.Programs.{start, next, arrival_of, is_over}
 use Rattle.cdp_host.specs.Standings.{standing_of}
 
@@ -46,13 +46,17 @@ situation stands scripts m = record { scripts = scripts; paused = m.stop; standi
 abbrev pub next_number : ℕ → ℕ
 next_number n = if nat_lt n (2 ^ 62) then n + 1 else n
 
--- a session, if one is attached, names a stop behind a step that leads to this arrival
-abbrev pub names : Arrival → Option Session → Bool
-names a o = option_map_or (λ x. is_some (cause_of a x)) o false
+-- a session, if one is attached, names a stop behind a step that leads to this arrival and leaves the program so
+abbrev pub names : Standing → Arrival → Option Session → Bool
+names s a o = option_map_or (λ x. is_some (cause_of s a x)) o false
+
+-- it names one, or would if the conditions of its breakpoints held
+abbrev pub may_name : Arrival → Option Session → Bool
+may_name a o = option_map_or (sessions_may_name a) o false
 
 -- a session names a stop behind the step that leads a program there
 abbrev pub is_named : {A : Type 0} → List Script → Meaning A → Run → Bool
-is_named scripts m r = names (arrival_of scripts r) m.session
+is_named scripts m r = names (standing_of scripts r) (arrival_of scripts r) m.session
 
 -- what a session sees of a program that stands so and stops there
 abbrev pub stopping : List Script → Standing → Situation

@@ -4,6 +4,7 @@ use Rattle.js_tree.specs.declared.script.Script.{Script}
 use Rattle.js_semantics.specs.Run.{Run}
 use Rattle.cdp_session.specs.Sessions.{Session}
 use Rattle.cdp_host.specs.Programs.{nexts, is_over, arrival_of}
+use Rattle.cdp_host.specs.Standings.{standing_of}
 use Rattle.cdp_host.specs.Meaning.{Meaning, after_steps, is_ready, names}
 
 -- so many steps lead from one to the other, each made where the program is ready
@@ -22,4 +23,4 @@ pub record Advances (scripts : List Script) (session : Option Session) (most k :
   pub counts : IsStretch most k
   pub reached : q ≡ nexts scripts k r
   pub runs : (j : ℕ) → j < k → is_over (nexts scripts j r) ≡ false
-  pub passes : (j : ℕ) → 0 < j → j < k → names (arrival_of scripts (nexts scripts j r)) session ≡ false
+  pub passes : (j : ℕ) → 0 < j → j < k → names (standing_of scripts (nexts scripts j r)) (arrival_of scripts (nexts scripts j r)) session ≡ false

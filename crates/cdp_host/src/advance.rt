@@ -6,7 +6,7 @@ ghost use Rattle.js_machine.specs.Machines.{HasSameCode, IsKept, program_of};
 ghost use Rattle.js_steps.specs.Points.{term_at, IsAt};
 ghost use Rattle.cdp_host.specs.Arrivals.{arrival_at};
 ghost use Rattle.cdp_host.specs.Hosts.{depth_of, machine_arrival, machine_run, meant, pause_from, session_behind, stops_from, AreLines};
-ghost use Rattle.cdp_host.specs.Meaning.{names};
+ghost use Rattle.cdp_host.specs.Meaning.{may_name};
 ghost use Rattle.cdp_host.specs.Programs.{code_of, is_over};
 ghost use Rattle.cdp_session.specs.Situations.{seen};
 ghost use Rattle.cdp_host.specs.Ran.{Advances, HasMade, IsStretch};
@@ -34,17 +34,7 @@ use js_world::heap::BaseHeap;
 use std::alloc::AllocError;
 use stepping::arrival::Arrival;
 
-/// Whether a session, if one is attached, names a stop behind a step that leads to this arrival.
-fn names(session: &Option<Session>, arrival: &Arrival) -> bool
-    ensures { result ≡ names arrival.now session.now }
-{
-    match session {
-        Some(session) => session.names(arrival).is_some(),
-        None => false,
-    }
-}
-
-/// Asks for a stop where the session names one.
+/// Asks for a stop where the session may name one: the conditions of its breakpoints are evaluated behind the stretch.
 #[derive(Clone, Copy)]
 struct Watch<'s> {
     scripts: &'s [Script],
@@ -54,12 +44,12 @@ struct Watch<'s> {
 }
 
 impl Asks for Watch<'_> {
-    ghost stops = { λ watch term frames. names (arrival_at watch.scripts.now term frames) watch.session.now };
+    ghost stops = { λ watch term frames. may_name (arrival_at watch.scripts.now term frames) watch.session.now };
 
     fn asks(&self, table: &NodeTable, context: &Context, stack: &Stack, point: Point) -> bool {
         match self.session {
             Some(session) => {
-                !session.is_silent() && self.is_named(session, table, context, stack, point)
+                !session.is_silent() && self.may_be_named(session, table, context, stack, point)
             }
             None => false,
         }
@@ -67,8 +57,8 @@ impl Asks for Watch<'_> {
 }
 
 impl Watch<'_> {
-    /// Whether a session names a stop where a machine stands. Where it neither arrives nor raised, none does.
-    fn is_named(
+    /// Whether a session may name a stop where a machine stands. Where it neither arrives nor raised, none does.
+    fn may_be_named(
         &self,
         session: &Session,
         table: &NodeTable,
@@ -78,14 +68,14 @@ impl Watch<'_> {
     ) -> bool
         requires table { IsTable table.now }
         requires at { IsAt table.now stack.now point }
-        ensures { (ts : List (List ℕ)) → result ≡ names (arrival_at self.now.scripts.now (term_at ts table.now stack.now point) context.now.frames) (Some session.now) }
+        ensures { (ts : List (List ℕ)) → result ≡ may_name (arrival_at self.now.scripts.now (term_at ts table.now stack.now point) context.now.frames) (Some session.now) }
     {
         let mark = arrival(table, self.scripts, context, stack, point);
         if mark.is_none() && thrown(stack, point).is_none() {
             return false;
         }
         let arrival = arrival_at(self.scripts, self.lines, table, context, stack, point);
-        session.names(&arrival).is_some()
+        session.may_name(&arrival)
     }
 }
 
@@ -96,7 +86,7 @@ pub(crate) struct Advanced {
     pub(crate) stopped: Option<usize>,
 }
 
-/// Makes steps until the session names a stop, until a raise, a print or the end, or until so many are made; answers how many.
+/// Makes steps until the session may name a stop, until a raise, a print or the end, or until so many are made; answers how many.
 /// Where there is no memory for one of them, the machine is given up.
 fn run_machine(
     machine: &mut Machine,
@@ -135,7 +125,7 @@ fn is_lost(machine: &Machine) -> bool
     }
 }
 
-/// Makes steps, at least one, until the session names a stop, until a raise, a print or the end, or until so many are made.
+/// Makes steps, at least one, until the session may name a stop, until a raise, a print or the end, or until so many are made.
 ///
 /// # Errors
 ///
@@ -198,23 +188,25 @@ fn make_steps_and_print(
 ///
 /// # Errors
 ///
-/// There is no memory for the text that tells it.
+/// There is no memory for a condition's evaluation or for the text that tells the stop.
 fn stop_at<P: Program>(
     situation: &Situation<'_, P>,
     number: u64,
     arrival: &Arrival,
     session: &mut Option<Session>,
 ) -> Result<Option<usize>, AllocError>
-    ensures stopped { IfOk result (λ depth. depth ≡ depth_of arrival.now session.old) }
+    ensures stopped { IfOk result (λ depth. depth ≡ depth_of (seen P.standing situation.now).standing arrival.now session.old) }
     ensures session { OnOk result (session.new ≡ session_behind (seen P.standing situation.now) number arrival.now session.old) }
 {
-    if !names(session, arrival) {
+    let Some(mut watching) = session.take() else {
+        return Ok(None);
+    };
+    if watching.names(situation, arrival)?.is_none() {
+        *session = Some(watching);
         return Ok(None);
     }
-    if let Some(mut stopped) = session.take() {
-        stopped.stopped(situation, number, arrival)?;
-        *session = Some(stopped);
-    }
+    watching.stopped(situation, number, arrival)?;
+    *session = Some(watching);
     Ok(Some(arrival.depth))
 }
 

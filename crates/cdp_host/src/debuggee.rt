@@ -13,12 +13,14 @@ ghost use Rattle.cdp_host.specs.Standings.{value_of, IsKept-prop};
 use call_frames::CallFrame;
 use cdp_session::program::{Program, ProgramCells};
 use cdp_text::line_table::LineTable;
+use expressions::preparing::prepare;
 use frames_scopes::standing::Standing;
 use js_frames::standing::Thrown;
-use js_heap::value::Value;
+use js_heap::value::{Addr, Value};
 use js_machine::machine::{Machine, script_scope};
-use js_tree::script::Script;
+use js_tree::script::{Expression, Script};
 use js_world::heap::BaseHeap;
+use pure_eval::prepared::Prepared;
 use std::alloc::{AllocError, Global};
 
 /// A machine that wasn't given up, with its heap, the scripts that it runs, and where the lines of each of them begin.
@@ -87,5 +89,14 @@ impl Program for Debuggee<'_> {
 
     fn thrown(&self) -> Option<Value> {
         value_of(self.machine.thrown())
+    }
+
+    fn prepared(
+        &self,
+        alloc: Global,
+        at: Addr,
+        expression: &Expression,
+    ) -> Result<Prepared, AllocError> {
+        prepare(alloc, at, expression)
     }
 }

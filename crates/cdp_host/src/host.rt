@@ -7,7 +7,8 @@ ghost use Rattle.cdp_json.specs.Messages.{refusal_text};
 ghost use Rattle.cdp_json.specs.declared.refusal.Refusal.{Refusal};
 ghost use Rattle.cdp_session.specs.Replies.{outcome_of, IsRefused};
 ghost use Rattle.cdp_session.specs.Sessions.{Session as Kept, sent};
-ghost use Rattle.cdp_host.specs.Programs.{plain, is_over, has_thrown};
+ghost use Rattle.pure_eval.specs.Workspaces.{begun};
+ghost use Rattle.cdp_host.specs.Programs.{code_of, plain, is_over, has_thrown};
 ghost use Rattle.cdp_host.specs.Meaning.{begin, is_attached, is_paused, is_ready, situation, after_steps, longest, IsLongest};
 ghost use Rattle.cdp_host.specs.Histories.{Entry, Attach, Tell, Take, Detach, Ran as RanEntry};
 ghost use Rattle.cdp_host.specs.Hosts.{Stands, after, meaning_with, parts_standing, pause_from, state_at, stops_from};
@@ -27,9 +28,13 @@ use cdp_session::situation::{Pause, Situation};
 use cdp_text::line_table::LineTable;
 use cdp_text::units::Units;
 use js_machine::machine::{Machine, Started};
+use js_machine::scripts::terms_of_scripts;
+use js_programs::literals::placed_scripts;
 use js_steps::stepped::Finish;
 use js_tree::script::Script;
 use js_world::heap::BaseHeap;
+use js_world::names::Names;
+use pure_eval::workspace::Workspace;
 use std::alloc::{AllocError, Global};
 use std::collections::VecDeque;
 use std::marker::Model;
@@ -53,11 +58,12 @@ pub struct Host {
 impl Model for Host {
     ghost use Rattle.js_tree.specs.contracts.tree.Stmt as stmt;
     ghost use Rattle.std.specs.Coded.{codes};
+    ghost use Rattle.pure_eval.specs.TermCodes.{term_coded};
     ghost use Rattle.cdp_host.specs.Hosts.{HostState, IsSound};
 
     ghost Value = { HostState };
 
-    ghost coded = { Prim.hlevel (codes, stmt.the_row.coded) };
+    ghost coded = { Prim.hlevel (codes, term_coded, stmt.the_row.coded) };
 
     ghost view = { λ a. record {
       scripts = a.scripts.items;
@@ -66,6 +72,15 @@ impl Model for Host {
     } };
 
     ghost invariant = { λ a. IsSound a.scripts.items a.lines.items a.spots a.machine a.broken a.session };
+}
+
+/// What the evaluations of a session begin with, for a program of these scripts and names.
+fn workspace_of(alloc: Global, scripts: &[Script], names: &Names) -> Result<Workspace, AllocError>
+    ensures { IfOk result (λ w. w ≡ begun (code_of scripts.now)) }
+{
+    let terms = terms_of_scripts(alloc, scripts)?;
+    let placed = placed_scripts(alloc, &terms)?;
+    Workspace::start(alloc, names, &placed)
 }
 
 /// What a run did.
@@ -123,13 +138,17 @@ impl Host {
         })
     }
 
-    /// Attaches the first session and answers its number, 1. An error comes exactly from a broken host, and changes nothing.
+    /// Attaches the first session and answers its number, 1.
+    ///
+    /// # Errors
+    ///
+    /// The host is broken, or there is no memory for what the session's evaluations begin with. Nothing has changed.
     #[tactic(auto, using(crate::proofs::HistoryLemmas::stands))]
     pub fn attach(&mut self) -> Result<u64, AllocError>
         requires { self.old.meaning.attached ≡ 0 }
         ensures number { IfOk result (λ s. s ≡ 1) }
         ensures host { OnOk result (self.new ≡ after self.old Attach) }
-        ensures broken { IsErr result ↔ IsTrue self.old.broken }
+        ensures broken { self.old.broken ≡ true → IsErr result }
         ensures err { OnErr result (self.new ≡ self.old) }
         ensures stands { OnOk result ((scripts : List AnyScript) (input : List (List ℕ)) (history : List Entry) → Stands scripts input self.old history
             → Stands scripts input self.new (history ++ Attach ∷ [])) }
@@ -137,8 +156,9 @@ impl Host {
         if self.broken {
             return Err(AllocError);
         }
+        let workspace = workspace_of(self.alloc, self.scripts.as_slice(), self.machine.names())?;
         self.attached = 1;
-        self.session = Some(Session::new(self.alloc, self.attached));
+        self.session = Some(Session::new(self.alloc, self.attached, workspace));
         Ok(1)
     }
 
