@@ -276,7 +276,7 @@ tell 1 {"id":1,"method":7}
 tell 1 {"id":1,"method":"100%25%0A\u00e9"}
 tell 1 {"method":"Debugger.enable","more":[],"id":8,"id":2}
 tell 1 {%0A"id":3,%0D%0A"method":"Debugger.setBreakpointByUrl","params":{"lineNumber":0}}
-tell 1 {"id":4,"method":"Debugger.setBreakpointByUrl","params":{"lineNumber":0,"url":"b.js","condition":"x"}}
+tell 1 {"id":4,"method":"Debugger.setBreakpointByUrl","params":{"lineNumber":0,"url":"b.js","condition":7}}
 tell 1 {"id":5,"method":"Debugger.setBreakpointByUrl","params":{"lineNumber":4294967296,"url":"b.js"}}
 tell 1 {"id":6,"method":"Debugger.setPauseOnExceptions","params":{"state":"some"}}
 tell 1 {"id":7,"method":"Debugger.setSkipAllPauses","params":[]}
@@ -286,7 +286,7 @@ tell 1 {"id":10,"method":"Debugger.getPossibleBreakpoints","params":{"start":{"s
 tell 1 {"id":11,"method":"Debugger.getScriptSource","params":{"scriptId":"1"}}
 tell 1 {"id":12,"method":"Debugger.setAsyncCallStackDepth","params":{"maxDepth":-1}}
 tell 1 {"id":13,"method":"Debugger.setAsyncCallStackDepth","params":{"maxDepth":1.0}}
-tell 1 {"id":14,"method":"Runtime.evaluate","params":7}
+tell 1 {"id":14,"method":"Runtime.evaluates","params":7}
 tell 1 {"id":15,"method":"Debugger.stepInto"}
 take 1
 "#;
@@ -313,7 +313,7 @@ to 1 {"id":10,"result":{"locations":[]}}
 to 1 {"id":11,"result":{"scriptSource":"1;\n"}}
 to 1 {"id":12,"result":{}}
 to 1 {"error":{"code":-32602,"message":"Invalid parameters"},"id":13}
-to 1 {"error":{"code":-32601,"message":"'Runtime.evaluate' wasn't found"},"id":14}
+to 1 {"error":{"code":-32601,"message":"'Runtime.evaluates' wasn't found"},"id":14}
 to 1 {"error":{"code":-32000,"message":"Can only perform operation while paused."},"id":15}
 "#;
 

@@ -6,9 +6,15 @@ mod calls;
 #[cfg(test)]
 mod commands;
 #[cfg(test)]
+mod conditions;
+#[cfg(test)]
 mod debugging;
 #[cfg(test)]
 mod edges;
+#[cfg(test)]
+mod evaluations;
+#[cfg(test)]
+mod kept;
 #[cfg(test)]
 mod objects;
 #[cfg(test)]
@@ -17,3 +23,5 @@ mod runs;
 mod standing;
 #[cfg(test)]
 mod texts;
+#[cfg(test)]
+mod watches;
