@@ -33,6 +33,7 @@ IsMark script m kind = Contains (script_marks script) (record { mark = m; kind =
 abbrev pub IsLocated : Script → Mark → SpotKind → Type 0
 IsLocated script m kind = (strongest : SpotKind) × (stronger kind strongest ≡ strongest) × Contains (break_locations script) (record { pos = position script.source (offset_of script.spans m); kind = strongest })
 
+-- what holds of each configuration of a run of these scripts
 pub record Arrives (scripts : List Script) (t : Term) (s : State) : Type 0 where
   -- the top frame is of one of the scripts
   pub in_a_script : (script : Script) × Contains scripts script × RunsIn script s
@@ -44,6 +45,7 @@ pub record Arrives (scripts : List Script) (t : Term) (s : State) : Type 0 where
   -- one at a `debugger` statement is at a mark of that kind, and so at a location of that kind or a stronger one
   pub at_a_debugger : (script : Script) (m : Mark) → Contains scripts script → RunsIn script s → at script.spans t ≡ Some m → is_debugger (active t) ≡ true → IsMark script m kinds.Debugger × IsLocated script m kinds.Debugger
 
+-- what holds of a run of these scripts at each of its configurations; of one that is over nothing
 abbrev pub RunArrives : List Script → Run → Type 0
 RunArrives scripts (running t s) = Arrives scripts t s
 RunArrives scripts (over f s) = Unit {0}

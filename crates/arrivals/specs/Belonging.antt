@@ -28,6 +28,7 @@ Returns (part (enter node) now (more t ts)) = Returns t
 Returns (part sequence (more t ts) later) = Returns t
 Returns _ = ⊥
 
+-- the first of a function's parts is such a body
 abbrev pub FirstReturns : Terms → Type 0
 FirstReturns (more t ts) = Returns t
 FirstReturns end = ⊥
@@ -36,6 +37,7 @@ FirstReturns end = ⊥
 abbrev pub Closes : (Marked → Type 0) → ℕ → Terms → Type 0
 Closes P node body = FirstReturns body ⊎ P (record { mark = before_end node 1; kind = kinds.Return })
 
+-- the places at which a run can arrive in a form are marks of its source
 abbrev pub FormBelongs : (Marked → Type 0) → Form → Terms → Type 0
 FormBelongs P (script number names) later = ⊥
 FormBelongs P (frame node a) later = ⊥
@@ -77,9 +79,11 @@ abbrev pub top : List Source → Source
 top [] = script_source 0
 top (source ∷ sources) = source
 
+-- the marks of the top frame's source
 abbrev pub top_marks : Sources → List Source → Marked → Type 0
 top_marks R sources = R.marks (top sources)
 
+-- the sources of some frames, from the top
 abbrev pub sources_of : List Frame → List Source
 sources_of [] = []
 sources_of (f ∷ fs) = f.source ∷ sources_of fs
@@ -113,6 +117,7 @@ abbrev pub TreeBelongs : Sources → Source → Term → Type 0
 TreeBelongs R source (part (script number names) now later) = R.runs source × AllBelong (R.marks source) now × AllBelong (R.marks source) later
 TreeBelongs R source _ = ⊥
 
+-- the trees of all sources of a program belong to them
 abbrev pub ProgramBelongs : Sources → Program → Type 0
 ProgramBelongs R [] = Unit {0}
 ProgramBelongs R (t ∷ ts) = TreeBelongs R t.source t.tree × ProgramBelongs R ts
@@ -124,6 +129,7 @@ abbrev pub Waits : Sources → Term → Type 0
 Waits R (part (script number names) end later) = R.runs (script_source number) × AllBelong (R.marks (script_source number)) later
 Waits R _ = ⊥
 
+-- none of these scripts has begun
 abbrev pub AllWait : Sources → Terms → Type 0
 AllWait R end = Unit {0}
 AllWait R (more t ts) = Waits R t × AllWait R ts
@@ -145,6 +151,7 @@ abbrev pub RunningStands : Sources → Term → List Source → Type 0
 RunningStands R (part scripts now later) all = (source : Source) × R.runs source × ScriptsStand R source now all
 RunningStands R _ all = ⊥
 
+-- the term of a run that isn't over stands so within its frames
 abbrev pub RunStands : Sources → Run → Type 0
 RunStands R (running t s) = RunningStands R t (sources_of s.frames)
 RunStands R (over f s) = Unit {0}

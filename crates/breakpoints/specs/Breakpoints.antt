@@ -19,9 +19,11 @@ pub record State : Type 0 where
 abbrev pub most : ℕ
 most = 1000
 
+-- no breakpoint is set; those that come will stop the program
 abbrev pub none_set : State
 none_set = record { set = []; active = true }
 
+-- a breakpoint has this id
 abbrev pub has_id : List ℕ → Breakpoint → Bool
 has_id id b = bytes_eq b.id id
 
@@ -36,6 +38,7 @@ abbrev pub fault_for : Option Place → Place → State → Option AddFault
 fault_for None place s = Some faults.Unresolved
 fault_for (Some resolved) place s = fault_of (place_id place) s
 
+-- why no breakpoint is set at a place of one of these scripts, if none is
 abbrev pub fault_at : Place → List Script → State → Option AddFault
 fault_at place scripts s = fault_for (resolved_at place scripts) place s
 
@@ -55,9 +58,11 @@ breakpoint_of id condition places = record { id = id; condition = condition; pla
 
 -- ---- removing
 
+-- a breakpoint hasn't this id
 abbrev pub has_another_id : List ℕ → Breakpoint → Bool
 has_another_id id b = not (has_id id b)
 
+-- without the breakpoint of this id, if there is one
 abbrev pub without : List ℕ → State → State
 without id s = record s { set = filter (has_another_id id) s.set }
 

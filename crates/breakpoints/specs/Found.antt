@@ -8,5 +8,6 @@ use Rattle.locations.specs.Order.{IsAscending}
 abbrev pub spots_in : Vec Spot → List Spot
 spots_in spots = spots.items
 
+-- each location stands before those that follow it
 abbrev pub IsInOrder : Vec Spot → Type 0
 IsInOrder spots = IsAscending spots.items

@@ -4,6 +4,7 @@ use Rattle.std.specs.List.{list_any}
 use Rattle.cdp_text.specs.declared.position.Place.{Place}
 use Rattle.breakpoints.specs.declared.breakpoint.Breakpoint.{Breakpoint}
 
+-- two places are the same: one script, line and column
 abbrev pub same_place : Place → Place → Bool
 same_place p q = nat_eq p.script q.script && nat_eq p.pos.line q.pos.line && nat_eq p.pos.col q.pos.col
 

@@ -12,6 +12,7 @@ use Rattle.locations.specs.Search.{first_from}
 abbrev pub place_in : ℕ → Spot → Place
 place_in number spot = record { script = number; pos = spot.pos }
 
+-- the place of the first location of a script that isn't before a position
 abbrev pub resolved_in : Pos → Script → Option Place
 resolved_in p s = option_map (place_in s.number) (first_from p (break_locations s))
 

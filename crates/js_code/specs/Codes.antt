@@ -20,6 +20,7 @@ abbrev pub code_of_node : List (List ℕ) → NodeTable → FunctionEntry → Op
 code_of_node ts t f None = None
 code_of_node ts t f (Some node) = code_of_parts (function_of ts f) (trees ts t node.mid node.end)
 
+-- the code of an entry, by the node that it names; none where the table has no such entry
 abbrev pub code_of_entry : List (List ℕ) → NodeTable → Option FunctionEntry → Option FunctionCode
 code_of_entry ts t None = None
 code_of_entry ts t (Some f) = code_of_node ts t f (slice_get t.nodes.items f.at)

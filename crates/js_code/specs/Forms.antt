@@ -26,55 +26,68 @@ use Rattle.js_code.specs.Ops.{operator_of, is_prefix}
 
 -- ---- entries
 
+-- a member of an object literal, by its entry
 abbrev pub member_of : List (List ℕ) → MemberEntry → Member
 member_of ts (members.Keyed n) = keyed (name_of ts n.number)
 member_of ts members.Computed = computed
 
+-- the members of an object literal, by their entries
 abbrev pub members_of : List (List ℕ) → List MemberEntry → List Member
 members_of ts [] = []
 members_of ts (m ∷ ms) = member_of ts m ∷ members_of ts ms
 
+-- a function's form, by its entry
 abbrev pub function_of : List (List ℕ) → FunctionEntry → FunctionForm
 function_of ts f = record { code = f.code; node = f.node; name = name_of ts f.name.number; parameters = texts_of ts f.parameters.items; names = bindings ts f.names; is_arrow = f.is_arrow; is_named = f.is_named }
 
 -- ---- forms; a number that names no entry stands for a form that no row is told of
 
+-- a script with its names
 abbrev pub script_form : List (List ℕ) → Option ScriptEntry → Form
 script_form ts (Some e) = script e.number (bindings ts e.names)
 script_form ts None = this
 
+-- an untouched `for` with names
 abbrev pub for_form : List (List ℕ) → Option ForEntry → Form
 for_form ts (Some e) = enter_for e.node e.constant (bindings ts e.names)
 for_form ts None = this
 
+-- an untouched `for .. of`
 abbrev pub for_of_form : List (List ℕ) → Option ForOfEntry → Form
 for_of_form ts (Some e) = enter_for_of e.node (binding_at ts e.slot)
 for_of_form ts None = this
 
+-- the list of a `for .. of`
 abbrev pub list_form : List (List ℕ) → Option ForOfEntry → Form
 list_form ts (Some e) = list_of (binding_at ts e.slot)
 list_form ts None = this
 
+-- a `for .. of` before the turn of this index
 abbrev pub turn_form : List (List ℕ) → Option ForOfEntry → ℕ → Form
 turn_form ts (Some e) i = turn_of (binding_at ts e.slot) i
 turn_form ts None i = this
 
+-- a `for .. of` in the turn before this index
 abbrev pub body_form : List (List ℕ) → Option ForOfEntry → ℕ → Form
 body_form ts (Some e) i = body_of (binding_at ts e.slot) i
 body_form ts None i = this
 
+-- an untouched block with its names
 abbrev pub block_form : List (List ℕ) → Option (List Slot) → Form
 block_form ts (Some names) = block (bindings ts names)
 block_form ts None = this
 
+-- a function
 abbrev pub function_form : List (List ℕ) → Option FunctionEntry → Form
 function_form ts (Some f) = function (function_of ts f)
 function_form ts None = this
 
+-- a method with a computed key
 abbrev pub method_form : List (List ℕ) → Option FunctionEntry → Form
 method_form ts (Some f) = method (function_of ts f)
 method_form ts None = this
 
+-- an object literal with its members
 abbrev pub object_form : List (List ℕ) → Option (List MemberEntry) → Form
 object_form ts (Some ms) = object (members_of ts ms)
 object_form ts None = this
@@ -83,18 +96,22 @@ object_form ts None = this
 abbrev pub members_at : NodeTable → ℕ → Option (List MemberEntry)
 members_at t n = slice_get (map (λ ms. ms.items) t.objects.items) n
 
+-- a call
 abbrev pub call_form : Option CallEntry → Form
 call_form (Some c) = call c.place c.statement
 call_form None = this
 
+-- a call whose callee is a name
 abbrev pub name_call_form : List (List ℕ) → Option CallEntry → Form
 name_call_form ts (Some c) = call_of (to_name (name_of ts c.name.number)) c.place c.statement
 name_call_form ts None = this
 
+-- a call whose callee is a property with a fixed key
 abbrev pub member_call_form : List (List ℕ) → Option CallEntry → Form
 member_call_form ts (Some c) = call_of (to_member (name_of ts c.name.number)) c.place c.statement
 member_call_form ts None = this
 
+-- a call whose callee is a property with a computed key
 abbrev pub index_call_form : Option CallEntry → Form
 index_call_form (Some c) = call_of to_index c.place c.statement
 index_call_form None = this

@@ -23,13 +23,14 @@ is_task_only ops.Ending = true
 is_task_only ops.ObjectRest = true
 is_task_only op = false
 
--- `++` or `--`, and whether it stands in front
+-- which of `++` and `--` an update is
 abbrev pub operator_of : UpdateKind → UpdateOperator
 operator_of kinds.PrefixIncrement = updates.Increment
 operator_of kinds.PrefixDecrement = updates.Decrement
 operator_of kinds.PostfixIncrement = updates.Increment
 operator_of kinds.PostfixDecrement = updates.Decrement
 
+-- the operator stands in front of its target
 abbrev pub is_prefix : UpdateKind → Bool
 is_prefix kinds.PrefixIncrement = true
 is_prefix kinds.PrefixDecrement = true

@@ -22,6 +22,7 @@ constant_at t n = unwrap_or (slice_get t.constants.items n) values.Undefined
 abbrev pub kids_between : NodeTable → ℕ → ℕ → List ℕ
 kids_between t from to = take (to - from) (drop from t.kids.items)
 
+-- the terms of some nodes, by the term that each has
 abbrev pub terms : (ℕ → Term) → List ℕ → Terms
 terms at [] = end
 terms at (k ∷ ks) = more (at k) (terms at ks)
@@ -35,6 +36,7 @@ node_term ts t at (Some n) =
     if is_literal n.op then done (constant_at t n.info)
     else part (form_of ts t n.op n.info) (terms at (kids_between t n.first n.mid)) (terms at (kids_between t n.mid n.end))
 
+-- the tree of a node, down to so many levels
 abbrev pub tree_within : List (List ℕ) → NodeTable → ℕ → ℕ → Term
 tree_within ts t zero n = done values.Undefined
 tree_within ts t (suc fuel) n = node_term ts t (tree_within ts t fuel) (slice_get t.nodes.items n)
@@ -49,10 +51,12 @@ trees ts t from to = terms (tree ts t) (kids_between t from to)
 
 -- ---- tables: the parts of each node stand before it
 
+-- all of these numbers are below one
 abbrev pub EachBelow : ℕ → List ℕ → Type 0
 EachBelow n [] = Unit {0}
 EachBelow n (k ∷ ks) = (k < n) × EachBelow n ks
 
+-- what holds of a node of a table: its parts stand before it, and it does nothing that comes up in a run alone
 pub record IsNode (t : NodeTable) (n : ℕ) (node : Node) : Type 0 where
   pub before : EachBelow n (kids_between t node.first node.end)
   pub now : node.first ≤ node.mid
@@ -61,18 +65,22 @@ pub record IsNode (t : NodeTable) (n : ℕ) (node : Node) : Type 0 where
   pub source : is_task_only node.op ≡ false
   pub turns : is_loop node.op ≡ true → node.info ≡ 0
 
+-- what stands at this place of a table is a node of it, if anything does
 abbrev pub IsNodeAt : NodeTable → ℕ → Option Node → Type 0
 IsNodeAt t n None = Unit {0}
 IsNodeAt t n (Some node) = IsNode t n node
 
+-- all nodes of a table are such
 pub record IsTable (t : NodeTable) : Type 0 where
   pub nodes : (n : ℕ) → IsNodeAt t n (slice_get t.nodes.items n)
 
 -- ---- the program
 
+-- a source with the tree of its node
 abbrev pub source_tree : List (List ℕ) → NodeTable → SourceEntry → SourceTree
 source_tree ts t e = record { source = e.source; tree = tree ts t e.root }
 
+-- some sources with the trees of their nodes
 abbrev pub source_trees : List (List ℕ) → NodeTable → List SourceEntry → Program
 source_trees ts t [] = []
 source_trees ts t (e ∷ es) = source_tree ts t e ∷ source_trees ts t es

@@ -24,24 +24,31 @@ use Rattle.js_compile.specs.Plain.{is_plain_form, is_plain, are_plain}
 
 -- ---- names, however their table goes on
 
+-- the number has this text
 abbrev pub Known : List (List ℕ) → ℕ → List ℕ → Type 0
 Known ts n text = (us : List (List ℕ)) → GoesOn ts us → name_of us n ≡ text
 
+-- the numbered name is this one of a scope
 abbrev pub IsBinding : List (List ℕ) → Slot → Binding → Type 0
 IsBinding ts s b = (us : List (List ℕ)) → GoesOn ts us → binding_at us s ≡ b
 
+-- the numbered names are these of a scope
 abbrev pub AreBindings : List (List ℕ) → List Slot → List Binding → Type 0
 AreBindings ts ss bs = (us : List (List ℕ)) → GoesOn ts us → bindings us ss ≡ bs
 
+-- the numbers have these texts
 abbrev pub AreTexts : List (List ℕ) → List NameId → List (List ℕ) → Type 0
 AreTexts ts ns texts = (us : List (List ℕ)) → GoesOn ts us → texts_of us ns ≡ texts
 
+-- the entry is that of this member of an object literal
 abbrev pub IsMember : List (List ℕ) → MemberEntry → Member → Type 0
 IsMember ts e m = (us : List (List ℕ)) → GoesOn ts us → member_of us e ≡ m
 
+-- the entries are those of these members
 abbrev pub AreMembers : List (List ℕ) → List MemberEntry → List Member → Type 0
 AreMembers ts es ms = (us : List (List ℕ)) → GoesOn ts us → members_of us es ≡ ms
 
+-- the entry is that of this function
 abbrev pub IsFunction : List (List ℕ) → FunctionEntry → FunctionForm → Type 0
 IsFunction ts e f = (us : List (List ℕ)) → GoesOn ts us → function_of us e ≡ f
 
@@ -67,19 +74,23 @@ pub record Extends (t u : NodeTable) : Type 0 where
 
 -- ---- functions: the entry of a function has the number of its node
 
+-- there is an entry, and it has the number of this node
 abbrev pub IsEntryAt : ℕ → Option FunctionEntry → Type 0
 IsEntryAt n None = ⊥
 IsEntryAt n (Some e) = e.at ≡ n
 
+-- a node that is a function or a method has an entry with its number
 abbrev pub IsPlacedAt : NodeTable → Op → ℕ → ℕ → Type 0
 IsPlacedAt t ops.Function info n = IsEntryAt n (slice_get t.functions.items info)
 IsPlacedAt t ops.Method info n = IsEntryAt n (slice_get t.functions.items info)
 IsPlacedAt t op info n = Unit {0}
 
+-- the node that stands there has, if one does
 abbrev pub IsPlacedNode : NodeTable → ℕ → Option Node → Type 0
 IsPlacedNode t n None = Unit {0}
 IsPlacedNode t n (Some node) = IsPlacedAt t node.op node.info n
 
+-- each function and method of a table has an entry with the number of its node
 pub record HasPlaces (t : NodeTable) : Type 0 where
   pub nodes : (n : ℕ) → IsPlacedNode t n (slice_get t.nodes.items n)
 
@@ -123,6 +134,7 @@ abbrev pub Holds : List (List ℕ) → NodeTable → Term → Option ℕ → Typ
 Holds ts t x None = is_plain x ≡ false
 Holds ts t x (Some n) = HasTree ts t n x
 
+-- the answer for some terms: nodes, or none where no nodes have such trees
 abbrev pub HoldsAll : List (List ℕ) → NodeTable → Terms → Option (Vec ℕ) → Type 0
 HoldsAll ts t xs None = are_plain xs ≡ false
 HoldsAll ts t xs (Some ns) = HaveTrees ts t ns.items xs

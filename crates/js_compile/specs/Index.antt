@@ -14,6 +14,7 @@ use Rattle.js_code.specs.Codes.{code_of_number, indexed_code}
 abbrev pub number_at : List ℕ → ℕ → ℕ
 number_at index x = unwrap_or (slice_get index x) 0
 
+-- the node in its source of the function of an entry, if there is one
 abbrev pub node_of : Option FunctionEntry → Option ℕ
 node_of (Some e) = Some e.node
 node_of None = None
@@ -22,6 +23,7 @@ node_of None = None
 abbrev pub body_node : NodeTable → Node → Option ℕ
 body_node t node = if nat_lt node.mid node.end then node_of (slice_get t.functions.items node.info) else None
 
+-- a function's or a method's node in its source; anything else has none
 abbrev pub function_node_by : Op → Option ℕ → Option ℕ
 function_node_by ops.Function at = at
 function_node_by ops.Method at = at
@@ -50,6 +52,7 @@ pub record IsIndexed (t : NodeTable) (s e : SourceEntry) : Type 0 where
   pub root : e.root ≡ s.root
   pub finds : (ts : List (List ℕ)) (x : ℕ) → function_in x (tree ts t e.root) ≡ indexed_code ts t e x
 
+-- some sources, each with its index
 abbrev pub AreIndexed : NodeTable → List SourceEntry → List SourceEntry → Type 0
 AreIndexed t [] [] = Unit {0}
 AreIndexed t (s ∷ ss) (e ∷ es) = IsIndexed t s e × AreIndexed t ss es

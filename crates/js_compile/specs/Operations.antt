@@ -40,6 +40,7 @@ is_bare (ops.UpdateIndex k) = true
 is_bare ops.DeleteIndex = true
 is_bare op = false
 
+-- the form of what needs no number
 abbrev pub bare_form : Op → Form
 bare_form ops.Scripts = scripts
 bare_form ops.Sequence = sequence
@@ -74,6 +75,7 @@ is_placed ops.EnterDebugger = true
 is_placed ops.Throw = true
 is_placed op = false
 
+-- the form of what has the number of a node
 abbrev pub placed_form : Op → ℕ → Form
 placed_form ops.Enter node = enter node
 placed_form ops.EnterDebugger node = enter_debugger node
@@ -97,6 +99,7 @@ is_named ops.DeleteName = true
 is_named ops.DeleteMember = true
 is_named op = false
 
+-- the form of what has the number of this name
 abbrev pub named_form : Op → List ℕ → Form
 named_form ops.Initialize name = initialize name
 named_form ops.CatchingName name = catching (Some name)
@@ -115,6 +118,7 @@ named_form op name = this
 
 -- ---- forms that need neither names nor an entry
 
+-- a loop at this stage, as what a node does
 abbrev pub stage_op : Stage → Op
 stage_op first = ops.LoopFirst
 stage_op doing = ops.LoopDoing
@@ -122,9 +126,11 @@ stage_op testing = ops.LoopTesting
 stage_op body = ops.LoopBody
 stage_op updating = ops.LoopUpdating
 
+-- the entry of what needs no number
 abbrev pub bare_entry : Op → Option Entry
 bare_entry op = Some (record { op = op; info = 0 })
 
+-- the entry of what has the number of a node of its source
 abbrev pub placed_entry : Op → ℕ → Option Entry
 placed_entry op node = Some (record { op = op; info = node })
 
@@ -133,6 +139,7 @@ abbrev pub loop_entry : Stage → Option Addr → Option Entry
 loop_entry stage None = bare_entry (stage_op stage)
 loop_entry stage (Some a) = None
 
+-- the entry of such a form; none of any other
 abbrev pub alone_entry : Form → Option Entry
 alone_entry scripts = bare_entry ops.Scripts
 alone_entry sequence = bare_entry ops.Sequence

@@ -4,6 +4,7 @@ use Rattle.js_semantics.specs.declared.form.Form.{Form}
 use Rattle.js_semantics.specs.declared.form.Form.TheVariants.{Scoped as scoped, Frame as frame, Loop as loop, ListOf as list_of, TurnOf as turn_of, BodyOf as body_of, Ending as ending, Literal as literal}
 use Rattle.js_semantics.specs.Terms.{Term, done, standing, part, Terms, end, more}
 
+-- a form that a node has
 abbrev pub is_plain_form : Form → Bool
 is_plain_form (scoped a) = false
 is_plain_form (frame node a) = false
@@ -15,6 +16,7 @@ is_plain_form (ending kept) = false
 is_plain_form (literal text) = false
 is_plain_form f = true
 
+-- a term that a node has, and some of them
 abbrev mutual
   pub is_plain : Term → Bool
   is_plain (done v) = true

@@ -35,6 +35,7 @@ pub record IsSourceAdded (t u : NodeTable) (number root : ℕ) : Type 0 where
   pub node : entry.root ≡ root
   pub sources : u.sources.items ≡ t.sources.items ++ entry ∷ []
 
+-- one more source, where the script has a node
 abbrev pub AddsSource : NodeTable → NodeTable → ℕ → Option ℕ → Type 0
 AddsSource t u number None = Unit {0}
 AddsSource t u number (Some root) = IsSourceAdded t u number root
@@ -50,6 +51,7 @@ pub record HasNodes (ts : List (List ℕ)) (xs : Terms) (t : NodeTable) (root : 
   pub program : (us : List (List ℕ)) → GoesOn ts us → program_of us t ≡ program_from 1 xs
   pub tree : (us : List (List ℕ)) → GoesOn ts us → tree us t root ≡ part scripts xs end
 
+-- the answer: nodes that stand for the scripts, or none where no nodes can
 abbrev pub HaveNodes : List (List ℕ) → Terms → Option ScriptCode → Type 0
 HaveNodes ts xs None = are_plain xs ≡ false
 HaveNodes ts xs (Some c) = HasNodes ts xs c.table c.root

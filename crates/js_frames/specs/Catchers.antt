@@ -12,6 +12,7 @@ is_catcher ops.Catching = true
 is_catcher ops.CatchingName = true
 is_catcher op = false
 
+-- there is a task, and it is a `try` with a `catch`, in its block
 abbrev pub catches_at : Option Wide → Bool
 catches_at None = false
 catches_at (Some w) = is_catcher w.op

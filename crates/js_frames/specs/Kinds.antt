@@ -26,6 +26,7 @@ pub data Kind : Type 0 where
   guarding : Kind
   plain : Kind
 
+-- the kind of a form
 abbrev pub kind_of : Form → Kind
 kind_of (enter node) = entering node
 kind_of (enter_debugger node) = debugging node
@@ -37,28 +38,34 @@ kind_of (script number names) = opening number
 kind_of (catching n) = guarding
 kind_of f = plain
 
+-- the kind of what is about to be reduced in a term
 abbrev pub active_kind : Active → Kind
 active_kind (reduces f vs) = kind_of f
 active_kind a = plain
 
 -- ---- the kind of what a node or a task does
 
+-- the kind of an untouched `for` with names, by its entry
 abbrev pub for_kind : Option ForEntry → Kind
 for_kind (Some e) = entering e.node
 for_kind None = plain
 
+-- the kind of an untouched `for .. of`, by its entry
 abbrev pub for_of_kind : Option ForOfEntry → Kind
 for_of_kind (Some e) = entering e.node
 for_of_kind None = plain
 
+-- the kind of a call, by its entry
 abbrev pub call_kind : Option CallEntry → Kind
 call_kind (Some c) = calling c.place c.statement
 call_kind None = plain
 
+-- the kind of a script, by its entry
 abbrev pub script_kind : Option ScriptEntry → Kind
 script_kind (Some e) = opening e.number
 script_kind None = plain
 
+-- the kind of what a node or a task does, with its number
 abbrev pub op_kind : NodeTable → Op → ℕ → Kind
 op_kind t ops.Enter info = entering info
 op_kind t ops.EnterDebugger info = debugging info
@@ -71,12 +78,14 @@ op_kind t ops.Catching info = guarding
 op_kind t ops.CatchingName info = guarding
 op_kind t op info = plain
 
+-- the kind of what a machine is about to reduce, if anything
 abbrev pub reducing_kind : NodeTable → Option Reducing → Kind
 reducing_kind t None = plain
 reducing_kind t (Some r) = op_kind t r.op r.info
 
 -- ---- what it says
 
+-- the place of an arrival, where what is of this kind is about to be reduced and the next step arrives
 abbrev pub arrival_by : List Span → Kind → Option Mark
 arrival_by spans (entering node) = Some (start node)
 arrival_by spans (debugging node) = Some (start node)
@@ -84,6 +93,7 @@ arrival_by spans (leaving node) = Some (before_end node 1)
 arrival_by spans (calling place node) = call_arrival spans place node
 arrival_by spans k = None
 
+-- the kind is that of an untouched `debugger` statement
 abbrev pub is_debugging : Kind → Bool
 is_debugging (debugging node) = true
 is_debugging k = false
@@ -93,10 +103,12 @@ abbrev pub enters_debugger : Op → Bool
 enters_debugger ops.EnterDebugger = true
 enters_debugger op = false
 
+-- the kind is that of the body of a call
 abbrev pub is_leaving : Kind → Bool
 is_leaving (leaving node) = true
 is_leaving k = false
 
+-- the kind is that of a `try` with a `catch`
 abbrev pub is_guarding : Kind → Bool
 is_guarding guarding = true
 is_guarding k = false

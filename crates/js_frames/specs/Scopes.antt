@@ -10,6 +10,7 @@ abbrev pub is_frame : Op → Bool
 is_frame ops.Frame = true
 is_frame op = false
 
+-- there is a task, and it is the body of an active call
 abbrev pub frame_at : Option Wide → Bool
 frame_at None = false
 frame_at (Some w) = is_frame w.op

@@ -5,6 +5,7 @@ use Rattle.js_tree.specs.declared.script.Script.{Script}
 use Rattle.js_semantics.specs.declared.form.Source.{Source}
 use Rattle.js_semantics.specs.declared.form.Source.TheVariants.{Script as script_source, Kept as kept_source}
 
+-- the spans of a script's nodes, if there is a script
 abbrev pub script_spans : Option Script → List Span
 script_spans None = []
 script_spans (Some s) = s.spans

@@ -34,6 +34,7 @@ pub record TakesItem (context : Context) (taken : List Identifier) (n : ℕ) (ts
   pub no_else : NoElse s r
   pub height : height_of_statement s ≤ n
 
+-- a statement, at most n high
 pub record TakesStatement (context : Context) (n : ℕ) (ts : List Token) (s : Statement) (r : List Token) : Type 0 where
   pub marks : Matches (flat_statement s) ts r
   pub well : WellStatement context s
@@ -48,6 +49,7 @@ pub record TakesBlock (context : Context) (taken : List Identifier) (n : ℕ) (t
   pub fresh : AreFresh taken (declared_names ss)
   pub height : height_of_statements ss ≤ n
 
+-- the parameters of a function and its body, whose statements are at most n high
 pub record TakesCode (n : ℕ) (ts : List Token) (f : Code) (r : List Token) : Type 0 where
   pub marks : Matches (flat_parameters f.parameters ++ flats.in_braces (flat_statements f.body)) ts r
   pub differ : DifferIn f.parameters f.body
@@ -69,6 +71,7 @@ pub record SoundBelow (n : ℕ) (b : Below) : Type 0 where
 
 -- ---- the flat tokens of a production
 
+-- the flat tokens of an item with this value
 abbrev pub marks_of : (i : Item) → Value i → List Mark
 marks_of (tok k) v = token (fixed k) ∷ []
 marks_of (near k) v = beside (fixed k) ∷ []
@@ -86,6 +89,7 @@ marks_of (a_block context taken) ss = flats.in_braces (flat_statements ss)
 marks_of (in_braces context taken) ss = flats.in_braces (flat_statements ss)
 marks_of code f = flat_parameters f.parameters ++ flats.in_braces (flat_statements f.body)
 
+-- the flat tokens of items with these values, one after another
 abbrev pub marks : (is : List Item) → Values is → List Mark
 marks [] vs = []
 marks (i ∷ is) vs = marks_of i vs.0 ++ marks is vs.1
@@ -104,6 +108,7 @@ Sane (in_braces context taken) ss = AreFresh taken (declared_names ss) × WellSt
 Sane code f = DifferIn f.parameters f.body × WellStatements function_body f.body
 Sane i v = Unit {0}
 
+-- the values of all items are well-formed
 abbrev pub AllSane : (is : List Item) → Values is → Type 0
 AllSane [] vs = Unit {0}
 AllSane (i ∷ is) vs = Sane i vs.0 × AllSane is vs.1
@@ -122,6 +127,7 @@ height_at (in_braces context taken) ss = height_of_statements ss
 height_at code f = height_of_statements f.body
 height_at i v = 0
 
+-- how high the highest of some items' values is
 abbrev pub height_all : (is : List Item) → Values is → ℕ
 height_all [] vs = 0
 height_all (i ∷ is) vs = max (height_at i vs.0) (height_all is vs.1)
@@ -140,6 +146,7 @@ pub record TakesAll (n : ℕ) (is : List Item) (ts : List Token) (vs : Values is
   pub last : LastNoElse is vs r
   pub height : height_all is vs ≤ n
 
+-- where what reads below a node is sound, so is what reads the items of a production
 abbrev pub SeqSound : Type 0
 SeqSound = (n : ℕ) (b : Below) → SoundBelow n b → (is : List Item) (ts : List Token) (x : Values is × List Token) → seq b is ts ≡ Ok x → TakesAll n is ts x.0 x.1
 
@@ -151,6 +158,7 @@ Stops plain r = (link (head_of r) ≡ no_link) × (update_near (head_of r) ≡ N
 Stops update r = (operator (head_of r) ≡ None) × (joint (head_of r) ≡ no_joint)
 Stops braces r = Unit {0}
 
+-- no comma comes next
 abbrev pub NoComma : List Token → Type 0
 NoComma r = is_kind kinds.Comma (head_of r) ≡ false
 
@@ -268,10 +276,12 @@ follows_by kinds.Decrement = true
 follows_by kinds.LogicalNot = true
 follows_by kinds.BitwiseNot = true
 
+-- the next token, if there is one, may follow a statement
 abbrev pub follows_statement : Option Token → Bool
 follows_statement None = true
 follows_statement (Some t) = follows_by t.kind
 
+-- what may follow this statement comes next
 abbrev pub Follows : Statement → List Token → Type 0
 Follows s r = (follows_statement (head_of r) ≡ true) × NoElse s r
 
@@ -295,6 +305,7 @@ Ends ended e r = follows_statement (head_of r) ≡ true
 Ends (a_statement context) s r = Follows s r
 Ends i v r = Unit {0}
 
+-- what the last item's value needs of what follows it
 abbrev pub EndsLast : (is : List Item) → Values is → List Token → Type 0
 EndsLast [] vs r = Unit {0}
 EndsLast (i ∷ []) vs r = Ends i vs.0 r
@@ -328,9 +339,11 @@ fits (optional k) is = closes k
 fits (arguments k) is = closes k
 fits i is = true
 
+-- each item fits before those behind it
 abbrev pub all_fit : List Item → Bool
 all_fit [] = true
 all_fit (i ∷ is) = fits i is && all_fit is
 
+-- where every well-formed tree is read below a node, so are the items of a production that fit
 abbrev pub SeqAgain : Type 0
 SeqAgain = (n : ℕ) (b : Below) → AgainBelow n b → (is : List Item) (vs : Values is) (ts r : List Token) → AllSane is vs → height_all is vs ≤ n → all_fit is ≡ true → EndsLast is vs r → Matches (marks is vs) ts r → seq b is ts ≡ Ok (vs, r)

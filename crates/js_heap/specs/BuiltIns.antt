@@ -15,10 +15,11 @@ use Rattle.js_heap.specs.declared.cell.Cell.{Cell}
 use Rattle.js_heap.specs.declared.cell.Cell.TheVariants as cells
 use Rattle.js_heap.specs.World.{World, base_room}
 
--- where they are
+-- where the global scope is, whose names are the built-in ones
 abbrev pub global_scope : Addr
 global_scope = Base 0
 
+-- where the scope of the scripts' top-level names is
 abbrev pub script_scope : Addr
 script_scope = Base 1
 
@@ -46,6 +47,7 @@ built_in_at built_ins.StringIndexOf = Base 21
 built_in_at built_ins.StringSlice = Base 22
 built_in_at built_ins.StringCharCodeAt = Base 23
 
+-- a built-in function as a value
 abbrev pub function_value : BuiltIn → Value
 function_value f = values.Object (built_in_at f)
 
@@ -53,6 +55,7 @@ function_value f = values.Object (built_in_at f)
 abbrev global : List ℕ → Value → Binding
 global n v = record { name = n; constant = true; value = Some v }
 
+-- the names of the global scope
 abbrev globals : List Binding
 globals =
     global (codes "undefined") values.Undefined
@@ -71,12 +74,15 @@ globals =
 abbrev pub message_property : Value → Property
 message_property v = record { key = codes "message"; value = v; writable = true; enumerable = false; configurable = true }
 
+-- a property of a built-in object, which holds a built-in function
 abbrev property : Bool → List ℕ → BuiltIn → Property
 property enumerable key f = record { key = key; value = function_value f; writable = true; enumerable = enumerable; configurable = true }
 
+-- the cell of a built-in function, with its name and its length
 abbrev built_in : BuiltIn → List ℕ → ℕ → Cell
 built_in f n arity = cells.Function (code.BuiltIn f) n arity None values.Undefined
 
+-- the cells of the built-in functions, in the order of their addresses
 abbrev functions : List Cell
 functions =
     built_in built_ins.ConsoleLog (codes "log") 0
@@ -114,7 +120,7 @@ built_in_cells =
 abbrev pub literal_cells : List (List ℕ) → List Cell
 literal_cells texts = map (λ units. cells.Text units) texts
 
--- the address of the n-th literal's cell of a script
+-- the number of the first string literal's cell, behind the built-in cells
 abbrev pub first_literal : ℕ
 first_literal = 24
 

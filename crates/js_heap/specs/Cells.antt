@@ -14,6 +14,7 @@ use Rattle.js_heap.specs.Keys.{same_units, put_property, without_key}
 pub data Kind : Type 0 where
   an_object an_error an_array a_text a_function a_scope : Kind
 
+-- the kind of a cell
 abbrev pub kind_of : Cell → Kind
 kind_of (cells.Object ps) = an_object
 kind_of (cells.Error class ps) = an_error
@@ -28,6 +29,7 @@ kind_of (cells.Bindings k n o ns) = a_scope
 abbrev pub property_weight : Property → ℕ
 property_weight p = 8 + length p.key
 
+-- what properties count together
 abbrev pub properties_weight : List Property → ℕ
 properties_weight [] = 0
 properties_weight (p ∷ ps) = property_weight p + properties_weight ps

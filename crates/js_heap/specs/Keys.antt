@@ -18,6 +18,7 @@ is_shortest [] = false
 is_shortest (d ∷ []) = true
 is_shortest (d ∷ ds) = not (nat_eq d 48)
 
+-- the number of a decimal text, where it is an array index
 abbrev pub index_within : List ℕ → Option ℕ
 index_within key = if nat_lt (digits_value 10 key) (2 ^ 32 - 1) then Some (digits_value 10 key) else None
 
@@ -30,6 +31,7 @@ abbrev pub property_at : List Property → List ℕ → Option Property
 property_at [] key = None
 property_at (p ∷ ps) key = if same_units p.key key then Some p else property_at ps key
 
+-- one of the properties has this key
 abbrev pub has_key : List Property → List ℕ → Bool
 has_key [] key = false
 has_key (p ∷ ps) key = same_units p.key key || has_key ps key

@@ -14,20 +14,25 @@ use Rattle.js_heap.specs.Values.{Result, a_value, a_text, an_error, a_number, a_
 
 -- ---- errors
 
+-- the error of operands that aren't numbers
 abbrev pub not_numbers : Result
 not_numbers = an_error classes.TypeError (codes "Operands must be numbers")
 
+-- the error of an object that is to be a text
 abbrev pub not_a_text : Result
 not_a_text = an_error classes.TypeError (codes "Cannot convert an object to text")
 
+-- the error of values whose types don't compare
 abbrev pub not_comparable : Result
 not_comparable = an_error classes.TypeError (codes "Cannot compare values of different types")
 
+-- the error of a result that is no safe integer
 abbrev pub not_safe : Result
 not_safe = an_error classes.RangeError (codes "Result is not a safe integer")
 
 -- ---- numbers: integers from -(2^53 - 1) to 2^53 - 1 (this project's own; 6.1.6.1 has all doubles)
 
+-- an integer as a result, where it is a safe one
 abbrev pub safe : ℤ → Result
 safe z = if nat_lt (nat_abs z) (2 ^ 53) then a_number z else not_safe
 
@@ -44,6 +49,7 @@ abbrev pub to_unsigned : ℤ → ℕ
 to_unsigned (pos n) = n % 2 ^ 32
 to_unsigned (negsuc n) = (2 ^ 32 - 1) - n % 2 ^ 32
 
+-- the signed integer of 32 bits that has these bits (7.1.6)
 abbrev pub to_signed : ℕ → ℤ
 to_signed n = if nat_lt n (2 ^ 31) then pos n else negsuc ((2 ^ 32 - 1) - n)
 
@@ -51,6 +57,7 @@ to_signed n = if nat_lt n (2 ^ 31) then pos n else negsuc ((2 ^ 32 - 1) - n)
 abbrev pub shift_count : ℤ → ℕ
 shift_count z = to_unsigned z % 32
 
+-- the sign-propagating shift to the right (6.1.6.1.10)
 abbrev pub shifted_right : ℤ → ℕ → ℤ
 shifted_right (pos n) c = pos (n / 2 ^ c)
 shifted_right (negsuc n) c = negsuc (n / 2 ^ c)
@@ -70,10 +77,12 @@ is_before w (values.Number y) (values.Number z) = Some (int_lt y z)
 is_before w (values.Text a) (values.Text b) = Some (units_before (units_at w a) (units_at w b))
 is_before w _ _ = None
 
+-- what a comparison answers; values that don't compare are an error
 abbrev pub answer_of : Option Bool → Result
 answer_of None = not_comparable
 answer_of (Some b) = a_bool b
 
+-- the opposite of what a comparison answers
 abbrev pub negated : Option Bool → Option Bool
 negated None = None
 negated (Some b) = Some (not b)
@@ -111,6 +120,7 @@ on_numbers binaries.RightShift y z = a_number (shifted_right (to_signed (to_unsi
 on_numbers binaries.UnsignedRightShift y z = a_number (pos (to_unsigned y / 2 ^ shift_count z))
 on_numbers _ y z = not_numbers
 
+-- an operator that takes two numbers alone
 abbrev pub numeric : BinaryOperator → Value → Value → Result
 numeric o (values.Number y) (values.Number z) = on_numbers o y z
 numeric o _ _ = not_numbers
@@ -126,6 +136,7 @@ sum_of w (values.Text a) v = joined_texts (text_of w (values.Text a)) (text_of w
 sum_of w v (values.Text b) = joined_texts (text_of w v) (text_of w (values.Text b))
 sum_of w v u = numeric binaries.Add v u
 
+-- what an operator comes to on two values, but for `&&` and `||`, which take theirs one by one
 abbrev pub binary_result : World → BinaryOperator → Value → Value → Result
 binary_result w binaries.Add v u = sum_of w v u
 -- 13.10
@@ -142,12 +153,14 @@ binary_result w o v u = numeric o v u
 
 -- ---- one operand (13.5)
 
+-- an operator that takes one number alone (13.5.4 to 13.5.6)
 abbrev pub number_result : UnaryOperator → Value → Result
 number_result unaries.Plus (values.Number z) = a_number z
 number_result unaries.Minus (values.Number z) = a_number (neg_ℤ z)
 number_result unaries.BitwiseNot (values.Number z) = a_number (to_signed ((2 ^ 32 - 1) - to_unsigned z))
 number_result _ _ = not_numbers
 
+-- what an operator comes to on one value, but for `delete`, which takes a reference
 abbrev pub unary_result : World → UnaryOperator → Value → Result
 unary_result w unaries.Void v = a_value values.Undefined
 unary_result w unaries.Typeof v = a_text (type_text w v)

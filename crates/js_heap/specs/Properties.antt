@@ -19,25 +19,30 @@ pub use Rattle.js_heap.specs.declared.computed.Written.TheVariants.{Change as a_
 
 -- ---- errors
 
+-- the error of a key that is neither a string nor a number
 abbrev pub bad_key : Result
 bad_key = an_error classes.TypeError (codes "Property key must be a string or a number")
 
+-- the error of a property that is read of undefined or null
 abbrev pub cannot_read : List ℕ → List ℕ → Result
 cannot_read what key = an_error classes.TypeError (codes "Cannot read properties of " ++ what ++ codes " (reading '" ++ key ++ codes "')")
 
+-- the message where a property of undefined or null is written or deleted
 abbrev pub cannot_set : List ℕ → List ℕ → List ℕ
 cannot_set what key = codes "Cannot set properties of " ++ what ++ codes " (setting '" ++ key ++ codes "')"
 
+-- the message where a property can't be changed
 abbrev pub cannot_change : List ℕ → List ℕ
 cannot_change key = codes "Cannot change property '" ++ key ++ codes "'"
 
 -- ---- reading (10.1.8; without prototypes)
 
+-- a value where there is one, else another result
 abbrev pub value_or : Option Value → Result → Result
 value_or (Some v) other = a_value v
 value_or None other = other
 
--- the methods of arrays and of strings
+-- the method of arrays that a key names (23.1.3); undefined where it names none
 abbrev pub array_method : List ℕ → Result
 array_method key =
     if same_units key (codes "push") then a_value (function_value built_ins.ArrayPush)
@@ -47,6 +52,7 @@ array_method key =
     else (if same_units key (codes "slice") then a_value (function_value built_ins.ArraySlice)
     else a_value values.Undefined))))
 
+-- the method of strings that a key names (22.1.3); undefined where it names none
 abbrev pub string_method : List ℕ → Result
 string_method key =
     if same_units key (codes "indexOf") then a_value (function_value built_ins.StringIndexOf)
@@ -54,16 +60,17 @@ string_method key =
     else (if same_units key (codes "charCodeAt") then a_value (function_value built_ins.StringCharCodeAt)
     else a_value values.Undefined))
 
--- an array: its elements and its length (10.4.2)
+-- what an array has for a key: an element, its length (10.4.2), or a method
 abbrev pub element_or_method : List Value → List ℕ → Option ℕ → Result
 element_or_method vs key (Some i) = value_or (slice_get vs i) (a_value values.Undefined)
 element_or_method vs key None = if same_units key (codes "length") then a_number (pos (length vs)) else array_method key
 
--- a string: its units and its length (10.4.3)
+-- a unit of a string as a text of its own, where there is one
 abbrev pub unit_or_undefined : Option ℕ → Result
 unit_or_undefined (Some u) = a_text (u ∷ [])
 unit_or_undefined None = a_value values.Undefined
 
+-- what a string has for a key: a unit, its length (10.4.3), or a method
 abbrev pub unit_or_method : List ℕ → List ℕ → Option ℕ → Result
 unit_or_method us key (Some i) = unit_or_undefined (slice_get us i)
 unit_or_method us key None = if same_units key (codes "length") then a_number (pos (length us)) else string_method key
@@ -75,6 +82,7 @@ function_property n l key =
     else (if same_units key (codes "length") then a_number (pos l)
     else a_value values.Undefined)
 
+-- the value of an own property where there is one, else another result
 abbrev pub own_or : Option Property → Result → Result
 own_or (Some p) other = a_value p.value
 own_or None other = other
@@ -85,6 +93,7 @@ error_property class key =
     if same_units key (codes "name") then a_text (class_text class)
     else (if same_units key (codes "message") then a_text [] else a_value values.Undefined)
 
+-- what an object, an error, an array or a function has for a key
 abbrev pub cell_property : Option Cell → List ℕ → Result
 cell_property (Some (cells.Object ps)) key = own_or (property_at ps key) (a_value values.Undefined)
 cell_property (Some (cells.Error class ps)) key = own_or (property_at ps key) (error_property class key)
@@ -101,13 +110,13 @@ property_of w (values.Number z) key = a_value values.Undefined
 property_of w (values.Text a) key = unit_or_method (units_at w a) key (index_of_key key)
 property_of w (values.Object a) key = cell_property (read_cell w a) key
 
--- ---- writing and deleting
+-- ---- writing and deleting: the change of one cell, or an error
 
--- the change of one cell, or an error
-
+-- the refusal where a property can't be changed
 abbrev pub not_changeable : List ℕ → Written
 not_changeable key = refused classes.TypeError (cannot_change key)
 
+-- the refusal of an element behind the length, and of a length that isn't one up to the present one
 abbrev pub bad_length : Written
 bad_length = refused classes.RangeError (codes "Invalid array length")
 
@@ -120,10 +129,12 @@ abbrev pub length_change : Addr → List Value → Value → Written
 length_change a vs (values.Number (pos l)) = if nat_le l (length vs) then a_change a (changes.Length l) else bad_length
 length_change a vs _ = bad_length
 
+-- what writing a property of an array changes: an element or the length
 abbrev pub array_change : Addr → List Value → List ℕ → Option ℕ → Value → Written
 array_change a vs key (Some i) v = element_change a vs i v
 array_change a vs key None v = if same_units key (codes "length") then length_change a vs v else not_changeable key
 
+-- what writing a property of an object, an error or an array changes
 abbrev pub cell_change : Addr → Option Cell → List ℕ → Value → Written
 cell_change a (Some (cells.Object ps)) key v = a_change a (changes.Put key v)
 cell_change a (Some (cells.Error class ps)) key v = a_change a (changes.Put key v)
@@ -137,6 +148,7 @@ property_written w values.Null key v = refused classes.TypeError (cannot_set (co
 property_written w (values.Object a) key v = cell_change a (read_cell w a) key v
 property_written w _ key v = not_changeable key
 
+-- what deleting a property of an object or an error changes
 abbrev pub cell_removal : Addr → Option Cell → List ℕ → Written
 cell_removal a (Some (cells.Object ps)) key = a_change a (changes.Remove key)
 cell_removal a (Some (cells.Error class ps)) key = a_change a (changes.Remove key)

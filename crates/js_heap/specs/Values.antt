@@ -17,9 +17,11 @@ pub use Rattle.js_heap.specs.declared.computed.Computed.TheVariants.{Value as a_
 
 -- ---- results: a value, a text that is a new cell, or an error
 
+-- a number as a result
 abbrev pub a_number : ℤ → Result
 a_number z = a_value (values.Number z)
 
+-- a boolean as a result
 abbrev pub a_bool : Bool → Result
 a_bool b = a_value (values.Bool b)
 
@@ -30,9 +32,11 @@ abbrev pub units_of_cell : Option Cell → List ℕ
 units_of_cell (Some (cells.Text us)) = us
 units_of_cell _ = []
 
+-- the units of the text at an address
 abbrev pub units_at : World → Addr → List ℕ
 units_at w a = units_of_cell (read_cell w a)
 
+-- the text of a boolean
 abbrev pub bool_text : Bool → List ℕ
 bool_text true = codes "true"
 bool_text false = codes "false"
@@ -54,10 +58,12 @@ key_of w _ = None
 
 -- ---- types (13.5.3)
 
+-- the type of an object, of which functions have their own
 abbrev pub object_type : Option Cell → List ℕ
 object_type (Some (cells.Function code n l s t)) = codes "function"
 object_type _ = codes "object"
 
+-- the type of a value, as `typeof` names it
 abbrev pub type_text : World → Value → List ℕ
 type_text w values.Undefined = codes "undefined"
 type_text w values.Null = codes "object"
@@ -68,14 +74,17 @@ type_text w (values.Object a) = object_type (read_cell w a)
 
 -- ---- truth (7.1.2)
 
+-- an integer is 0
 abbrev pub is_zero : ℤ → Bool
 is_zero (pos n) = nat_eq n 0
 is_zero (negsuc n) = false
 
+-- a text has no units
 abbrev pub is_empty : List ℕ → Bool
 is_empty [] = true
 is_empty (u ∷ us) = false
 
+-- a value counts as true (ToBoolean)
 abbrev pub is_truthy : World → Value → Bool
 is_truthy w values.Undefined = false
 is_truthy w values.Null = false
@@ -86,16 +95,19 @@ is_truthy w (values.Object a) = true
 
 -- ---- sameness (7.2.15)
 
+-- two integers are equal
 abbrev pub same_integer : ℤ → ℤ → Bool
 same_integer (pos m) (pos n) = nat_eq m n
 same_integer (negsuc m) (negsuc n) = nat_eq m n
 same_integer _ _ = false
 
+-- two addresses are the same
 abbrev pub same_address : Addr → Addr → Bool
 same_address (Base m) (Base n) = nat_eq m n
 same_address (Scratch m) (Scratch n) = nat_eq m n
 same_address _ _ = false
 
+-- two booleans are equal
 abbrev pub same_bool : Bool → Bool → Bool
 same_bool true b = b
 same_bool false b = not b
@@ -112,24 +124,29 @@ is_same w _ _ = false
 
 -- ---- what is shown (this project's own)
 
+-- the name of an error class
 abbrev pub class_text : ErrorClass → List ℕ
 class_text classes.Error = codes "Error"
 class_text classes.TypeError = codes "TypeError"
 class_text classes.RangeError = codes "RangeError"
 class_text classes.ReferenceError = codes "ReferenceError"
 
+-- the name of a class with a message behind it, unless that is empty
 abbrev pub with_message : List ℕ → List ℕ → List ℕ
 with_message class [] = class
 with_message class (u ∷ us) = class ++ codes ": " ++ u ∷ us
 
+-- the units of a message that is a string; any other shows as none
 abbrev pub message_units : World → Value → List ℕ
 message_units w (values.Text a) = units_at w a
 message_units w _ = []
 
+-- an error as it is shown, by its class and its own `message`
 abbrev pub error_text : World → ErrorClass → Option Property → List ℕ
 error_text w class None = class_text class
 error_text w class (Some p) = with_message (class_text class) (message_units w p.value)
 
+-- an object as it is shown
 abbrev pub cell_text : World → Option Cell → List ℕ
 cell_text w (Some (cells.Array vs)) = codes "[object Array]"
 cell_text w (Some (cells.Function code n l s t)) = codes "function " ++ n

@@ -23,10 +23,11 @@ pub record World : Type 0 where
   pub start : Option ℕ
   pub room : Room
 
--- the limits of a run's and of a session's cells
+-- the limits of a run's cells
 abbrev pub base_room : Room
 base_room = record { cells = 1048576; units = 67108864 }
 
+-- the limits of a session's cells
 abbrev pub scratch_room : Room
 scratch_room = record { cells = 65536; units = 1048576 }
 
@@ -49,11 +50,12 @@ is_own (Some start) (Scratch i) = nat_le start i
 
 -- ---- making
 
--- a new cell behind the others, and its address
+-- where a new cell stands: behind the others, in an evaluation behind those that evaluations made
 abbrev pub next_address : World → Option ℕ → Addr
 next_address w None = Base (length w.base)
 next_address w (Some start) = Scratch (length w.scratch)
 
+-- the world with that cell
 abbrev pub with_cell : World → Option ℕ → Cell → World
 with_cell w None c = record w { base = w.base ++ c ∷ [] }
 with_cell w (Some start) c = record w { scratch = w.scratch ++ c ∷ [] }
@@ -90,6 +92,7 @@ written w a old (Some new) =
     then fine tt (record (replaced w a new) { room = room_after w.room (weight old) (weight new) })
     else full counted.Units
 
+-- the change of the cell at an address; where none is live nothing changes
 abbrev pub written_at : World → Addr → Option Cell → Change → Tried (Unit {0})
 written_at w a None c = fine tt w
 written_at w a (Some old) c = written w a old (changed old c)
@@ -98,6 +101,6 @@ written_at w a (Some old) c = written w a old (changed old c)
 abbrev pub write_cell : World → Addr → Change → Tried (Unit {0})
 write_cell w a c = if is_own w.start a then written_at w a (read_cell w a) c else effect
 
--- what reaches outside, as printing does; refused in an evaluation
+-- the world is that of an evaluation, where what reaches outside, as printing does, is refused
 abbrev pub is_evaluation : World → Bool
 is_evaluation w = is_some w.start

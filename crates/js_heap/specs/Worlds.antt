@@ -23,9 +23,11 @@ IsObjectKind a_text = ⊥
 IsObjectKind a_function = Unit {0}
 IsObjectKind a_scope = ⊥
 
+-- a text
 abbrev pub IsTextKind : Kind → Type 0
 IsTextKind k = k ≡ a_text
 
+-- a scope
 abbrev pub IsScopeKind : Kind → Type 0
 IsScopeKind k = k ≡ a_scope
 
@@ -36,31 +38,38 @@ Leads P (Some c) = P (kind_of c)
 
 -- ---- sound worlds: what a cell names is live and of the right kind
 
+-- the text or the object that a value names is live
 abbrev pub SoundValue : World → Value → Type 0
 SoundValue w (values.Text a) = Leads IsTextKind (read_cell w a)
 SoundValue w (values.Object a) = Leads IsObjectKind (read_cell w a)
 SoundValue w _ = Unit {0}
 
+-- a scope is live, where there is one
 abbrev pub SoundScope : World → Option Addr → Type 0
 SoundScope w None = Unit {0}
 SoundScope w (Some a) = Leads IsScopeKind (read_cell w a)
 
+-- the value of a name names what is live, where it has one
 abbrev pub SoundBinding : World → Option Value → Type 0
 SoundBinding w None = Unit {0}
 SoundBinding w (Some v) = SoundValue w v
 
+-- each of these values names what is live
 abbrev pub SoundValues : World → List Value → Type 0
 SoundValues w [] = Unit {0}
 SoundValues w (v ∷ vs) = SoundValue w v × SoundValues w vs
 
+-- the value of each of these properties names what is live
 abbrev pub SoundProperties : World → List Property → Type 0
 SoundProperties w [] = Unit {0}
 SoundProperties w (p ∷ ps) = SoundValue w p.value × SoundProperties w ps
 
+-- each of these names that has a value has one that names what is live
 abbrev pub SoundNames : World → List Binding → Type 0
 SoundNames w [] = Unit {0}
 SoundNames w (b ∷ bs) = SoundBinding w b.value × SoundNames w bs
 
+-- all that a cell names is live and of the right kind
 abbrev pub SoundCell : World → Cell → Type 0
 SoundCell w (cells.Object ps) = SoundProperties w ps
 SoundCell w (cells.Error class ps) = SoundProperties w ps
@@ -69,14 +78,17 @@ SoundCell w (cells.Text us) = Unit {0}
 SoundCell w (cells.Function code n l s t) = SoundScope w s × SoundValue w t
 SoundCell w (cells.Bindings k n o ns) = SoundScope w o × SoundNames w ns
 
+-- all that these cells name is live and of the right kind
 abbrev pub SoundCells : World → List Cell → Type 0
 SoundCells w [] = Unit {0}
 SoundCells w (c ∷ cs) = SoundCell w c × SoundCells w cs
 
+-- all that the cells of a world name is live in it and of the right kind
 pub record IsSound (w : World) : Type 0 where
   pub base_cells : SoundCells w w.base
   pub scratch_cells : SoundCells w w.scratch
 
+-- the value that a change puts into a cell names what is live
 abbrev pub SoundChange : World → Change → Type 0
 SoundChange w (changes.Put k v) = SoundValue w v
 SoundChange w (changes.Element i v) = SoundValue w v
@@ -96,6 +108,7 @@ abbrev pub OthersStay : Option ℕ → World → World → Type 0
 OthersStay None w v = Unit {0}
 OthersStay (Some n) w v = (v.base ≡ w.base) × (n ≤ length w.scratch → (n ≤ length v.scratch) × (take n v.scratch ≡ take n w.scratch))
 
+-- what every change of a world keeps: which cells may be written, each cell's kind, and in an evaluation the cells of others
 pub record Keeps (w v : World) : Type 0 where
   pub start : v.start ≡ w.start
   pub kinds : (a : Addr) → KindStays (read_cell w a) (read_cell v a)
@@ -112,6 +125,7 @@ pub record HasMade (w : World) (c : Cell) (a : Addr) (v : World) : Type 0 where
   pub made : read_cell v a ≡ Some c
   pub others : (b : Addr) → CellStays (read_cell w b) (read_cell v b)
 
+-- a cell after its change, or as it was where the change is none
 abbrev pub cell_or : Option Cell → Cell → Cell
 cell_or None old = old
 cell_or (Some new) old = new

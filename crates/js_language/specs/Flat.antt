@@ -15,7 +15,7 @@ use Rattle.js_language.specs.Tokens.{fixed, identifier, identifier_name, numeric
 
 -- ---- operators
 
--- the token of an operator
+-- the token of an operator in front of its operand
 abbrev pub unary_kind : UnaryOperator → TokenKind
 unary_kind unaries.Delete = kinds.Delete
 unary_kind unaries.Void = kinds.Void
@@ -25,10 +25,12 @@ unary_kind unaries.Minus = kinds.Minus
 unary_kind unaries.BitwiseNot = kinds.BitwiseNot
 unary_kind unaries.LogicalNot = kinds.LogicalNot
 
+-- the token of an update operator
 abbrev pub update_kind : UpdateOperator → TokenKind
 update_kind updates.Increment = kinds.Increment
 update_kind updates.Decrement = kinds.Decrement
 
+-- the token of an operator between two operands
 abbrev pub binary_kind : BinaryOperator → TokenKind
 binary_kind binaries.LogicalOr = kinds.LogicalOr
 binary_kind binaries.LogicalAnd = kinds.LogicalAnd
@@ -52,6 +54,7 @@ binary_kind binaries.Multiply = kinds.Multiply
 binary_kind binaries.Divide = kinds.Divide
 binary_kind binaries.Remainder = kinds.Remainder
 
+-- the token of an assignment operator
 abbrev pub assign_kind : AssignmentOperator → TokenKind
 assign_kind assigns.Assign = kinds.Assign
 assign_kind assigns.Add = kinds.AddAssign
@@ -104,12 +107,15 @@ in_order (ms ∷ pieces) = ms ++ in_order pieces
 abbrev pub a : TokenKind → List Mark
 a k = token (fixed k) ∷ []
 
+-- one token, with no line terminator before it
 abbrev pub beside_last : TokenKind → List Mark
 beside_last k = beside (fixed k) ∷ []
 
+-- a name that isn't reserved
 abbrev pub an_identifier : Identifier → List Mark
 an_identifier n = token (identifier n) ∷ []
 
+-- the semicolon of a statement that ends so
 abbrev pub ends : End → List Mark
 ends end = semicolon end ∷ []
 
@@ -132,22 +138,27 @@ flat_names (n ∷ ns) = token (identifier n) ∷ (more_names ns ++ (trailing_com
 abbrev pub flat_parameters : List Identifier → List Mark
 flat_parameters ns = in_order (a kinds.LeftParenthesis ∷ flat_names ns ∷ a kinds.RightParenthesis ∷ [])
 
+-- the parameters of an arrow function: one name, or names in parentheses
 abbrev pub flat_arrow_parameters : Parameters → List Mark
 flat_arrow_parameters (one_name n) = an_identifier n
 flat_arrow_parameters (name_list ns) = flat_parameters ns
 
+-- the name of a function expression, which may be left out
 abbrev pub flat_optional_name : Option Identifier → List Mark
 flat_optional_name None = []
 flat_optional_name (Some n) = an_identifier n
 
+-- the name of a catch in its parentheses, which may be left out
 abbrev pub flat_catch_parameter : Option Identifier → List Mark
 flat_catch_parameter None = []
 flat_catch_parameter (Some n) = in_order (a kinds.LeftParenthesis ∷ an_identifier n ∷ a kinds.RightParenthesis ∷ [])
 
+-- `true` or `false`
 abbrev pub flat_boolean : Bool → List Mark
 flat_boolean true = a kinds.True
 flat_boolean false = a kinds.False
 
+-- the keyword of a declaration, of names that are constant or not
 abbrev pub let_or_const : Bool → List Mark
 let_or_const true = a kinds.Const
 let_or_const false = a kinds.Let
@@ -157,6 +168,7 @@ abbrev pub trailing : Expressions → List Mark
 trailing no_expressions = []
 trailing (an_expression e es) = trailing_comma ∷ []
 
+-- a trailing comma behind members, where there is one at least
 abbrev pub trailing_property : Properties → List Mark
 trailing_property no_properties = []
 trailing_property (a_property p ps) = trailing_comma ∷ []

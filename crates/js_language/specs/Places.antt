@@ -36,19 +36,22 @@ abbrev pub in_turn : List (List Place) → List Place
 in_turn [] = []
 in_turn (ps ∷ pieces) = ps ++ in_turn pieces
 
--- flat tokens, which begin and end no node
+-- the place of a flat token
 abbrev pub place_of : Mark → Place
 place_of (token s) = stands s
 place_of (beside s) = stands s
 place_of (semicolon end) = stands_maybe kinds.Semicolon
 place_of trailing_comma = stands_maybe kinds.Comma
 
+-- the places of flat tokens, among which no node begins or ends
 abbrev pub plain : List Mark → List Place
 plain ms = map place_of ms
 
+-- one token, as a symbol
 abbrev pub a_symbol : Symbol → List Mark
 a_symbol s = token s ∷ []
 
+-- a semicolon or a comma that may be absent
 abbrev pub may_stand : TokenKind → List Place
 may_stand kind = stands_maybe kind ∷ []
 
@@ -56,17 +59,20 @@ may_stand kind = stands_maybe kind ∷ []
 abbrev pub node_of : NodeId → List (List Place) → List Place
 node_of node pieces = opens node.0 ∷ (in_turn pieces ++ (closes node.0 ∷ []))
 
+-- places in braces
 abbrev pub in_braces : List Place → List Place
 in_braces ps = in_turn (plain (a kinds.LeftBrace) ∷ ps ∷ plain (a kinds.RightBrace) ∷ [])
 
+-- places in parentheses
 abbrev pub in_parentheses : List Place → List Place
 in_parentheses ps = in_turn (plain (a kinds.LeftParenthesis) ∷ ps ∷ plain (a kinds.RightParenthesis) ∷ [])
 
--- each piece behind a comma, and pieces with commas between
+-- pieces, each behind a comma
 abbrev pub behind_commas : List (List Place) → List Place
 behind_commas [] = []
 behind_commas (ps ∷ pieces) = in_turn (plain (a kinds.Comma) ∷ ps ∷ behind_commas pieces ∷ [])
 
+-- pieces with commas between them
 abbrev pub with_commas : List (List Place) → List Place
 with_commas [] = []
 with_commas (ps ∷ pieces) = ps ++ behind_commas pieces
@@ -76,19 +82,23 @@ abbrev pub if_some : Option (List Place) → List Place
 if_some None = []
 if_some (Some ps) = ps
 
+-- an initializer behind its `=`, which may be left out
 abbrev pub assign_if_some : Option (List Place) → List Place
 assign_if_some None = []
 assign_if_some (Some ps) = plain (a kinds.Assign) ++ ps
 
+-- the block of a finally behind its keyword, which may be left out
 abbrev pub finally_if_some : Option (List Place) → List Place
 finally_if_some None = []
 finally_if_some (Some ps) = plain (a kinds.Finally) ++ ps
 
 -- ---- one level of each type, with the pieces of its parts in their places
 
+-- a level of a tree whose parts are the places that they have
 abbrev pub Pieces : (Type 0 → Type 0 → Type 0 → Type 0 → Type 0 → Type 0 → Type 0 → Type 0 → Type 0 → Type 0 → Type 0 → Type 0) → Type 0
 Pieces F = F (List Place) (List Place) (List Place) (List Place) (List Place) (List Place) (List Place) (List Place) (List Place) (List Place) (List Place)
 
+-- the places of an expression
 abbrev pub expression_pieces : Pieces Expr-F → List Place
 expression_pieces (Expr-F.This node) = node_of node (plain (a kinds.This) ∷ [])
 expression_pieces (Expr-F.Name node name) = node_of node (plain (an_identifier name) ∷ [])
@@ -113,17 +123,20 @@ expression_pieces (Expr-F.Conditional node test consequent alternate) = node_of 
 expression_pieces (Expr-F.Assign node operator target value) = node_of node (target.value ∷ plain (a (assign_kind operator)) ∷ value.value ∷ [])
 expression_pieces (Expr-F.Comma node expressions) = node_of node (expressions ∷ [])
 
+-- the places of the key of a member, which is no node of its own
 abbrev pub key_pieces : Pieces PropertyName-F → List Place
 key_pieces (PropertyName-F.Word name) = plain (a_symbol (identifier_name name))
 key_pieces (PropertyName-F.StringLiteral value) = plain (a_symbol (string_literal value))
 key_pieces (PropertyName-F.NumericLiteral value) = plain (a_symbol (numeric_literal value.value))
 key_pieces (PropertyName-F.Computed key) = in_turn (plain (a kinds.LeftBracket) ∷ key ∷ plain (a kinds.RightBracket) ∷ [])
 
+-- the places of a member of an object literal, of which a method alone is a node
 abbrev pub property_pieces : Pieces PropertyDefinition-F → List Place
 property_pieces (PropertyDefinition-F.Shorthand name) = plain (an_identifier name)
 property_pieces (PropertyDefinition-F.Value key value) = in_turn (key ∷ plain (a kinds.Colon) ∷ value ∷ [])
 property_pieces (PropertyDefinition-F.Method node key parameters body) = node_of node (key ∷ plain (flat_parameters parameters) ∷ in_braces body ∷ [])
 
+-- the places of a statement or declaration
 abbrev pub statement_pieces : Pieces Stmt-F → List Place
 statement_pieces (Stmt-F.Block block) = block
 statement_pieces (Stmt-F.If node test consequent None) = node_of node (plain (a kinds.If) ∷ in_parentheses test ∷ consequent.value ∷ [])
@@ -144,68 +157,89 @@ statement_pieces (Stmt-F.Try node block handler finalizer) = node_of node (plain
 statement_pieces (Stmt-F.Debugger node) = node_of node (plain (a kinds.Debugger) ∷ may_stand kinds.Semicolon ∷ [])
 statement_pieces (Stmt-F.FunctionDeclaration node name parameters body) = node_of node (plain (a kinds.Function) ∷ plain (an_identifier name) ∷ plain (flat_parameters parameters) ∷ in_braces body ∷ [])
 
+-- the places of a block
 abbrev pub block_pieces : Pieces layers.Block-F → List Place
 block_pieces b = node_of b.node (in_braces b.body ∷ [])
 
+-- the places of a catch, which is no node of its own
 abbrev pub catch_pieces : Pieces layers.Catch-F → List Place
 catch_pieces c = in_turn (plain (a kinds.Catch) ∷ plain (flat_catch_parameter c.parameter) ∷ c.block ∷ [])
 
+-- the places of a declarator, which is no node of its own
 abbrev pub declarator_pieces : Pieces layers.Declarator-F → List Place
 declarator_pieces d = plain (an_identifier d.name) ++ assign_if_some d.initializer
 
+-- the places of declarators, with commas between
 abbrev pub declarators_pieces : Pieces layers.Declarators-F → List Place
 declarators_pieces ds = with_commas ds.items.items
 
+-- the places of expressions, with commas between
 abbrev pub expressions_pieces : Pieces layers.Exprs-F → List Place
 expressions_pieces es = with_commas es.items.items
 
+-- the places of members, with commas between
 abbrev pub properties_pieces : Pieces layers.PropertyDefinitions-F → List Place
 properties_pieces ps = with_commas ps.items.items
 
+-- the places of statements, one after another
 abbrev pub statements_pieces : Pieces layers.Stmts-F → List Place
 statements_pieces ss = in_turn ss.items.items
 
 -- ---- the places of each type of tree
 
+-- the places of an expression
 unfoldable pub expression_places : Expr → List Place
 expression_places = fold-Expr (List Place) (List Place) (List Place) (List Place) (List Place) (List Place) (List Place) (List Place) (List Place) (List Place) (List Place) expression_pieces property_pieces key_pieces statement_pieces block_pieces catch_pieces declarator_pieces declarators_pieces expressions_pieces properties_pieces statements_pieces
 
+-- the places of a member of an object literal
 unfoldable pub property_places : PropertyDefinition → List Place
 property_places = fold-PropertyDefinition (List Place) (List Place) (List Place) (List Place) (List Place) (List Place) (List Place) (List Place) (List Place) (List Place) (List Place) expression_pieces property_pieces key_pieces statement_pieces block_pieces catch_pieces declarator_pieces declarators_pieces expressions_pieces properties_pieces statements_pieces
 
+-- the places of the key of a member
 unfoldable pub key_places : PropertyName → List Place
 key_places = fold-PropertyName (List Place) (List Place) (List Place) (List Place) (List Place) (List Place) (List Place) (List Place) (List Place) (List Place) (List Place) expression_pieces property_pieces key_pieces statement_pieces block_pieces catch_pieces declarator_pieces declarators_pieces expressions_pieces properties_pieces statements_pieces
 
+-- the places of a statement or declaration
 unfoldable pub statement_places : Stmt → List Place
 statement_places = fold-Stmt (List Place) (List Place) (List Place) (List Place) (List Place) (List Place) (List Place) (List Place) (List Place) (List Place) (List Place) expression_pieces property_pieces key_pieces statement_pieces block_pieces catch_pieces declarator_pieces declarators_pieces expressions_pieces properties_pieces statements_pieces
 
+-- the places of a block
 unfoldable pub block_places : Block → List Place
 block_places = fold-Block (List Place) (List Place) (List Place) (List Place) (List Place) (List Place) (List Place) (List Place) (List Place) (List Place) (List Place) expression_pieces property_pieces key_pieces statement_pieces block_pieces catch_pieces declarator_pieces declarators_pieces expressions_pieces properties_pieces statements_pieces
 
+-- the places of a catch
 unfoldable pub catch_places : Catch → List Place
 catch_places = fold-Catch (List Place) (List Place) (List Place) (List Place) (List Place) (List Place) (List Place) (List Place) (List Place) (List Place) (List Place) expression_pieces property_pieces key_pieces statement_pieces block_pieces catch_pieces declarator_pieces declarators_pieces expressions_pieces properties_pieces statements_pieces
 
+-- the places of a declarator
 unfoldable pub declarator_places : Declarator → List Place
 declarator_places = fold-Declarator (List Place) (List Place) (List Place) (List Place) (List Place) (List Place) (List Place) (List Place) (List Place) (List Place) (List Place) expression_pieces property_pieces key_pieces statement_pieces block_pieces catch_pieces declarator_pieces declarators_pieces expressions_pieces properties_pieces statements_pieces
 
+-- the places of the declarators of a declaration
 unfoldable pub declarators_places : Declarators → List Place
 declarators_places = fold-Declarators (List Place) (List Place) (List Place) (List Place) (List Place) (List Place) (List Place) (List Place) (List Place) (List Place) (List Place) expression_pieces property_pieces key_pieces statement_pieces block_pieces catch_pieces declarator_pieces declarators_pieces expressions_pieces properties_pieces statements_pieces
 
+-- the places of a list of expressions
 unfoldable pub expressions_places : Exprs → List Place
 expressions_places = fold-Exprs (List Place) (List Place) (List Place) (List Place) (List Place) (List Place) (List Place) (List Place) (List Place) (List Place) (List Place) expression_pieces property_pieces key_pieces statement_pieces block_pieces catch_pieces declarator_pieces declarators_pieces expressions_pieces properties_pieces statements_pieces
 
+-- the places of the members of an object literal
 unfoldable pub properties_places : PropertyDefinitions → List Place
 properties_places = fold-PropertyDefinitions (List Place) (List Place) (List Place) (List Place) (List Place) (List Place) (List Place) (List Place) (List Place) (List Place) (List Place) expression_pieces property_pieces key_pieces statement_pieces block_pieces catch_pieces declarator_pieces declarators_pieces expressions_pieces properties_pieces statements_pieces
 
+-- the places of a list of statements
 unfoldable pub statements_places : Stmts → List Place
 statements_places = fold-Stmts (List Place) (List Place) (List Place) (List Place) (List Place) (List Place) (List Place) (List Place) (List Place) (List Place) (List Place) expression_pieces property_pieces key_pieces statement_pieces block_pieces catch_pieces declarator_pieces declarators_pieces expressions_pieces properties_pieces statements_pieces
 
+-- the places of an expression that may be left out
 abbrev pub optional_places : Option Expr → List Place
 optional_places e = if_some (option_map expression_places e)
 
+-- the places of a catch that may be left out
 abbrev pub handler_places : Option Catch → List Place
 handler_places h = if_some (option_map catch_places h)
 
+-- the places of a finally that may be left out, with its keyword
 abbrev pub finalizer_places : Option Block → List Place
 finalizer_places f = finally_if_some (option_map block_places f)
 
@@ -221,11 +255,12 @@ numbers_of (closes n ∷ ps) = n ∷ numbers_of ps
 
 -- ---- spans
 
--- where the next token begins, and where it ends
+-- where the next token begins
 abbrev pub start_of : Option Token → ℕ
 start_of None = 0
 start_of (Some t) = t.start
 
+-- where the next token ends
 abbrev pub end_of : Option Token → ℕ
 end_of None = 0
 end_of (Some t) = t.end

@@ -3,7 +3,7 @@ use Rattle.std.specs.Prelude.{◌≡◌, ◌⊎◌, ℕ, Bool, true, false, not,
 use Rattle.js_lexer.specs.declared.token.TokenKind.{TokenKind}
 use Rattle.js_lexer.specs.declared.token.TokenKind.TheVariants as kinds
 
--- A token of a source. Its string value is that of a word or a string literal (ECMA-262, 13.1.2 and 12.9.4.1), its numeric value that of a number (12.9.3.3); it stands from start up to end.
+-- A token of a source. Its string value is that of a word or a string literal (ECMA-262, 13.1.2 and 12.9.4.2), its numeric value that of a number (12.9.3.3); it stands from start up to end.
 pub record Token : Type 0 where
   pub kind : TokenKind
   pub string_value : List ℕ

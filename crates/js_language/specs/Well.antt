@@ -102,11 +102,12 @@ takes _ e = true
 
 -- ---- first tokens
 
--- the first token is of this kind
+-- the first token is `{`
 abbrev pub begins_with_brace : List Mark → Bool
 begins_with_brace (token (fixed kinds.LeftBrace) ∷ ms) = true
 begins_with_brace _ = false
 
+-- the first token is `function`
 abbrev pub begins_with_function : List Mark → Bool
 begins_with_function (token (fixed kinds.Function) ∷ ms) = true
 begins_with_function _ = false
@@ -122,6 +123,7 @@ abbrev pub AreFresh : List Identifier → List Identifier → Type 0
 AreFresh taken [] = Unit {0}
 AreFresh taken (n ∷ ns) = (is_among taken n ≡ false) × AreFresh (n ∷ taken) ns
 
+-- the names that declarators declare
 abbrev pub names_of_declarators : Declarators → List Identifier
 names_of_declarators no_declarators = []
 names_of_declarators (a_declarator (declarator n e) ds) = n ∷ names_of_declarators ds
@@ -132,14 +134,17 @@ declared_by (lexical c ds) = names_of_declarators ds
 declared_by (declared_function n ps body) = n ∷ []
 declared_by _ = []
 
+-- the names that a list of statements declares (8.2.4, LexicallyDeclaredNames)
 abbrev pub declared_names : Statements → List Identifier
 declared_names no_statements = []
 declared_names (a_statement s ss) = declared_by s ++ declared_names ss
 
--- the parameters of a function differ from one another and from the names of its body, and so do these (15.2.1, as in strict code; the project's own for function declarations)
+-- the parameters of a function and the names that its body's list declares all differ from one another
+-- (15.2.1, as in strict code; the project's own for function declarations)
 abbrev pub DifferIn : List Identifier → Statements → Type 0
 DifferIn ps body = AreFresh [] ps × AreFresh ps (declared_names body)
 
+-- the names of an arrow function's parameters
 abbrev pub names_of_parameters : Parameters → List Identifier
 names_of_parameters (one_name n) = n ∷ []
 names_of_parameters (name_list ns) = ns
@@ -179,6 +184,7 @@ ends_in_if (for_lexical c ds t u s) = ends_in_if s
 ends_in_if (for_of c n e s) = ends_in_if s
 ends_in_if _ = false
 
+-- a declarator has its initializer
 abbrev pub has_initializer : Declarator → Bool
 has_initializer (declarator n omitted) = false
 has_initializer (declarator n (present e)) = true
@@ -189,11 +195,12 @@ IsInitialized false ds = Unit {0}
 IsInitialized true no_declarators = Unit {0}
 IsInitialized true (a_declarator d ds) = (has_initializer d ≡ true) × IsInitialized true ds
 
--- one expression at least, two at least
+-- there is one declarator at least
 abbrev pub is_some_declarator : Declarators → Bool
 is_some_declarator no_declarators = false
 is_some_declarator (a_declarator d ds) = true
 
+-- there are two expressions at least
 abbrev pub is_two_expressions : Expressions → Bool
 is_two_expressions (an_expression e (an_expression f es)) = true
 is_two_expressions _ = false
@@ -205,6 +212,7 @@ is_handled _ _ = true
 
 -- ---- well-formed trees
 
+-- the tree is well-formed, for each type of trees; a statement by what it stands in
 abbrev mutual
   pub Well : Expression → Type 0
   -- 13.2.4

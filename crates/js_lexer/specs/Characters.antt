@@ -58,6 +58,7 @@ character_at quote (c ∷ us) =
 abbrev pub Fits : ℕ → Character → Type 0
 Fits limit c = (1 ≤ c.len) × (c.len ≤ limit) × ForSome c.value (λ v. v ≤ 0x10FFFF)
 
+-- how long a character is; 0 where there is none
 abbrev pub found_len : Option Character → ℕ
 found_len None = 0
 found_len (Some c) = c.len

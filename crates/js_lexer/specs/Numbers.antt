@@ -41,12 +41,12 @@ is_numeral text =
     let parts = base_and_digits text in
     if parts.0 == 10 then is_decimal parts.1 else are_digits parts.0 parts.1
 
--- what digits are worth, the first the highest (12.9.3.1)
+-- what digits are worth, the first the highest (12.9.3.2)
 abbrev pub digits_value : ℕ → ℕ → List ℕ → ℕ
 digits_value base value [] = value
 digits_value base value (d ∷ ds) = digits_value base (value * base + digit_value d) ds
 
--- MV of a numeric literal (12.9.3.1)
+-- MV of a numeric literal (12.9.3.2)
 abbrev pub number_value : List ℕ → ℕ
 number_value text = let parts = base_and_digits text in digits_value parts.0 0 parts.1
 

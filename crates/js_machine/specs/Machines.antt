@@ -50,6 +50,7 @@ term_of m = term_at m.names m.table m.tasks m.point
 abbrev pub state_of : Machine → World → List (List ℕ) → State
 state_of m w taken = contexts.state_of w m.context taken
 
+-- a run that ended so, or one with this term left; of a machine that was given up it says nothing
 abbrev pub run_by : Option End → Term → State → Run
 run_by None t s = run_of t s
 run_by (Some (ends.Finished f)) t s = over (finish_of f) s
@@ -69,6 +70,7 @@ IsLeft (Some e) p = ⊥
 IsLeft None (points.Done v) = ⊥
 IsLeft None p = Unit {0}
 
+-- the machine has something left to reduce
 abbrev pub IsGoing : Machine → Type 0
 IsGoing m = IsLeft m.ended m.point
 
@@ -109,10 +111,12 @@ end_of_run whys.Memory = Some ends.Lost
 
 -- ---- what holds of every machine
 
+-- until its end a machine stands at its point, with its tasks in their scopes
 abbrev pub StandsUntilEnd : NodeTable → List Wide → Point → Option End → Type 0
 StandsUntilEnd t ws p None = StandsIn t script_scope ws p
 StandsUntilEnd t ws p (Some e) = Unit {0}
 
+-- what holds of each machine: its code is sound, and until its end it stands in its scopes
 pub record IsSound (t : NodeTable) (ws : List Wide) (p : Point) (e : Option End) : Type 0 where
   pub table : IsTable t
   pub functions : HasFunctions t

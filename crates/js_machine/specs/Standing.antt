@@ -14,6 +14,7 @@ abbrev pub until_end : {A : Type 0} → Option End → Option A → Option A
 until_end None x = x
 until_end (Some e) x = None
 
+-- until the end this, then it doesn't hold
 abbrev pub holds_until_end : Option End → Bool → Bool
 holds_until_end None b = b
 holds_until_end (Some e) b = false

@@ -15,15 +15,19 @@ arguments_node es = node (λ n xs. (n, xs)) es
 abbrev pub block_node : Numbering Items → Numbering Items
 block_node ss = node (λ n is. is) ss
 
+-- a declarator with its initialiser, if there is one
 abbrev pub a_declarator_made : List ℕ → Option Made → DeclaratorMade
 a_declarator_made n e = record { name = n; initializer = e }
 
+-- a catch with its name, if it has one, and its block
 abbrev pub a_catch_made : Option (List ℕ) → Items → Option CatchMade
 a_catch_made n b = Some (record { name = n; body = b })
 
+-- a key that is computed
 abbrev pub a_computed_key : Made → PropertyKey
 a_computed_key e = computed_key e
 
+-- a part that isn't left out
 abbrev pub a_present : {A : Type 0} → A → Option A
 a_present x = Some x
 

@@ -18,6 +18,7 @@ give a n = record { value = a; next = n }
 abbrev pub and_then : {A B : Type 0} → Counted A → Counted B → Counted (A × B)
 and_then x y = record { value = (x.value, y.value); next = y.next }
 
+-- a part, and behind it another
 unfoldable pub both : {A B : Type 0} → Numbering A → Numbering B → Numbering (A × B)
 both f g n = and_then (f n) (g (f n).next)
 
@@ -25,6 +26,7 @@ both f g n = and_then (f n) (g (f n).next)
 abbrev pub changed : {A B : Type 0} → (A → B) → Counted A → Counted B
 changed make x = record { value = make x.value; next = x.next }
 
+-- something made of a part, which adds no node
 unfoldable pub of_part : {A B : Type 0} → (A → B) → Numbering A → Numbering B
 of_part make f n = changed make (f n)
 
@@ -32,6 +34,7 @@ of_part make f n = changed make (f n)
 abbrev pub closed : {A B : Type 0} → (ℕ → A → B) → Counted A → Counted B
 closed make x = record { value = make x.next x.value; next = suc x.next }
 
+-- a node around its parts, which has the number after theirs
 unfoldable pub node : {A B : Type 0} → (ℕ → A → B) → Numbering A → Numbering B
 node make f n = closed make (f n)
 

@@ -10,6 +10,7 @@ use Rattle.js_semantics.specs.State.{Frame, State, goes, printed_values, Action,
 use Rattle.js_operations.specs.declared.stop.Stop.{Stop}
 use Rattle.js_operations.specs.Flow.{performed, Stops}
 
+-- a state apart from its world, whose printed texts are those since some were last taken
 pub record Context : Type 0 where
   pub frames : List Frame
   pub outer_this : Value

@@ -70,6 +70,7 @@ stop_of true (refusals.Full what) = Full what
 stop_of false (refusals.Full what) = Raised (values.Object heap_full_error)
 stop_of evaluation refusals.Memory = Memory
 
+-- what was tried, where a refusal is the end that the action comes to
 abbrev pub answered : {A : Type 0} → Bool → Result A Refused → Result A Stop
 answered evaluation (Ok a) = Ok a
 answered evaluation (Err r) = Err (stop_of evaluation r)

@@ -20,13 +20,16 @@ with_parts (t ∷ ts) rest = with_part (Some t) (with_parts ts rest)
 
 -- ---- arrays and texts at an address
 
+-- the elements of an array; any other cell has none
 abbrev pub elements_of_cell : Option Cell → List Value
 elements_of_cell (Some (cells.Array vs)) = vs
 elements_of_cell _ = []
 
+-- the elements of the array at an address
 abbrev pub elements_at : World → Addr → List Value
 elements_at w a = elements_of_cell (read_cell w a)
 
+-- the two ends of a part; none where an argument names no place
 abbrev pub both_places : Option ℕ → Option ℕ → Option (ℕ × ℕ)
 both_places (Some i) (Some j) = Some (i, j)
 both_places _ _ = None

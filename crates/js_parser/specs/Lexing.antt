@@ -23,6 +23,7 @@ pub record Lexed : Type 0 where
   pub tokens : List Token
   pub stop : Option Stop
 
+-- what is read, with a token in front
 abbrev pub with_token : Lent → Lexed → Lexed
 with_token t rest = record { tokens = lent_view t ∷ rest.tokens; stop = rest.stop }
 
@@ -39,11 +40,13 @@ lexed_of source = lexed most_tokens (items_of source)
 
 -- ---- how the code's values are seen
 
+-- why the code reads no further tokens
 abbrev pub stop_view : Option declared.Stop → Option Stop
 stop_view None = None
 stop_view (Some (stops.Bad at)) = Some (bad at)
 stop_view (Some (stops.Many at)) = Some (many at)
 
+-- what the code reads of a source
 abbrev pub lexed_view : source.Lexed → Lexed
 lexed_view l = record { tokens = tokens_view l.tokens.items; stop = stop_view l.stop }
 
@@ -77,6 +80,7 @@ abbrev pub complete : {A : Type 0} → ℕ → Option Stop → A → ℕ → Res
 complete end None x height = unless_deep (nat_lt most_height height) x
 complete end (Some stop) x height = Err (stop_fault end (Some stop))
 
+-- what is told of a source: of the tree that was read with its height, or of why reading stopped
 abbrev pub told : {A : Type 0} → Lexed → ℕ → Result (A × ℕ) ParseError → Result A ParseFault
 told l end (Ok x) = complete end l.stop x.0 x.1
 told l end (Err e) = Err (fault_of l end e)

@@ -5,13 +5,15 @@ use Rattle.js_lexer.specs.Tokens.{Lent}
 use Rattle.js_language.specs.Tokens.{Token}
 use Rattle.js_syntax.specs.Views.{string_value_of, numeric_value_of}
 
--- the most code units of a source, its most tokens, and the greatest height of its tree
+-- the most code units of a source
 abbrev pub most_units : ℕ
 most_units = 1048576
 
+-- the most tokens of a source
 abbrev pub most_tokens : ℕ
 most_tokens = 200000
 
+-- the greatest height of a source's tree
 abbrev pub most_height : ℕ
 most_height = 200
 

@@ -16,6 +16,7 @@ pub record ReadTerm : Type 0 where
   pub now : semantics.Terms
   pub later : semantics.Terms
 
+-- the reference that a term reads, with its parts; none where it reads none
 abbrev pub read_of : semantics.Term → Option ReadTerm
 read_of (semantics.part (forms.Read r) now later) = Some (record { reference = r; now = now; later = later })
 read_of _ = None

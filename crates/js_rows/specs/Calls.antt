@@ -29,13 +29,16 @@ pub record Called : Type 0 where
   pub outer : Option Addr
   pub made : Value
 
+-- what a call needs of this cell, where it is a function's
 abbrev pub called_of : Option Cell → Option Called
 called_of (Some (cells.Function c n l outer made)) = Some (record { code = c; name = n; outer = outer; made = made })
 called_of _ = None
 
+-- what a call needs of a callee, by what code keeps of it
 abbrev pub view_of : List (List ℕ) → Callee → Called
 view_of ts c = record { code = c.code; name = name_text ts c.name; outer = c.outer; made = c.this }
 
+-- what a call needs of a callee, where one was found
 abbrev pub callee_view : List (List ℕ) → Option Callee → Option Called
 callee_view ts None = None
 callee_view ts (Some c) = Some (view_of ts c)
@@ -62,6 +65,7 @@ call_scope c name outer args k =
 
 -- ---- an action that asks a state for its world and its frames, in a context
 
+-- of a task: performing what a state is asked for is the answer, in this context and behind any texts that were taken
 abbrev pub Acts : List (List ℕ) → NodeTable → Wide → (State → Action) → World → Context → Reduced → World → Context → Type 0
 Acts ts t e f v c r w d = (taken : List (List ℕ)) → Does ts t e (f (state_of v c taken)) (state_of v c taken) r (state_of w d taken)
 

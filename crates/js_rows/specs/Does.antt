@@ -17,6 +17,7 @@ use Rattle.js_steps.specs.Answers.{Reduces, called, assigned}
 
 -- ---- what a row says, of a task: performing the action in a state is the answer, in a state after it
 
+-- of a task: performing the action in one state is what the answer says, in the other state
 abbrev pub Does : List (List ℕ) → NodeTable → Wide → Action → State → Reduced → State → Type 0
 Does ts t e a s r u = Reduces ts t e (performed a s) r u
 
@@ -38,6 +39,7 @@ RepliesWith ts a v c r w d = (t : NodeTable) (e : Wide) → DoesWith ts t e a v 
 
 -- ---- what operations come to, as answers
 
+-- the answer where an action ends so
 abbrev pub stopped : Stop → Reduced
 stopped (Raised v) = reduced.Raises v
 stopped (Given v) = reduced.Gives v
@@ -45,26 +47,32 @@ stopped Effect = reduced.Effect
 stopped (Full what) = reduced.Full what
 stopped Memory = reduced.Memory
 
+-- the answer where an action gives a value, or ends
 abbrev pub replied : Result Value Stop → Reduced
 replied (Ok v) = reduced.Gives v
 replied (Err e) = stopped e
 
+-- the answer where an action passes and gives this value, or ends
 abbrev pub replied_with : Result (Unit {0}) Stop → Value → Reduced
 replied_with (Ok u) v = reduced.Gives v
 replied_with (Err e) v = stopped e
 
 -- ---- what is read, and gone on with: a call of it, or an assignment of an operator on it
 
+-- whatever the task, what is read is the callee of the call that goes on, as the answer says
 abbrev pub CallsIt : List (List ℕ) → Computed → World → Reduced → World → Type 0
 CallsIt ts x v r w = (t : NodeTable) (e : Wide) → DoesIn ts t e (with_result x (λ f. go (called ts t e f))) v r w
 
+-- whatever the task, what is read is the old value of the assignment that goes on, as the answer says
 abbrev pub AssignsIt : List (List ℕ) → Computed → World → Reduced → World → Type 0
 AssignsIt ts x v r w = (t : NodeTable) (e : Wide) → DoesIn ts t e (with_result x (λ old. go (assigned ts t e old))) v r w
 
+-- the answer where a callee was read, or the action ended
 abbrev pub calling : Result Value Stop → Reduced
 calling (Ok v) = reduced.Calls v
 calling (Err e) = stopped e
 
+-- the answer where an old value was read, or the action ended
 abbrev pub assigning : Result Value Stop → Reduced
 assigning (Ok v) = reduced.Assigns v
 assigning (Err e) = stopped e

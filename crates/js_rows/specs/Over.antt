@@ -26,9 +26,11 @@ use Rattle.js_rows.specs.Does.{Does, DoesIn, DoesWith, stopped}
 
 -- ---- what a row says over a table, whatever the task
 
+-- whatever the task of this table, in every state that has this world
 abbrev pub RepliesOver : List (List ℕ) → NodeTable → Action → World → Reduced → World → Type 0
 RepliesOver ts t a v r w = (e : Wide) → DoesIn ts t e a v r w
 
+-- whatever the task of this table, in a context, behind any texts that were taken
 abbrev pub RepliesOverWith : List (List ℕ) → NodeTable → Action → World → Context → Reduced → World → Context → Type 0
 RepliesOverWith ts t a v c r w d = (e : Wide) → DoesWith ts t e a v c r w d
 
@@ -42,12 +44,14 @@ RepliesInside t a r = (ts : List (List ℕ)) (e : Wide) (s : State) → Does ts 
 
 -- ---- of an entry that a row is told of; where the table hasn't it there is no answer
 
+-- this holds of the entry that a row is told of; where the table hasn't it, the answer is want of memory
 abbrev pub OfEntry : {A : Type 0} → Option A → Reduced → (A → Type 0) → Type 0
 OfEntry None r P = r ≡ reduced.Memory
 OfEntry (Some x) r P = P x
 
 -- ---- a turn of a `for .. of` with this name: its element is that of its list at its index
 
+-- of a task: the answer is that of its next turn, from one world to another
 abbrev pub IsTurn : List (List ℕ) → NodeTable → Wide → Binding → World → Reduced → World → Type 0
 IsTurn ts t e b v r w = DoesIn ts t e (turn_row e.inner b (index_of e.extra) (elements_of v (later_of ts t e) (index_of e.extra)) (later_of ts t e)) v r w
 
@@ -68,6 +72,7 @@ pub record AddsTo (ts : List (List ℕ)) (t : NodeTable) (e : Wide) (ms : List M
 
 -- ---- answers by what is made for them
 
+-- the answer with what was made, or the end that its making came to
 abbrev pub answered_by : {A : Type 0} → (A → Reduced) → Result A Stop → Reduced
 answered_by f (Ok a) = f a
 answered_by f (Err e) = stopped e

@@ -27,26 +27,31 @@ index_result w _ = a_value values.Undefined
 
 -- ---- writing
 
+-- a property of the first value with a fixed key is written
 abbrev pub member_put : World → List Value → List ℕ → Value → Action → Action
 member_put w (o ∷ vs) key v k = with_written (property_written w o key v) k
 member_put w [] key v k = give values.Undefined
 
+-- a property of the first value with the second one as its key is written
 abbrev pub index_put : World → List Value → Value → Action → Action
 index_put w (o ∷ i ∷ vs) v k = index_written w o i v k
 index_put w _ v k = give values.Undefined
 
 -- ---- deleting
 
+-- a property of the first value with a fixed key is deleted
 abbrev pub member_removed : World → List Value → List ℕ → Action → Action
 member_removed w (o ∷ vs) key k = with_written (property_deleted w o key) k
 member_removed w [] key k = give values.Undefined
 
+-- a property of the first value with the second one as its key is deleted
 abbrev pub index_removed : World → List Value → Action → Action
 index_removed w (o ∷ i ∷ vs) k = index_deleted w o i k
 index_removed w _ k = give values.Undefined
 
 -- ---- cells
 
+-- a cell is that of an object which is no error, array or function
 abbrev pub is_object_cell : Option Cell → Bool
 is_object_cell (Some (cells.Object ps)) = true
 is_object_cell _ = false

@@ -25,11 +25,12 @@ on_update (Fails class message) k = fail class message
 abbrev pub property_updated : World → UpdateOperator → Bool → Value → List ℕ → Action
 property_updated w o prefix v key = updated_by o (property_of w v key) (λ old new. with_written (property_written w v key new) (give (update_value prefix old new)))
 
--- by a key that a value is
+-- a property is updated, where its key is one
 abbrev pub keyed_updated : World → UpdateOperator → Bool → Value → Option (List ℕ) → Action
 keyed_updated w o prefix v None = with_result bad_key give
 keyed_updated w o prefix v (Some key) = property_updated w o prefix v key
 
+-- a property is updated, its key being a value
 abbrev pub index_updated : World → UpdateOperator → Bool → Value → Value → Action
 index_updated w o prefix v i = keyed_updated w o prefix v (key_of w i)
 
@@ -49,6 +50,7 @@ element_updated w o prefix _ = updated_by o (a_value values.Undefined) (λ old n
 abbrev pub old_updated : UpdateOperator → Bool → List ℕ → Option Found → Value → Action
 old_updated o prefix name f old = with_result (update_result o old) (λ new. with_written (name_written name f new) (give (update_value prefix old new)))
 
+-- a name is updated, or the error of one without a value is raised
 abbrev pub name_updated : UpdateOperator → Bool → List ℕ → Option Found → Action
 name_updated o prefix name f = updated_by o (value_of_found name f) (λ old new. with_written (name_written name f new) (give (update_value prefix old new)))
 

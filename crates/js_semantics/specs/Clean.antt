@@ -9,6 +9,7 @@ use Rattle.js_heap.specs.declared.value.Value.TheVariants as values
 use Rattle.js_semantics.specs.Terms.{Term, Terms, end, more}
 use Rattle.js_semantics.specs.Makers.{Made, Item, Items, PropertyKey, fixed_key, computed_key, PropertyMade, value_property, method_property, DeclaratorMade, CatchMade, value_made, number_made, string_made, this_made, name_made, array_made, parenthesized_made, member_made, index_made, assign_made, update_made, unary_made, binary_made, conditional_made, comma_made, call_made, function_made, returned_body, arrow_made, object_made, no_items, and_items, block_item, empty_item, expression_item, lexical_item, if_item, while_item, do_while_item, for_item, for_lexical_item, for_of_item, continue_item, break_item, return_item, throw_item, try_item, debugger_item, function_item, script_term}
 
+-- the names of a list of parameters, or the one name of an arrow without parentheses
 abbrev pub parameter_names : Parameters → List (List ℕ)
 parameter_names (trees.one_name n) = n ∷ []
 parameter_names (trees.name_list ns) = ns
@@ -17,6 +18,7 @@ parameter_names (trees.name_list ns) = ns
 abbrev pub part_number : ℕ → ℕ → ℕ
 part_number n i = n * 5 + i
 
+-- what is made of each type of clean tree, its node having this number
 abbrev mutual
   pub expression_made : ℕ → Expression → Made
   expression_made n trees.this = this_made n
@@ -108,6 +110,7 @@ abbrev mutual
 abbrev pub clean_script : ℕ → Statements → Term
 clean_script number ss = script_term number (statements_made 1 ss)
 
+-- the terms of scripts that are numbered from a number on
 abbrev pub clean_scripts_from : ℕ → List Statements → Terms
 clean_scripts_from n [] = end
 clean_scripts_from n (ss ∷ rest) = more (clean_script n ss) (clean_scripts_from (n + 1) rest)

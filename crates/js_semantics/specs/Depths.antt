@@ -7,6 +7,7 @@ use Rattle.js_semantics.specs.Functions.{Program}
 use Rattle.js_semantics.specs.Frames.{scopes_at, frames, frame_at, depth}
 use Rattle.js_semantics.specs.Run.{Run, running, over}
 
+-- no active call stands anywhere in a term
 abbrev mutual
   pub HasNoFrame : Term → Type 0
   HasNoFrame (done v) = Unit {0}
@@ -45,6 +46,7 @@ abbrev mutual
   AreFramed (more (standing v place) ts) = HaveNoFrame ts
   AreFramed (more (part f now later) ts) = IsFramed (part f now later) × HaveNoFrame ts
 
+-- no active call stands in the sources of a program
 abbrev pub ProgramHasNoFrame : Program → Type 0
 ProgramHasNoFrame [] = Unit {0}
 ProgramHasNoFrame (t ∷ ts) = HasNoFrame t.tree × ProgramHasNoFrame ts
@@ -61,6 +63,7 @@ MoveAgrees b (travels c s) = length s.frames ≡ b
 MoveAgrees b (has_effect s) = Unit {0}
 MoveAgrees b (is_full what s) = Unit {0}
 
+-- a run that isn't over has the frames of its term, above so many others
 abbrev pub RunAgrees : ℕ → Run → Type 0
 RunAgrees b (running t s) = Agrees b t s
 RunAgrees b (over f s) = Unit {0}
@@ -71,6 +74,7 @@ pub record ListsFrames (t : Term) (s : State) : Type 0 where
   pub all_listed : length (frames script_scope t s) ≡ suc (depth s)
   pub each_found : (d : ℕ) → d ≤ depth s → (f : Frame) × (frame_at d script_scope t s ≡ Some f)
 
+-- a run that isn't over lists its frames so
 abbrev pub RunListsFrames : Run → Type 0
 RunListsFrames (running t s) = ListsFrames t s
 RunListsFrames (over f s) = Unit {0}

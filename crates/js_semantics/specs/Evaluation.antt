@@ -24,6 +24,7 @@ use Rattle.js_semantics.specs.Run.{ended, threw, by_effect, by_full, Run, runnin
 
 -- ---- the world of an evaluation
 
+-- goes on with what a call on a world gave, and the world after it; a refusal stays what it is
 abbrev pub after_try : {A B : Type 0} → Tried A → (A → World → Tried B) → Tried B
 after_try (fine a w) k = k a w
 after_try effect k = effect
@@ -69,6 +70,7 @@ mutual
     no_members : Members
     a_member : List ℕ → Json → Members → Members
 
+-- the array or object of the cell that was made, as a value
 abbrev pub object_value : Tried Addr → Tried Value
 object_value t = after_try t (λ a w. fine (values.Object a) w)
 
@@ -95,16 +97,19 @@ pub data Argument : Type 0 where
   given : Value → Argument
   made_of : Json → Argument
 
+-- the value of an argument, whose cells are made where it comes as JSON
 abbrev pub make_argument : World → Argument → Tried Value
 make_argument w (given v) = fine v w
 make_argument w (made_of j) = make_json w j
 
+-- the values of arguments, made from the first to the last
 abbrev pub make_arguments : World → List Argument → Tried (List Value)
 make_arguments w [] = fine [] w
 make_arguments w (a ∷ rest) = after_try (make_argument w a) (λ x v. after_try (make_arguments v rest) (λ xs u. fine (x ∷ xs) u))
 
 -- ---- the evaluation
 
+-- how many steps an evaluation may take
 abbrev pub budget : ℕ
 budget = 100000
 
@@ -116,6 +121,7 @@ pub data Answer : Type 0 where
   is_full_of : Counted → Answer
   spent : Answer
 
+-- the answer of a run: its end, or where it isn't over a budget that is spent
 abbrev pub answer_of : Run → Answer
 answer_of (running t s) = spent
 answer_of (over (ended v) s) = a_result v s.world
@@ -148,6 +154,7 @@ abbrev pub literals_placed : Addr → Term → Term
 literals_placed (Scratch n) t = with_literals (λ i. Scratch i) (n + 1) t
 literals_placed (Base n) t = t
 
+-- the term of a kept source, its literals being their cells
 abbrev pub kept_tree : Addr → Made → Term
 kept_tree at e = literals_placed at (kept_term at e)
 
@@ -161,6 +168,7 @@ abbrev pub prepared : World → ScratchSpace → List ℕ → List (List ℕ) �
 prepared w x source order e =
     after_try (keep_source (copied_world w x) source) (λ at v. after_try (place_literals v order (literals (kept_term at e))) (λ u z. fine (kept_tree at e) z))
 
+-- the answer of a term that is reduced within the budget, in a scope with a `this` outside all calls
 abbrev pub evaluated : Program → Addr → Value → World → Term → Answer
 evaluated p scope receiver w t = answer_of (steps_in budget p scope (run_of t (evaluation_state w receiver)))
 
@@ -173,6 +181,7 @@ evaluate p w x scope receiver source order e = answered (prepared w x source ord
 abbrev pub call_term : Value → Term → List Value → Term
 call_term receiver callee args = part (call beginning 0) (more (done receiver) (more callee (dones args))) end
 
+-- the call of a function that is still to be made, once its arguments are values
 abbrev pub with_arguments : Value → List Argument → Tried Term → Tried Term
 with_arguments receiver args t = after_try t (λ callee w. after_try (make_arguments w args) (λ vs v. fine (call_term receiver callee vs) v))
 
@@ -183,8 +192,10 @@ evaluate_call p w x source order callee receiver args =
 
 -- ---- the same of the parser's trees
 
+-- evaluates an expression of the parser in a scope with a `this`
 abbrev pub evaluate_expression : Program → World → ScratchSpace → Addr → Value → Expression → Answer
 evaluate_expression p w x scope receiver e = evaluate p w x scope receiver e.source (source_literals e.tree) (expression_source e.tree)
 
+-- calls a function of the parser with a `this` and arguments
 abbrev pub evaluate_function : Program → World → ScratchSpace → FunctionCode → Value → List Argument → Answer
 evaluate_function p w x f receiver args = evaluate_call p w x f.source (source_literals f.tree) (expression_source f.tree) receiver args

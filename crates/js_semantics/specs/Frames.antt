@@ -26,14 +26,17 @@ pub data Leftmost : Type 0 where
   only_values : List Value → Leftmost
   inner : Active → Leftmost
 
+-- what a value and the parts behind it are
 abbrev pub behind : Value → Leftmost → Leftmost
 behind v (only_values vs) = only_values (v ∷ vs)
 behind v (inner a) = inner a
 
+-- what is about to be reduced in a form: the form itself, where its parts are values, or what is in them
 abbrev pub active_of : Form → Leftmost → Active
 active_of f (only_values vs) = reduces f vs
 active_of f (inner a) = a
 
+-- the part about to be reduced, of a term, and of the parts of a form
 abbrev mutual
   pub active : Term → Active
   active (done v) = nothing_left
@@ -80,6 +83,7 @@ is_debugger a = false
 
 -- ---- throws
 
+-- a form is a `try` whose `catch` is still to come
 abbrev pub is_catching : Form → Bool
 is_catching (catching n) = true
 is_catching f = false
@@ -102,10 +106,12 @@ pub record StandingThrow : Type 0 where
   pub value : Value
   pub uncaught : Bool
 
+-- a throw that stands, with whether a catch will take it
 abbrev pub standing_of : Active → Bool → Option StandingThrow
 standing_of (stands v place) caught = Some (record { value = v; uncaught = not caught })
 standing_of a caught = None
 
+-- the throw that stands in a term, if one does
 abbrev pub thrown : Term → Option StandingThrow
 thrown t = standing_of (active t) (is_caught t)
 
@@ -120,6 +126,7 @@ abbrev pub in_bottom : Active → Frame → Frame
 in_bottom (reduces (script number names) vs) f = record f { source = script_source number; here = beginning }
 in_bottom a f = f
 
+-- the frames, of which the bottom one is that of the script about to be reduced, where one is
 abbrev pub shown_frames : Active → List Frame → List Frame
 shown_frames a [] = []
 shown_frames a (f ∷ []) = in_bottom a f ∷ []
@@ -144,6 +151,7 @@ abbrev pub with_scopes : List Frame → List Addr → List Frame
 with_scopes (f ∷ fs) (a ∷ more_scopes) = record f { scope = a } ∷ with_scopes fs more_scopes
 with_scopes fs scopes = fs
 
+-- scopes from the last to the first, in front of others
 abbrev pub reversed_onto : List Addr → List Addr → List Addr
 reversed_onto [] done_ = done_
 reversed_onto (a ∷ scopes) done_ = reversed_onto scopes (a ∷ done_)
@@ -162,6 +170,7 @@ frame_at d scope t s = slice_get (frames scope t s) d
 pub data Listed : Type 0 where
   as_block as_catch as_local as_closure as_script as_global : Listed
 
+-- a scope with the way in which it is listed
 pub record ListedScope : Type 0 where
   pub kind : Listed
   pub scope : Addr
@@ -175,18 +184,22 @@ listed_as kinds.Named inside = as_closure
 listed_as kinds.Script inside = as_script
 listed_as kinds.Global inside = as_global
 
+-- beyond a scope are still the frame's own ones: beyond that of its function are those of outer functions
 abbrev pub still_inside : ScopeKind → Bool → Bool
 still_inside kinds.Function inside = false
 still_inside kind inside = inside
 
+-- the scopes from an outer scope on; none around the outermost
 abbrev pub outward : Option Addr → (Addr → List ListedScope) → List ListedScope
 outward None further = []
 outward (Some a) further = further a
 
+-- the scope of a cell, and those beyond it
 abbrev pub scope_listed : Bool → Addr → Option Cell → (Bool → Addr → List ListedScope) → List ListedScope
 scope_listed inside a (Some (cells.Bindings kind name outer names)) further = record { kind = listed_as kind inside; scope = a } ∷ outward outer (further (still_inside kind inside))
 scope_listed inside a _ further = []
 
+-- the scopes from one outward, at most so many
 abbrev pub listed_within : ℕ → World → Bool → Addr → List ListedScope
 listed_within zero w inside a = []
 listed_within (suc n) w inside a = scope_listed inside a (read_cell w a) (listed_within n w)

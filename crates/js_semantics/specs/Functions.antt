@@ -21,10 +21,12 @@ pub use Rattle.js_heap.specs.Arguments.{parameters_from}
 
 -- ---- sources: the untouched trees by which a function's code is found
 
+-- a source with its term before the first step
 pub record SourceTree : Type 0 where
   pub source : Source
   pub tree : Term
 
+-- the sources in which a run looks up the code of its functions
 abbrev pub Program : Type 0
 Program = List SourceTree
 
@@ -34,10 +36,12 @@ pub record FunctionCode : Type 0 where
   pub body : Term
   pub functions : Terms
 
+-- the code that one place has, or else another
 abbrev pub first_code : Option FunctionCode → Option FunctionCode → Option FunctionCode
 first_code (Some c) other = Some c
 first_code None other = other
 
+-- the code of a function's form and its kept parts, where it is the one that is looked for
 abbrev pub code_if : Bool → FunctionForm → Terms → Option FunctionCode
 code_if true f (more body functions) = Some (record { form = f; body = body; functions = functions })
 code_if _ f later = None
@@ -48,6 +52,7 @@ code_here (function f) node later = code_if (nat_eq f.node node) f later
 code_here (method f) node later = code_if (nat_eq f.node node) f later
 code_here _ node later = None
 
+-- the code of a node's function in a term, and in several: of the first such function from the left
 abbrev mutual
   pub function_in : ℕ → Term → Option FunctionCode
   function_in node (done v) = None
@@ -58,17 +63,20 @@ abbrev mutual
   function_in_all node end = None
   function_in_all node (more t ts) = first_code (function_in node t) (function_in_all node ts)
 
+-- two sources are the same
 abbrev pub same_source : Source → Source → Bool
 same_source (script_source m) (script_source n) = nat_eq m n
 same_source (kept_source a) (kept_source b) = same_address a b
 same_source _ _ = false
 
+-- the code of a node's function in a source of a program
 abbrev pub function_at : Program → Source → ℕ → Option FunctionCode
 function_at [] source node = None
 function_at (t ∷ ts) source node = if same_source t.source source then function_in node t.tree else function_at ts source node
 
 -- ---- making functions
 
+-- the cell of a function: its length is the number of its parameters (10.2.10)
 abbrev pub function_cell : FunctionForm → List ℕ → Addr → Value → Cell
 function_cell f name scope receiver = cells.Function f.code name (length f.parameters) (Some scope) receiver
 
@@ -83,6 +91,7 @@ named_function f scope =
     (λ s. make (function_cell f f.name s values.Undefined)
     (λ a. write s (changes.Bind f.name (values.Object a)) (give (values.Object a))))
 
+-- a function expression, an arrow, or a method with a fixed key becomes a function (15.2.5, 15.3.4, 15.4.4)
 abbrev pub function_row : State → Addr → FunctionForm → Action
 function_row s scope f =
     if f.is_named then named_function f scope
@@ -97,6 +106,7 @@ with_functions scope (more (part (function f) now later) ts) k =
 with_functions scope (more t ts) k = with_functions scope ts k
 with_functions scope end k = k
 
+-- a new scope around which another one stands, with these names
 abbrev pub new_scope : ScopeKind → List ℕ → Addr → List Binding → (Addr → Action) → Action
 new_scope kind name outer names k = make (cells.Bindings kind name (Some outer) names) k
 
@@ -107,9 +117,11 @@ with_names scope (b ∷ bs) k = write scope (changes.Declare b.name b.constant) 
 
 -- ---- calls (10.2.1)
 
+-- the error of a call where as many frames are active as may be
 abbrev pub too_deep : Action
 too_deep = fail classes.RangeError (codes "Maximum call stack size exceeded")
 
+-- the error of a call of what is no function
 abbrev pub not_a_function : Action
 not_a_function = fail classes.TypeError (codes "Value is not a function")
 
@@ -133,11 +145,13 @@ entered c source a name outer receiver args =
 abbrev pub frame_limit : ℕ
 frame_limit = 1000
 
+-- a call of a function whose code stands in a source, with the `this` that it was made with and the one that is given
 abbrev pub call_code : State → Option FunctionCode → Source → Addr → List ℕ → Option Addr → Value → Value → List Value → Action
 call_code s (Some c) source a name (Some outer) made given args =
     if nat_lt (length s.frames) frame_limit then entered c source a name outer (called_this c.form.is_arrow made given) args else too_deep
 call_code s _ source a name outer made given args = not_a_function
 
+-- a call of what a cell holds: of a built-in function, or of one whose code stands in a source
 abbrev pub call_cell : Program → State → Addr → Option Cell → Value → List Value → Action
 call_cell p s a (Some (cells.Function (code.BuiltIn f) n l outer made)) given args = built_in_call s.world f given args
 call_cell p s a (Some (cells.Function (code.Script number node) n l outer made)) given args =
@@ -146,6 +160,7 @@ call_cell p s a (Some (cells.Function (code.Kept at node) n l outer made)) given
     call_code s (function_at p (kept_source at) node) (kept_source at) a n outer made given args
 call_cell p s a _ given args = not_a_function
 
+-- a call of a value with a `this` and arguments; functions alone can be called
 abbrev pub call_value : Program → State → Value → Value → List Value → Action
 call_value p s (values.Object a) given args = call_cell p s a (read_cell s.world a) given args
 call_value p s _ given args = not_a_function

@@ -16,12 +16,14 @@ pub record Follows (s t : State) : Type 0 where
   pub output : IsPrefix s.printed t.printed
   pub cells : Keeps s.world t.world
 
+-- the state after a step follows the one before it, in whichever way the step ends
 abbrev pub MoveFollows : {T : Type 0} → State → Move T → Type 0
 MoveFollows s (goes x t told) = Follows s t
 MoveFollows s (travels c t) = Follows s t
 MoveFollows s (has_effect t) = Follows s t
 MoveFollows s (is_full what t) = Follows s t
 
+-- the state of a run follows that of another
 abbrev pub RunFollows : Run → Run → Type 0
 RunFollows q r = Follows (state_of q) (state_of r)
 
@@ -30,6 +32,7 @@ pub record Undisturbed (w : World) (x : ScratchSpace) (v : World) : Type 0 where
   pub program : v.base ≡ w.base
   pub earlier : take (length x.cells) v.scratch ≡ x.cells
 
+-- the world after an evaluation is undisturbed, where its answer has one
 abbrev pub AnswerKeeps : World → ScratchSpace → Answer → Type 0
 AnswerKeeps w x (a_result value v) = Undisturbed w x v
 AnswerKeeps w x (a_throw value v) = Undisturbed w x v

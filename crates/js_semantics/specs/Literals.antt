@@ -15,6 +15,7 @@ is_target (trees.index e k) = true
 is_target (trees.parenthesized e) = is_target e
 is_target _ = false
 
+-- the string literals of each type of tree, in order
 abbrev mutual
   pub expression_literals : Expression → List (List ℕ)
   expression_literals (trees.string us) = us ∷ []

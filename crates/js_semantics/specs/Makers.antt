@@ -40,15 +40,19 @@ pub record Items : Type 0 where
   pub functions : Context → Terms
   pub terms : Context → Terms
 
+-- a place that gives no name
 abbrev pub unnamed : Context → Context
 unnamed c = record c { name = [] }
 
+-- a place that gives this name to a function without one (8.4)
 abbrev pub naming : List ℕ → Context → Context
 naming n c = record c { name = n }
 
+-- a place in the statement of this node, which gives no name
 abbrev pub within : ℕ → Context → Context
 within node c = record c { statement = node; name = [] }
 
+-- what is made of an expression, where a call of it has its place at the `(`
 abbrev pub made : ℕ → (Context → Term) → Made
 made node term = record { node = node; last_word = None; term = term }
 
@@ -56,30 +60,38 @@ made node term = record { node = node; last_word = None; term = term }
 abbrev pub plain : Made → Context → Term
 plain e c = e.term (unnamed c)
 
+-- parts of an expression, from left to right
 abbrev pub plains : List Made → Context → Terms
 plains [] c = end
 plains (e ∷ es) c = more (plain e c) (plains es c)
 
+-- a form without parts
 abbrev pub leaf : Form → Term
 leaf f = part f end end
 
 -- ---- values and names
 
+-- a literal that is a value at once
 abbrev pub value_made : ℕ → Value → Made
 value_made node v = made node (λ c. done v)
 
+-- a number literal (13.2.3)
 abbrev pub number_made : ℕ → ℕ → Made
 number_made node n = value_made node (values.Number (pos n))
 
+-- a string literal, whose cell isn't made yet (13.2.3)
 abbrev pub string_made : ℕ → List ℕ → Made
 string_made node us = made node (λ c. leaf (literal us))
 
+-- `this` (13.2.1)
 abbrev pub this_made : ℕ → Made
 this_made node = made node (λ c. leaf this)
 
+-- a name (13.1.3); a call of it has its place there
 abbrev pub name_made : ℕ → List ℕ → Made
 name_made node n = record { node = node; last_word = Some (start node); term = λ c. leaf (read (to_name n)) }
 
+-- an array literal (13.2.4)
 abbrev pub array_made : ℕ → List Made → Made
 array_made node es = made node (λ c. part array (plains es c) end)
 
@@ -89,9 +101,11 @@ parenthesized_made node e = made node e.term
 
 -- ---- references
 
+-- `o.key` (13.3.2); a call of it has its place at the key
 abbrev pub member_made : ℕ → Made → List ℕ → Made
 member_made node o key = record { node = node; last_word = Some (before_end node (length key)); term = λ c. part (read (to_member key)) (one (plain o c)) end }
 
+-- `o[k]` (13.3.2)
 abbrev pub index_made : ℕ → Made → Made → Made
 index_made node o k = made node (λ c. part (read to_index) (more (plain o c) (one (plain k c))) end)
 
@@ -100,22 +114,27 @@ abbrev pub assigned_to : Term → Term → Term
 assigned_to (part (read r) now later) e = part (assign r) (joined now (one e)) end
 assigned_to t e = t
 
+-- `target op= e` (13.15.2): the right side waits until the target's old value is read
 abbrev pub compounded : BinaryOperator → Term → Term → Term
 compounded o (part (read r) now later) e = part (compound o r) now (one e)
 compounded o t e = t
 
+-- `++` or `--` of a target, in front of it or behind it (13.4)
 abbrev pub updated : UpdateOperator → Bool → Term → Term
 updated o prefix (part (read r) now later) = part (update o prefix r) now end
 updated o prefix t = t
 
+-- `delete` of a reference (13.5.1.2)
 abbrev pub deleted : Term → Term
 deleted (part (read r) now later) = part (delete r) now end
 deleted t = t
 
+-- `typeof` (13.5.3.1), with a form of its own for a name, which may not be defined
 abbrev pub type_of : Term → Term
 type_of (part (read (to_name n)) now later) = leaf (typeof_name n)
 type_of t = part (unary unaries.Typeof) (one t) end
 
+-- the operator of a compound assignment; none of `=`
 abbrev pub operator_of : AssignmentOperator → Option BinaryOperator
 operator_of assigns.Assign = None
 operator_of assigns.Add = Some binaries.Add
@@ -130,41 +149,51 @@ operator_of assigns.BitwiseAnd = Some binaries.BitwiseAnd
 operator_of assigns.BitwiseOr = Some binaries.BitwiseOr
 operator_of assigns.BitwiseXor = Some binaries.BitwiseXor
 
+-- an assignment to a target: `=`, or a compound one with its operator
 abbrev pub assignment : Option BinaryOperator → Term → Term → Term
 assignment None target e = assigned_to target e
 assignment (Some o) target e = compounded o target e
 
+-- an assignment (13.15)
 abbrev pub assign_made : ℕ → AssignmentOperator → Made → Made → Made
 assign_made node o target e = made node (λ c. assignment (operator_of o) (plain target c) (plain e c))
 
+-- `++` or `--` (13.4)
 abbrev pub update_made : ℕ → UpdateOperator → Bool → Made → Made
 update_made node o prefix e = made node (λ c. updated o prefix (plain e c))
 
 -- ---- operators
 
+-- an operator on one value (13.5)
 abbrev pub unary_term : UnaryOperator → Term → Term
 unary_term unaries.Typeof t = type_of t
 unary_term unaries.Delete t = deleted t
 unary_term o t = part (unary o) (one t) end
 
+-- an expression with an operator in front (13.5)
 abbrev pub unary_made : ℕ → UnaryOperator → Made → Made
 unary_made node o e = made node (λ c. unary_term o (plain e c))
 
+-- an operator on two values; `&&` and `||` keep their right side for later (13.13.1)
 abbrev pub binary_term : BinaryOperator → Term → Term → Term
 binary_term binaries.LogicalAnd l r = part both (one l) (one r)
 binary_term binaries.LogicalOr l r = part either (one l) (one r)
 binary_term o l r = part (binary o) (more l (one r)) end
 
+-- an expression with an operator between two others (13.6 to 13.13)
 abbrev pub binary_made : ℕ → BinaryOperator → Made → Made → Made
 binary_made node o l r = made node (λ c. binary_term o (plain l c) (plain r c))
 
+-- `t ? a : b`, which keeps both branches for later (13.14)
 abbrev pub conditional_made : ℕ → Made → Made → Made → Made
 conditional_made node t a b = made node (λ c. part choose (one (plain t c)) (more (plain a c) (one (plain b c))))
 
+-- a comma list, which keeps what is behind its first expression for later (13.16)
 abbrev pub comma_term : Terms → Term
 comma_term (more t ts) = part comma (one t) ts
 comma_term end = done values.Undefined
 
+-- `a, b, c` (13.16)
 abbrev pub comma_made : ℕ → List Made → Made
 comma_made node es = made node (λ c. comma_term (plains es c))
 
@@ -180,15 +209,18 @@ abbrev pub call_term : Mark → ℕ → Term → Terms → Term
 call_term place node (part (read r) now later) args = part (call_of r place node) now args
 call_term place node t args = part (call place node) (more (done values.Undefined) (more t args)) end
 
+-- a call (13.3.6)
 abbrev pub call_made : ℕ → Made → ℕ → List Made → Made
 call_made node f parentheses es = made node (λ c. call_term (place_or f.last_word parentheses) c.statement (plain f c) (plains es c))
 
 -- ---- functions
 
+-- where the code of a node's function is found: in its source
 abbrev pub code_of : Source → ℕ → Code
 code_of (script_source number) node = code.Script number node
 code_of (kept_source a) node = code.Kept a node
 
+-- an empty list of statements
 abbrev pub no_items : Items
 no_items = record { names = []; functions = λ c. end; terms = λ c. end }
 
@@ -200,10 +232,12 @@ body_terms body c = more (part sequence (body.terms (within 0 c)) end) (body.fun
 abbrev pub form_of : ℕ → Source → List ℕ → List (List ℕ) → List Binding → Bool → Bool → FunctionForm
 form_of node source n ps names arrow named = record { code = code_of source node; node = node; name = n; parameters = ps; names = names; is_arrow = arrow; is_named = named }
 
+-- a function expression: with its own name, or with the one that its place gives
 abbrev pub function_term : ℕ → Option (List ℕ) → List (List ℕ) → Items → Context → Term
 function_term node (Some n) ps body c = part (function (form_of node c.source n ps body.names false true)) end (body_terms body c)
 function_term node None ps body c = part (function (form_of node c.source c.name ps body.names false false)) end (body_terms body c)
 
+-- a function expression (15.2.5)
 abbrev pub function_made : ℕ → Option (List ℕ) → List (List ℕ) → Items → Made
 function_made node n ps body = made node (λ c. function_term node n ps body c)
 
@@ -211,11 +245,13 @@ function_made node n ps body = made node (λ c. function_term node n ps body c)
 abbrev pub returned_body : Made → Items
 returned_body e = record { names = []; functions = λ c. end; terms = λ c. one (part (enter e.node) end (one (part return_ (one (e.term (within e.node c))) end))) }
 
+-- an arrow function (15.3.4)
 abbrev pub arrow_made : ℕ → List (List ℕ) → Items → Made
 arrow_made node ps body = made node (λ c. part (function (form_of node c.source c.name ps body.names true false)) end (body_terms body c))
 
 -- ---- object literals
 
+-- the key of a member in an object literal: a fixed one, or an expression in brackets
 pub data PropertyKey : Type 0 where
   fixed_key : List ℕ → PropertyKey
   computed_key : Made → PropertyKey
@@ -225,10 +261,12 @@ pub data PropertyMade : Type 0 where
   value_property : PropertyKey → Made → PropertyMade
   method_property : ℕ → PropertyKey → List (List ℕ) → Items → PropertyMade
 
+-- what the form of an object literal keeps of a key
 abbrev pub member_of_key : PropertyKey → Member
 member_of_key (fixed_key k) = keyed k
 member_of_key (computed_key e) = computed
 
+-- what the form of an object literal keeps of a member
 abbrev pub member_of : PropertyMade → Member
 member_of (value_property k e) = member_of_key k
 member_of (method_property node k ps body) = member_of_key k
@@ -238,12 +276,15 @@ pub record Parts : Type 0 where
   pub now : Terms
   pub later : Terms
 
+-- a part in front of the parts behind it
 abbrev pub before : Term → Parts → Parts
 before t p = record p { now = more t p.now }
 
+-- a method, with the name that its key gives
 abbrev pub method_form : ℕ → List ℕ → List (List ℕ) → Items → Context → FunctionForm
 method_form node n ps body c = form_of node c.source n ps body.names false false
 
+-- the parts of a member in front of those of the members behind it
 abbrev pub property_parts : PropertyMade → Context → Parts → Parts
 property_parts (value_property (fixed_key k) e) c p = before (e.term (naming k c)) p
 property_parts (value_property (computed_key k) e) c p = before (plain k c) (before (plain e c) p)
@@ -251,21 +292,26 @@ property_parts (method_property node (fixed_key k) ps body) c p = before (part (
 property_parts (method_property node (computed_key k) ps body) c p =
     record { now = one (plain k c); later = more (part (method (method_form node [] ps body c)) p.now (body_terms body c)) p.later }
 
+-- the parts of some members
 abbrev pub properties_parts : List PropertyMade → Context → Parts
 properties_parts [] c = record { now = end; later = end }
 properties_parts (m ∷ ms) c = property_parts m c (properties_parts ms c)
 
+-- an object literal of these members, with their parts
 abbrev pub object_term : List PropertyMade → Parts → Term
 object_term ms p = part (object (map member_of ms)) p.now p.later
 
+-- an object literal (13.2.5)
 abbrev pub object_made : ℕ → List PropertyMade → Made
 object_made node ms = made node (λ c. object_term ms (properties_parts ms c))
 
 -- ---- statements
 
+-- a statement that declares no function
 abbrev pub no_functions : Context → Terms
 no_functions c = end
 
+-- a statement that declares nothing
 abbrev pub item : (Context → Term) → Item
 item term = record { names = []; functions = no_functions; term = term }
 
@@ -273,22 +319,28 @@ item term = record { names = []; functions = no_functions; term = term }
 abbrev pub entered : ℕ → (Context → Term) → Item
 entered node term = item (λ c. part (enter node) end (one (term (within node c))))
 
+-- a list of statements with one in front
 abbrev pub and_items : Item → Items → Items
 and_items i is = record { names = i.names ++ is.names; functions = λ c. joined (i.functions c) (is.functions c); terms = λ c. more (i.term c) (is.terms c) }
 
+-- the list of some statements
 abbrev pub items_of : List Item → Items
 items_of [] = no_items
 items_of (i ∷ is) = and_items i (items_of is)
 
+-- an untouched block: its names, its statements, and the functions that it declares
 abbrev pub block_term : Items → Context → Term
 block_term b c = part (block b.names) end (more (part sequence (b.terms c) end) (b.functions c))
 
+-- a block (14.2)
 abbrev pub block_item : Items → Item
 block_item b = item (block_term b)
 
+-- an empty statement, which is dropped (14.4)
 abbrev pub empty_item : Item
 empty_item = item (λ c. done values.Undefined)
 
+-- a statement of an expression (14.5)
 abbrev pub expression_item : ℕ → Made → Item
 expression_item node e = entered node (plain e)
 
@@ -297,28 +349,35 @@ pub record DeclaratorMade : Type 0 where
   pub name : List ℕ
   pub initializer : Option Made
 
+-- a declarator's initialiser, if there is one; it gives its name to a function without one
 abbrev pub initializer_terms : List ℕ → Option Made → Context → Terms
 initializer_terms n None c = end
 initializer_terms n (Some e) c = one (e.term (naming n c))
 
+-- some declarators, each with its initialiser
 abbrev pub declarators_terms : List DeclaratorMade → Context → Terms
 declarators_terms [] c = end
 declarators_terms (d ∷ ds) c = more (part (initialize d.name) (initializer_terms d.name d.initializer c) end) (declarators_terms ds c)
 
+-- the declarators of a declaration, one after another
 abbrev pub declarators_term : List DeclaratorMade → Context → Term
 declarators_term ds c = part sequence (declarators_terms ds c) end
 
+-- the names that declarators declare
 abbrev pub declarators_names : Bool → List DeclaratorMade → List Binding
 declarators_names constant [] = []
 declarators_names constant (d ∷ ds) = declared d.name constant ∷ declarators_names constant ds
 
+-- a declaration by `let` or `const` (14.3.1)
 abbrev pub lexical_item : ℕ → Bool → List DeclaratorMade → Item
 lexical_item node constant ds = record (entered node (declarators_term ds)) { names = declarators_names constant ds }
 
+-- what stands behind `else`; undefined where there is no `else`
 abbrev pub alternate_term : Option Item → Context → Term
 alternate_term None c = done values.Undefined
 alternate_term (Some i) c = i.term c
 
+-- `if` (14.6)
 abbrev pub if_item : ℕ → Made → Item → Option Item → Item
 if_item node e s t = entered node (λ c. part choose (one (plain e c)) (more (s.term c) (one (alternate_term t c))))
 
@@ -326,19 +385,24 @@ if_item node e s t = entered node (λ c. part choose (one (plain e c)) (more (s.
 abbrev pub loop_parts : Term → Term → Term → Terms
 loop_parts t u b = more t (more u (one b))
 
+-- an absent part
 abbrev pub nothing : Term
 nothing = done values.Undefined
 
+-- `while` (14.7.3)
 abbrev pub while_item : ℕ → Made → Item → Item
 while_item node e s = entered node (λ c. part (loop first None) end (loop_parts (plain e c) nothing (s.term c)))
 
+-- `do … while`, which begins with its body (14.7.2)
 abbrev pub do_while_item : ℕ → Item → Made → Item
 do_while_item node s e = entered node (λ c. part (loop doing None) end (loop_parts (plain e c) nothing (s.term c)))
 
+-- an expression that may be absent, or what stands in its place
 abbrev pub optional_term : Option Made → Context → Term → Term
 optional_term None c other = other
 optional_term (Some e) c other = plain e c
 
+-- an expression that may be absent, as the only part
 abbrev pub optional_terms : Option Made → Context → Terms
 optional_terms None c = end
 optional_terms (Some e) c = one (plain e c)
@@ -347,26 +411,33 @@ optional_terms (Some e) c = one (plain e c)
 abbrev pub for_parts : Option Made → Option Made → Item → Context → Terms
 for_parts t u s c = loop_parts (optional_term t c (done (values.Bool true))) (optional_term u c nothing) (s.term c)
 
+-- a `for` without a declaration (14.7.4)
 abbrev pub for_item : ℕ → Option Made → Option Made → Option Made → Item → Item
 for_item node i t u s = entered node (λ c. part (loop first None) (optional_terms i c) (for_parts t u s c))
 
+-- a `for` with `let` or `const` (14.7.4)
 abbrev pub for_lexical_item : ℕ → Bool → List DeclaratorMade → Option Made → Option Made → Item → Item
 for_lexical_item node constant ds t u s =
     item (λ c. part (enter_for node constant (declarators_names constant ds)) end (more (declarators_term ds (within node c)) (for_parts t u s (within node c))))
 
+-- a `for .. of` (14.7.5)
 abbrev pub for_of_item : ℕ → Bool → List ℕ → Made → Item → Item
 for_of_item node constant n e s =
     item (λ c. part (enter_for_of node (declared n constant)) end (more (plain e (within node c)) (one (s.term (within node c)))))
 
+-- `continue` (14.8)
 abbrev pub continue_item : ℕ → Item
 continue_item node = entered node (λ c. leaf continue_)
 
+-- `break` (14.9)
 abbrev pub break_item : ℕ → Item
 break_item node = entered node (λ c. leaf break_)
 
+-- `return`, with or without an expression (14.10)
 abbrev pub return_item : ℕ → Option Made → Item
 return_item node e = entered node (λ c. part return_ (optional_terms e c) end)
 
+-- `throw`, which keeps its node as the place of the raise (14.14)
 abbrev pub throw_item : ℕ → Made → Item
 throw_item node e = entered node (λ c. part (throw_ node) (one (plain e c)) end)
 
@@ -375,17 +446,21 @@ pub record CatchMade : Type 0 where
   pub name : Option (List ℕ)
   pub body : Items
 
+-- the block of a `try`, within its catch if there is one
 abbrev pub caught : Option CatchMade → Term → Context → Term
 caught None t c = t
 caught (Some h) t c = part (catching h.name) (one t) (one (block_term h.body c))
 
+-- a `try` within its `finally`, if there is one
 abbrev pub finally_term : Option Items → Term → Context → Term
 finally_term None t c = t
 finally_term (Some f) t c = part finishing (one t) (one (block_term f c))
 
+-- `try`, its catch standing within its `finally` (14.15)
 abbrev pub try_item : ℕ → Items → Option CatchMade → Option Items → Item
 try_item node b h f = entered node (λ c. finally_term f (caught h (block_term b c) c) c)
 
+-- `debugger` (14.16)
 abbrev pub debugger_item : ℕ → Item
 debugger_item node = item (λ c. part (enter_debugger node) end (one nothing))
 
@@ -399,6 +474,7 @@ function_item node n ps body = record {
 
 -- ---- scripts
 
+-- a script of a number, with the names and functions of its list of statements
 abbrev pub script_term : ℕ → Items → Term
 script_term number body =
     let c : Context = record { source = script_source number; statement = 0; name = [] } in

@@ -12,6 +12,7 @@ pub data Walked : Type 0 where
   all_values : List Value → Walked
   moved : Move Terms → Walked
 
+-- a value in front of what the parts behind it are
 abbrev pub with_value : Value → Walked → Walked
 with_value v (all_values vs) = all_values (v ∷ vs)
 with_value v (moved m) = moved (inside (λ ts. more (done v) ts) m)
@@ -31,6 +32,7 @@ around p scope f later s (moved (travels c t)) = perform (taken scope f c later)
 around p scope f later s (moved (has_effect t)) = has_effect t
 around p scope f later s (moved (is_full what t)) = is_full what t
 
+-- the step of a term in a scope, and of the leftmost of some parts that isn't a value
 abbrev mutual
   pub next : Program → Addr → Term → State → Move Term
   next p scope (done v) s = perform (give v) s

@@ -18,12 +18,15 @@ pub use Rattle.js_heap.specs.Scopes.{Found, found_here, found_outward, found_in,
 
 -- ---- names (9.1.2.1)
 
+-- the error of a name that no scope has
 abbrev pub not_defined : List ℕ → Result
 not_defined name = an_error classes.ReferenceError (name ++ codes " is not defined")
 
+-- the error of a name that has no value yet
 abbrev pub not_initialized : List ℕ → Result
 not_initialized name = an_error classes.ReferenceError (codes "Cannot access '" ++ name ++ codes "' before initialization")
 
+-- a name's value, or the error where it has none yet
 abbrev pub value_or_uninitialized : List ℕ → Option Value → Result
 value_or_uninitialized name (Some v) = a_value v
 value_or_uninitialized name None = not_initialized name
@@ -39,6 +42,7 @@ bound_unless name constant None scope v = refused classes.ReferenceError (codes 
 bound_unless name true (Some u) scope v = refused classes.TypeError (codes "Assignment to constant variable.")
 bound_unless name false (Some u) scope v = a_change scope (changes.Bind name v)
 
+-- what assigning to a name changes; a name that no scope has is refused (9.1.1.1.5)
 abbrev pub name_written : List ℕ → Option Found → Value → Written
 name_written name None v = refused classes.ReferenceError (name ++ codes " is not defined")
 name_written name (Some f) v = bound_unless name f.binding.constant f.binding.value f.scope v
@@ -51,6 +55,7 @@ with_result (a_value v) k = k v
 with_result (a_text us) k = make_text us k
 with_result (an_error class message) k = fail class message
 
+-- makes the change and goes on; what is refused is raised as an error
 abbrev pub with_written : Written → Action → Action
 with_written (a_change a c) k = write a c k
 with_written (refused class message) k = fail class message
@@ -60,6 +65,7 @@ abbrev pub with_key : Option (List ℕ) → (List ℕ → Action) → Action
 with_key None k = with_result bad_key give
 with_key (Some key) k = k key
 
+-- goes on with a key, or gives the error of what is none
 abbrev pub keyed_result : Option (List ℕ) → (List ℕ → Result) → Result
 keyed_result None k = bad_key
 keyed_result (Some key) k = k key
@@ -71,6 +77,7 @@ read_result w scope (to_member key) (o ∷ vs) = property_of w o key
 read_result w scope to_index (o ∷ i ∷ vs) = keyed_result (key_of w i) (property_of w o)
 read_result w scope _ vs = a_value values.Undefined
 
+-- goes on with the value of a reference, from its parts (6.2.5.5)
 abbrev pub get : World → Addr → Reference → List Value → (Value → Action) → Action
 get w scope r vs k = with_result (read_result w scope r vs) k
 

@@ -59,6 +59,7 @@ initialize_row scope name vs = write scope (changes.Bind name (only vs)) (give v
 
 -- ---- tests
 
+-- the branch that a test chooses; undefined where it chooses an absent one
 abbrev pub chosen : Bool → Terms → Term
 chosen true (more a ts) = settle a
 chosen false (more a (more b ts)) = settle b
@@ -68,6 +69,7 @@ chosen _ _ = done values.Undefined
 abbrev pub choose_row : World → Value → Terms → Action
 choose_row w v later = go (chosen (is_truthy w v) later)
 
+-- what `&&` comes to: its right side where the left one is true, else the value of the left one
 abbrev pub kept_or : Bool → Value → Terms → Term
 kept_or true v (more b ts) = b
 kept_or _ v later = done v
@@ -76,10 +78,12 @@ kept_or _ v later = done v
 abbrev pub both_row : World → Value → Terms → Action
 both_row w v later = go (kept_or (is_truthy w v) v later)
 
+-- what `||` comes to: its right side where the left one is false, else the value of the left one
 abbrev pub otherwise : Bool → Value → Terms → Term
 otherwise false v (more b ts) = b
 otherwise _ v later = done v
 
+-- `||` (13.13.1)
 abbrev pub either_row : World → Value → Terms → Action
 either_row w v later = go (otherwise (is_truthy w v) v later)
 
@@ -95,9 +99,11 @@ abbrev pub copy_of : Option Cell → Cell
 copy_of (Some (cells.Bindings kind name outer names)) = cells.Bindings kind name outer names
 copy_of _ = cells.Bindings scopes.Block [] None []
 
+-- makes a copy of the scope at an address
 abbrev pub copied : World → Addr → (Addr → Action) → Action
 copied w a k = make (copy_of (read_cell w a)) k
 
+-- a loop's step: its test chooses, or a `for` with `let` gets the scope of its next turn
 abbrev pub loop_row : World → Stage → Option Addr → List Value → Terms → Action
 loop_row w testing scope vs later = go (turn_or_end (is_truthy w (only vs)) scope later)
 loop_row w first (Some a) vs later = copied w a (λ b. go (at_test (Some b) later))
@@ -110,6 +116,7 @@ for_in true s (more inits later) = part (scoped s) (one (settled (loop first Non
 for_in false s (more inits later) = settled (loop first (Some s)) (one (settle inits)) later
 for_in constant s end = done values.Undefined
 
+-- an untouched `for` with `let` or `const`: its names' scope, then its initialisers
 abbrev pub enter_for_row : Addr → ℕ → Bool → List Binding → Terms → Action
 enter_for_row scope node constant names later =
     set_here (start node) (new_scope scopes.Block [] scope names (λ s. go (for_in constant s later)))
@@ -124,14 +131,17 @@ enter_for_of_row scope node b end = give values.Undefined
 abbrev pub list_row : World → Binding → Value → Terms → Action
 list_row w b v later = if is_array w v then go (part (turn_of b 0) end (more (done v) later)) else fail classes.TypeError (codes "Value is not an array")
 
+-- the element of an index, if the cell is an array that long
 abbrev pub element_of : Option Cell → ℕ → Option Value
 element_of (Some (cells.Array vs)) i = slice_get vs i
 element_of _ i = None
 
+-- the element of an index of the array that a `for .. of` goes through
 abbrev pub elements_of : World → Terms → ℕ → Option Value
 elements_of w (more (done (values.Object a)) ts) i = element_of (read_cell w a) i
 elements_of w _ i = None
 
+-- the body of a `for .. of`, behind its list
 abbrev pub body_part : Terms → Term
 body_part (more list (more statement ts)) = statement
 body_part _ = done values.Undefined
@@ -172,6 +182,7 @@ updated_by o (a_value old) k = with_result (update_result o old) (k old)
 updated_by o (a_text us) k = with_result not_numbers give
 updated_by o (an_error class message) k = fail class message
 
+-- `++` and `--`: the old value is read, the new one written, and one of the two is the step's value
 abbrev pub update_row : World → Addr → UpdateOperator → Bool → Reference → List Value → Action
 update_row w scope o prefix r vs = updated_by o (read_result w scope r vs) (λ old new. put w scope r vs new (give (update_value prefix old new)))
 
@@ -184,6 +195,7 @@ abbrev pub callee_this : Reference → List Value → Value
 callee_this (to_name n) vs = values.Undefined
 callee_this r vs = only vs
 
+-- a callee that is a reference is read, and the call has it with its `this`
 abbrev pub callee_row : World → Addr → Reference → Mark → ℕ → List Value → Terms → Action
 callee_row w scope r place node vs later =
     get w scope r vs (λ f. go (part (call place node) (more (done (callee_this r vs)) (more (done f) later)) end))
@@ -195,11 +207,13 @@ abbrev pub with_computed : Option (List ℕ) → List Property → Value → (Li
 with_computed None ps v k = None
 with_computed (Some key) ps v k = k (put_property ps key v)
 
+-- some properties with those of the members behind them; None where a computed key is no key
 abbrev pub properties_from : World → List Property → List Member → List Value → Option (List Property)
 properties_from w ps (keyed key ∷ ms) (v ∷ vs) = properties_from w (put_property ps key v) ms vs
 properties_from w ps (computed ∷ ms) (k ∷ v ∷ vs) = with_computed (key_of w k) ps v (λ qs. properties_from w qs ms vs)
 properties_from w ps ms vs = Some ps
 
+-- a new object of these properties, or the error of what is no key
 abbrev pub object_or_fail : Option (List Property) → Action
 object_or_fail None = fail classes.TypeError (codes "Property key must be a string or a number")
 object_or_fail (Some ps) = make (cells.Object ps) (λ a. give (values.Object a))
@@ -214,12 +228,14 @@ object_row w scope ms vs (more t ts) = give values.Undefined
 
 -- ---- the end of a finally, of a body
 
+-- the completion that a `finally` kept travels on (14.15.3)
 abbrev pub ending_row : Option Completion → Action
 ending_row None = give values.Undefined
 ending_row (Some c) = leave c
 
 -- ---- THE TABLE OF STEPS
 
+-- what the step of a form does, from the values of its parts and the parts that it keeps
 abbrev pub row : Program → State → Addr → Form → List Value → Terms → Action
 row p s scope (script number names) vs later = script_row number names later
 row p s scope (enter node) vs later = enter_row node later

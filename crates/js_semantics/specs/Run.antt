@@ -45,6 +45,7 @@ abbrev pub program_from : ℕ → Terms → Program
 program_from n end = []
 program_from n (more t ts) = record { source = script_source n; tree = t } ∷ program_from (n + 1) ts
 
+-- the scripts' terms with the addresses of their literals' cells
 abbrev pub placed_scripts : Terms → Terms
 placed_scripts ts = all_with_literals (λ n. Base n) first_literal ts
 
@@ -56,6 +57,7 @@ program_of ts = program_from 1 (placed_scripts ts)
 abbrev pub bottom_frame : Frame
 bottom_frame = script_frame 1
 
+-- the state before the first step: the world with the literals' cells, the bottom frame, and all of the input
 abbrev pub first_state : Terms → List (List ℕ) → State
 first_state ts input = record { world = first_world (literals_of ts); frames = bottom_frame ∷ []; outer_this = values.Undefined; input = input; printed = [] }
 
@@ -68,6 +70,7 @@ pub data Finish : Type 0 where
   by_effect : Finish
   by_full : Counted → Finish
 
+-- a run that goes on, or one that is over, with its state
 pub data Run : Type 0 where
   running : Term → State → Run
   over : Finish → State → Run
@@ -85,6 +88,7 @@ outermost (returns v) = ended v
 outermost breaks = ended values.Undefined
 outermost continues = ended values.Undefined
 
+-- the run behind a step
 abbrev pub run_after : Move Term → Run
 run_after (goes t s told) = run_of t s
 run_after (travels c s) = over (outermost c) s
@@ -105,6 +109,7 @@ steps_in (suc k) p scope r = steps_in k p scope (step_in p scope r)
 abbrev pub step : Program → Run → Run
 step p r = step_in p script_scope r
 
+-- a run of scripts, so many steps further
 abbrev pub steps : ℕ → Program → Run → Run
 steps k p r = steps_in k p script_scope r
 
@@ -116,6 +121,7 @@ start ts input = run_of (settled scripts (placed_scripts ts) end) (first_state t
 abbrev pub plain : ℕ → Terms → List (List ℕ) → Run
 plain k ts input = steps k (program_of ts) (start ts input)
 
+-- the state of a run
 abbrev pub state_of : Run → State
 state_of (running t s) = s
 state_of (over f s) = s
@@ -130,6 +136,7 @@ out k ts input = printed_of (plain k ts input)
 
 -- ---- what is counted: the steps that a run takes within a bound
 
+-- how many of at most so many steps a run takes before it is over
 abbrev pub steps_taken : ℕ → Program → Run → ℕ
 steps_taken zero p r = 0
 steps_taken (suc k) p (over f s) = 0

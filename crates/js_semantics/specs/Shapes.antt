@@ -76,6 +76,7 @@ AreMethods end = Unit {0}
 AreMethods (more (part (method f) now later) ts) = AreMethods ts
 AreMethods (more _ ts) = ⊥
 
+-- how many parts these methods still bring: the function of each, and what follows it
 abbrev pub methods_size : Terms → ℕ
 methods_size end = 0
 methods_size (more (part (method f) now later) ts) = suc (size now + methods_size ts)
@@ -87,6 +88,7 @@ members_size [] = 0
 members_size (keyed key ∷ ms) = suc (members_size ms)
 members_size (computed ∷ ms) = suc (suc (members_size ms))
 
+-- what else a form wants of its parts
 abbrev pub OtherShape : Form → ℕ → Terms → Type 0
 OtherShape (script number names) n later = BehindBody later
 OtherShape (block names) n later = BehindBody later
@@ -101,6 +103,7 @@ pub record Shape (f : Form) (n : ℕ) (later : Terms) : Type 0 where
   pub kept : later_parts f ≤ size later
   pub others : OtherShape f n later
 
+-- all forms in a term have the parts that they want
 abbrev mutual
   pub IsShaped : Term → Type 0
   IsShaped (done v) = Unit {0}
@@ -111,6 +114,7 @@ abbrev mutual
   AreShaped end = Unit {0}
   AreShaped (more t ts) = IsShaped t × AreShaped ts
 
+-- all sources of a program are well-shaped
 abbrev pub ShapedProgram : Program → Type 0
 ShapedProgram [] = Unit {0}
 ShapedProgram (t ∷ ts) = IsShaped t.tree × ShapedProgram ts
@@ -126,10 +130,12 @@ ShapedAction (push_frame f k) = ShapedAction k
 ShapedAction (pop_frame k) = ShapedAction k
 ShapedAction _ = Unit {0}
 
+-- where a step goes on, it goes on with a well-shaped term
 abbrev pub ShapedMove : Move Term → Type 0
 ShapedMove (goes t s told) = IsShaped t
 ShapedMove _ = Unit {0}
 
+-- a run that isn't over has a well-shaped term
 abbrev pub ShapedRun : Run → Type 0
 ShapedRun (running t s) = IsShaped t
 ShapedRun (over f s) = Unit {0}

@@ -14,16 +14,19 @@ use Rattle.js_semantics.specs.Functions.{Program}
 use Rattle.js_semantics.specs.Evaluation.{Argument, given, made_of, Answer, a_result, a_throw}
 use Rattle.js_semantics.specs.Run.{Finish, ended, threw, by_effect, by_full, Run, running, over}
 
+-- the value of a completion is live, where it has one
 abbrev pub SoundCompletion : World → Completion → Type 0
 SoundCompletion w (throws v place) = SoundValue w v
 SoundCompletion w (returns v) = SoundValue w v
 SoundCompletion w breaks = Unit {0}
 SoundCompletion w continues = Unit {0}
 
+-- the value of the completion that a `finally` keeps is live, where it keeps one
 abbrev pub SoundKept : World → Option Completion → Type 0
 SoundKept w None = Unit {0}
 SoundKept w (Some c) = SoundCompletion w c
 
+-- the scopes and values that a form names are live
 abbrev pub SoundForm : World → Form → Type 0
 SoundForm w (script number names) = SoundNames w names
 SoundForm w (enter_for node constant names) = SoundNames w names
@@ -40,6 +43,7 @@ SoundForm w (function f) = SoundNames w f.names
 SoundForm w (method f) = SoundNames w f.names
 SoundForm w _ = Unit {0}
 
+-- all that the forms and values of a term name is live
 abbrev mutual
   pub SoundTerm : World → Term → Type 0
   SoundTerm w (done v) = SoundValue w v
@@ -50,13 +54,16 @@ abbrev mutual
   SoundTerms w end = Unit {0}
   SoundTerms w (more t ts) = SoundTerm w t × SoundTerms w ts
 
+-- all that the terms of a program's sources name is live
 abbrev pub SoundProgram : World → Program → Type 0
 SoundProgram w [] = Unit {0}
 SoundProgram w (t ∷ ts) = SoundTerm w t.tree × SoundProgram w ts
 
+-- a frame's `this` and its scope are live
 abbrev pub SoundFrame : World → Frame → Type 0
 SoundFrame w f = SoundValue w f.receiver × SoundScope w (Some f.scope)
 
+-- the `this` and the scope of each frame are live
 abbrev pub SoundFrames : World → List Frame → Type 0
 SoundFrames w [] = Unit {0}
 SoundFrames w (f ∷ fs) = SoundFrame w f × SoundFrames w fs
@@ -67,6 +74,7 @@ pub record HasBuiltIns (w : World) : Type 0 where
   pub full_error : SoundValue w (values.Object heap_full_error)
   pub scripts : SoundScope w (Some script_scope)
 
+-- the world is sound, has its built-in cells, and all that the program and the frames name is live in it
 pub record SoundState (p : Program) (s : State) : Type 0 where
   pub world : IsSound s.world
   pub built_ins : HasBuiltIns s.world
@@ -91,12 +99,14 @@ SoundAction w (set_here m k) = SoundAction w k
 SoundAction w (push_frame f k) = SoundFrame w f × SoundAction w k
 SoundAction w (pop_frame k) = SoundAction w k
 
+-- a step leaves a sound state, and a sound term or completion
 abbrev pub SoundMove : Program → Move Term → Type 0
 SoundMove p (goes t s told) = SoundState p s × SoundTerm s.world t
 SoundMove p (travels c s) = SoundState p s × SoundCompletion s.world c
 SoundMove p (has_effect s) = SoundState p s
 SoundMove p (is_full what s) = SoundState p s
 
+-- the value with which a run ended is live
 abbrev pub SoundFinish : World → Finish → Type 0
 SoundFinish w (ended v) = SoundValue w v
 SoundFinish w (threw v place) = SoundValue w v

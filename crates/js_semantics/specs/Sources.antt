@@ -25,7 +25,7 @@ use Rattle.js_semantics.specs.Makers.{Made, Item, Items, PropertyKey, fixed_key,
 abbrev pub Layer : (Type 0 → Type 0 → Type 0 → Type 0 → Type 0 → Type 0 → Type 0 → Type 0 → Type 0 → Type 0 → Type 0 → Type 0) → Type 0
 Layer F = F Made PropertyMade PropertyKey Item Items CatchMade DeclaratorMade (List DeclaratorMade) (List Made) (List PropertyMade) Items
 
--- one level of each type, with what is made of its parts
+-- one level of an expression, with what is made of its parts
 abbrev pub expression_layer : Layer Expr-F → Made
 expression_layer (Expr-F.This node) = this_made node.0
 expression_layer (Expr-F.Name node n) = name_made node.0 n
@@ -50,17 +50,20 @@ expression_layer (Expr-F.Conditional node t a b) = conditional_made node.0 t.val
 expression_layer (Expr-F.Assign node o t e) = assign_made node.0 o t.value e.value
 expression_layer (Expr-F.Comma node es) = comma_made node.0 es
 
+-- one level of a property's key
 abbrev pub key_layer : Layer PropertyName-F → PropertyKey
 key_layer (PropertyName-F.Word us) = fixed_key us
 key_layer (PropertyName-F.StringLiteral us) = fixed_key us
 key_layer (PropertyName-F.NumericLiteral v) = fixed_key (decimal v.value)
 key_layer (PropertyName-F.Computed e) = computed_key e
 
+-- one level of a member of an object literal
 abbrev pub property_layer : Layer PropertyDefinition-F → PropertyMade
 property_layer (PropertyDefinition-F.Shorthand n) = value_property (fixed_key n) (name_made 0 n)
 property_layer (PropertyDefinition-F.Value k e) = value_property k e
 property_layer (PropertyDefinition-F.Method node k ps body) = method_property node.0 k ps body
 
+-- one level of a statement or declaration
 abbrev pub statement_layer : Layer Stmt-F → Item
 statement_layer (Stmt-F.Block b) = block_item b
 statement_layer (Stmt-F.Lexical node c ds) = lexical_item node.0 c ds
@@ -81,58 +84,75 @@ statement_layer (Stmt-F.Try node b h f) = try_item node.0 b h f
 statement_layer (Stmt-F.Debugger node) = debugger_item node.0
 statement_layer (Stmt-F.FunctionDeclaration node n ps body) = function_item node.0 n ps body
 
+-- one level of a block
 abbrev pub block_layer : Layer layers.Block-F → Items
 block_layer b = b.body
 
+-- one level of a catch
 abbrev pub catch_layer : Layer layers.Catch-F → CatchMade
 catch_layer c = record { name = c.parameter; body = c.block }
 
+-- one level of a declarator
 abbrev pub declarator_layer : Layer layers.Declarator-F → DeclaratorMade
 declarator_layer d = record { name = d.name; initializer = d.initializer }
 
+-- one level of the declarators of a declaration
 abbrev pub declarators_layer : Layer layers.Declarators-F → List DeclaratorMade
 declarators_layer ds = ds.items.items
 
+-- one level of a list of expressions
 abbrev pub expressions_layer : Layer layers.Exprs-F → List Made
 expressions_layer es = es.items.items
 
+-- one level of the members of an object literal
 abbrev pub properties_layer : Layer layers.PropertyDefinitions-F → List PropertyMade
 properties_layer ps = ps.items.items
 
+-- one level of a list of statements
 abbrev pub statements_layer : Layer layers.Stmts-F → Items
 statements_layer ss = items_of ss.items.items
 
--- what is made of each type of tree
+-- what is made of an expression
 unfoldable pub expression_source : Expr → Made
 expression_source = fold-Expr Made PropertyMade PropertyKey Item Items CatchMade DeclaratorMade (List DeclaratorMade) (List Made) (List PropertyMade) Items expression_layer property_layer key_layer statement_layer block_layer catch_layer declarator_layer declarators_layer expressions_layer properties_layer statements_layer
 
+-- what is made of a member of an object literal
 unfoldable pub property_source : PropertyDefinition → PropertyMade
 property_source = fold-PropertyDefinition Made PropertyMade PropertyKey Item Items CatchMade DeclaratorMade (List DeclaratorMade) (List Made) (List PropertyMade) Items expression_layer property_layer key_layer statement_layer block_layer catch_layer declarator_layer declarators_layer expressions_layer properties_layer statements_layer
 
+-- what is made of a property's key
 unfoldable pub key_source : PropertyName → PropertyKey
 key_source = fold-PropertyName Made PropertyMade PropertyKey Item Items CatchMade DeclaratorMade (List DeclaratorMade) (List Made) (List PropertyMade) Items expression_layer property_layer key_layer statement_layer block_layer catch_layer declarator_layer declarators_layer expressions_layer properties_layer statements_layer
 
+-- what is made of a statement or declaration
 unfoldable pub statement_source : Stmt → Item
 statement_source = fold-Stmt Made PropertyMade PropertyKey Item Items CatchMade DeclaratorMade (List DeclaratorMade) (List Made) (List PropertyMade) Items expression_layer property_layer key_layer statement_layer block_layer catch_layer declarator_layer declarators_layer expressions_layer properties_layer statements_layer
 
+-- what is made of a block
 unfoldable pub block_source : Block → Items
 block_source = fold-Block Made PropertyMade PropertyKey Item Items CatchMade DeclaratorMade (List DeclaratorMade) (List Made) (List PropertyMade) Items expression_layer property_layer key_layer statement_layer block_layer catch_layer declarator_layer declarators_layer expressions_layer properties_layer statements_layer
 
+-- what is made of a catch
 unfoldable pub catch_source : Catch → CatchMade
 catch_source = fold-Catch Made PropertyMade PropertyKey Item Items CatchMade DeclaratorMade (List DeclaratorMade) (List Made) (List PropertyMade) Items expression_layer property_layer key_layer statement_layer block_layer catch_layer declarator_layer declarators_layer expressions_layer properties_layer statements_layer
 
+-- what is made of a declarator
 unfoldable pub declarator_source : Declarator → DeclaratorMade
 declarator_source = fold-Declarator Made PropertyMade PropertyKey Item Items CatchMade DeclaratorMade (List DeclaratorMade) (List Made) (List PropertyMade) Items expression_layer property_layer key_layer statement_layer block_layer catch_layer declarator_layer declarators_layer expressions_layer properties_layer statements_layer
 
+-- what is made of the declarators of a declaration
 unfoldable pub declarators_source : Declarators → List DeclaratorMade
 declarators_source = fold-Declarators Made PropertyMade PropertyKey Item Items CatchMade DeclaratorMade (List DeclaratorMade) (List Made) (List PropertyMade) Items expression_layer property_layer key_layer statement_layer block_layer catch_layer declarator_layer declarators_layer expressions_layer properties_layer statements_layer
 
+-- what is made of a list of expressions
 unfoldable pub expressions_source : Exprs → List Made
 expressions_source = fold-Exprs Made PropertyMade PropertyKey Item Items CatchMade DeclaratorMade (List DeclaratorMade) (List Made) (List PropertyMade) Items expression_layer property_layer key_layer statement_layer block_layer catch_layer declarator_layer declarators_layer expressions_layer properties_layer statements_layer
 
+-- what is made of the members of an object literal
 unfoldable pub properties_source : PropertyDefinitions → List PropertyMade
 properties_source = fold-PropertyDefinitions Made PropertyMade PropertyKey Item Items CatchMade DeclaratorMade (List DeclaratorMade) (List Made) (List PropertyMade) Items expression_layer property_layer key_layer statement_layer block_layer catch_layer declarator_layer declarators_layer expressions_layer properties_layer statements_layer
 
+-- what is made of a list of statements
 unfoldable pub statements_source : Stmts → Items
 statements_source = fold-Stmts Made PropertyMade PropertyKey Item Items CatchMade DeclaratorMade (List DeclaratorMade) (List Made) (List PropertyMade) Items expression_layer property_layer key_layer statement_layer block_layer catch_layer declarator_layer declarators_layer expressions_layer properties_layer statements_layer
 

@@ -73,20 +73,25 @@ pub data Action : Type 0 where
 
 -- ---- the state's parts
 
+-- the state with another world
 abbrev pub with_world : State → World → State
 with_world s w = record s { world = w }
 
+-- the frames, the top one standing at another place
 abbrev pub moved_frames : List Frame → Mark → List Frame
 moved_frames [] m = []
 moved_frames (f ∷ fs) m = record f { here = m } ∷ fs
 
+-- the state, its top frame standing at another place
 abbrev pub with_here : State → Mark → State
 with_here s m = record s { frames = moved_frames s.frames m }
 
+-- the frames below the top one
 abbrev pub rest_of : List Frame → List Frame
 rest_of [] = []
 rest_of (f ∷ fs) = fs
 
+-- where the top frame stands; without a frame at the beginning of no script
 abbrev pub top_spot : List Frame → Spot
 top_spot [] = record { source = script_source 0; mark = beginning }
 top_spot (f ∷ fs) = record { source = f.source; mark = f.here }
@@ -95,23 +100,28 @@ top_spot (f ∷ fs) = record { source = f.source; mark = f.here }
 abbrev pub spot_of : State → Spot
 spot_of s = top_spot s.frames
 
+-- the top frame's `this`, or where there is no frame the one outside all calls
 abbrev pub top_this : List Frame → Value → Value
 top_this [] v = v
 top_this (f ∷ fs) v = f.receiver
 
+-- the `this` of what is reduced (9.4.4)
 abbrev pub this_of : State → Value
 this_of s = top_this s.frames s.outer_this
 
+-- the next line of the input, if there is one
 abbrev pub first_line : List (List ℕ) → Option (List ℕ)
 first_line [] = None
 first_line (line ∷ lines) = Some line
 
+-- the lines of the input behind the next one
 abbrev pub other_lines : List (List ℕ) → List (List ℕ)
 other_lines [] = []
 other_lines (line ∷ lines) = lines
 
 -- ---- performing an action
 
+-- a value is raised: the throw stands, with the place of the top frame
 abbrev pub raised_at : Value → State → Move Term
 raised_at v s = goes (standing v (spot_of s)) s raised
 
@@ -129,6 +139,7 @@ after (full what) s k = when_full what s
 abbrev pub outside : State → Move Term → Move Term
 outside s m = if is_evaluation s.world then has_effect s else m
 
+-- what an action does to a state: its changes in order, then its ending
 abbrev pub perform : Action → State → Move Term
 perform (go t) s = goes t s went
 perform (raise v) s = raised_at v s
@@ -143,6 +154,7 @@ perform (pop_frame k) s = perform k (record s { frames = rest_of s.frames })
 
 -- ---- what most rows end in
 
+-- an action that changes nothing and comes to a value
 abbrev pub give : Value → Action
 give v = go (done v)
 

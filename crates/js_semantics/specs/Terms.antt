@@ -35,22 +35,27 @@ mutual
     end : Terms
     more : Term → Terms → Terms
 
+-- a single part
 abbrev pub one : Term → Terms
 one t = more t end
 
+-- parts, and others behind them
 abbrev pub joined : Terms → Terms → Terms
 joined end us = us
 joined (more t ts) us = more t (joined ts us)
 
+-- parts that are values
 abbrev pub dones : List Value → Terms
 dones [] = end
 dones (v ∷ vs) = more (done v) (dones vs)
 
+-- a part has its value
 abbrev pub is_done : Term → Bool
 is_done (done v) = true
 is_done (standing v s) = false
 is_done (part f now later) = false
 
+-- all parts have their values
 abbrev pub all_done : Terms → Bool
 all_done end = true
 all_done (more t ts) = is_done t && all_done ts
@@ -64,19 +69,22 @@ last_value v (more (part f now later) ts) = last_value v ts
 
 -- ---- what takes no step
 
--- the parts of a loop
+-- a loop's test, the first part that it keeps
 abbrev pub test_of : Terms → Term
 test_of (more t ts) = t
 test_of end = done values.Undefined
 
+-- a loop's update, the second part that it keeps
 abbrev pub update_of : Terms → Term
 update_of (more t (more u ts)) = u
 update_of _ = done values.Undefined
 
+-- a loop's body, the third part that it keeps
 abbrev pub body_of_loop : Terms → Term
 body_of_loop (more t (more u (more b ts))) = b
 body_of_loop _ = done values.Undefined
 
+-- the loop at its test
 abbrev pub at_test : Option Addr → Terms → Term
 at_test scope later = part (loop testing scope) (one (test_of later)) later
 
@@ -89,9 +97,11 @@ abbrev pub behind_body : Option Addr → Terms → Term
 behind_body None later = at_update None later
 behind_body (Some a) later = part (loop body (Some a)) end later
 
+-- the loop in its body; a body that is a value is finished at once
 abbrev pub at_body : Option Addr → Terms → Term
 at_body scope later = if is_done (body_of_loop later) then behind_body scope later else part (loop body scope) (one (body_of_loop later)) later
 
+-- behind the initialiser: the scope of a `for` with `let` is copied first, which is a step
 abbrev pub behind_first : Option Addr → Terms → Term
 behind_first None later = at_test None later
 behind_first (Some a) later = part (loop first (Some a)) end later
@@ -115,6 +125,7 @@ finished f now later = part f now later
 abbrev pub settled : Form → Terms → Terms → Term
 settled f now later = if all_done now then finished f now later else part f now later
 
+-- a term whose parts may have their values already, put together again
 abbrev pub settle : Term → Term
 settle (done v) = done v
 settle (standing v s) = standing v s

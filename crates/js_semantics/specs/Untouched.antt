@@ -5,6 +5,7 @@ use Rattle.js_heap.specs.declared.value.Value.TheVariants as values
 use Rattle.js_heap.specs.declared.cell.Binding.{Binding}
 use Rattle.js_semantics.specs.Terms.{Form, script, enter_for, enter_for_of, block, scoped, frame, loop, list_of, turn_of, body_of, ending, function, method, Term, done, standing, part, Terms, end, more}
 
+-- a value holds no address: it is neither a string nor an object
 abbrev pub HasNoAddress : Value → Type 0
 HasNoAddress (values.Text a) = ⊥
 HasNoAddress (values.Object a) = ⊥
@@ -15,6 +16,7 @@ abbrev pub AreDeclared : List Binding → Type 0
 AreDeclared [] = Unit {0}
 AreDeclared (b ∷ bs) = (b.value ≡ None) × AreDeclared bs
 
+-- a form holds no address, and is none that only steps make
 abbrev pub UntouchedForm : Form → Type 0
 UntouchedForm (script number names) = AreDeclared names
 UntouchedForm (enter_for node constant names) = AreDeclared names
@@ -31,6 +33,7 @@ UntouchedForm (turn_of b i) = ⊥
 UntouchedForm (body_of b i) = ⊥
 UntouchedForm _ = Unit {0}
 
+-- no form and no value in a term holds an address, and no throw stands in it
 abbrev mutual
   pub IsUntouched : Term → Type 0
   IsUntouched (done v) = HasNoAddress v

@@ -38,10 +38,12 @@ is_ready (done v) = true
 is_ready (part (literal us) now later) = true
 is_ready t = false
 
+-- all parts count as values before the first step
 abbrev pub all_ready : Terms → Bool
 all_ready end = true
 all_ready (more t ts) = is_ready t && all_ready ts
 
+-- the first of two statements where something is so, else the second
 abbrev pub ByCase : Bool → Type 0 → Type 0 → Type 0
 ByCase true A B = A
 ByCase false A B = B
@@ -68,10 +70,12 @@ abbrev mutual
   RestWaits ready end = Unit {0}
   RestWaits ready (more t ts) = PartsWait ready t × AllWait ready ts
 
+-- the forms in all sources of a program wait for their steps
 abbrev pub ProgramWaits : Program → Type 0
 ProgramWaits [] = Unit {0}
 ProgramWaits (t ∷ ts) = Waits all_done t.tree × ProgramWaits ts
 
+-- whatever comes of an action's changes, the forms in the term that it goes on with wait for their steps
 abbrev pub ActionWaits : Action → Type 0
 ActionWaits (go t) = Waits all_done t
 ActionWaits (make c k) = (a : _) → ActionWaits (k a)
@@ -82,10 +86,12 @@ ActionWaits (push_frame f k) = ActionWaits k
 ActionWaits (pop_frame k) = ActionWaits k
 ActionWaits _ = Unit {0}
 
+-- where a step goes on, the forms in its term wait for their steps
 abbrev pub MoveWaits : Move Term → Type 0
 MoveWaits (goes t s told) = Waits all_done t
 MoveWaits _ = Unit {0}
 
+-- the forms in the term of a run that isn't over wait for their steps
 abbrev pub RunWaits : Run → Type 0
 RunWaits (running t s) = Waits all_done t
 RunWaits (over f s) = Unit {0}

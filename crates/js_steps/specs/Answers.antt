@@ -20,10 +20,12 @@ use Rattle.js_steps.specs.Tasks.{Wide, turn_scope, kept_of, index_of, task_form,
 
 -- ---- parts of terms
 
+-- the first part; undefined where there is none
 abbrev pub head_of : Terms → Term
 head_of end = done values.Undefined
 head_of (more t ts) = t
 
+-- the parts behind the first one
 abbrev pub rest_of : Terms → Terms
 rest_of end = end
 rest_of (more t ts) = ts
@@ -52,24 +54,30 @@ operating (ops.CompoundMember o) = ops.Binary o
 operating (ops.CompoundIndex o) = ops.Binary o
 operating op = op
 
+-- the operator of a compound assignment on the old value and the right side
 abbrev pub operated : List (List ℕ) → NodeTable → Wide → Value → Term
 operated ts t w old = part (form_of ts t (operating w.op) w.info) (more (done old) (one (head_of (later_of ts t w)))) end
 
+-- what a compound assignment is once the old value is read: an assignment of its operator's value
 abbrev pub assigned : List (List ℕ) → NodeTable → Wide → Value → Term
 assigned ts t w old = part (form_of ts t (assigning w.op) w.info) (joined (dones w.values) (one (operated ts t w old))) end
 
+-- what a call is once its callee is read: the arguments come next
 abbrev pub called : List (List ℕ) → NodeTable → Wide → Value → Term
 called ts t w callee = part (call_form (slice_get t.calls.items w.info)) (more (done (called_this w.op w.values)) (more (done callee) (later_of ts t w))) end
 
 -- ---- loops
 
+-- the scope of a loop's present turn, where it has one
 abbrev pub own_scope : Wide → Option Addr
 own_scope w = turn_scope w.info w.inner
 
+-- a `for .. of` that evaluates its list in this scope
 abbrev pub listed : List (List ℕ) → NodeTable → Wide → Addr → Term
 listed ts t w a =
     part (list_form ts (slice_get t.for_ofs.items w.info)) (one (in_scope a (head_of (later_of ts t w)))) (rest_of (later_of ts t w))
 
+-- a `for .. of` in a turn whose name stands in this scope
 abbrev pub iterated : List (List ℕ) → NodeTable → Wide → Addr → Term
 iterated ts t w a =
     settled (body_form ts (slice_get t.for_ofs.items w.info) (index_of w.extra + 1)) (one (in_scope a (body_part (later_of ts t w)))) (later_of ts t w)
@@ -81,6 +89,7 @@ abbrev pub now_of : Term → Terms
 now_of (part f now later) = now
 now_of t = end
 
+-- an object literal once a method with a computed key is made, with the parts that come behind it
 abbrev pub added : List (List ℕ) → NodeTable → Wide → Value → Term
 added ts t w v =
     part (task_form ts t w) (joined (dones w.values) (more (done v) (now_of (head_of (later_of ts t w))))) (rest_of (later_of ts t w))
@@ -109,6 +118,7 @@ reduced_term ts t w r = done values.Undefined
 
 -- ---- the move
 
+-- the end of a `finally`: what it keeps travels on, if it keeps a completion
 abbrev pub resumed : Option Completion → State → Move Term
 resumed (Some c) s = travels c s
 resumed None s = goes (done values.Undefined) s went

@@ -42,6 +42,7 @@ IsCallOf ops.CallOfMember = Unit {0}
 IsCallOf ops.CallOfIndex = Unit {0}
 IsCallOf op = ⊥
 
+-- a compound assignment
 abbrev pub IsCompound : Op → Type 0
 IsCompound (ops.CompoundName o) = Unit {0}
 IsCompound (ops.CompoundMember o) = Unit {0}

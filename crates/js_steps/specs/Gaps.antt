@@ -26,6 +26,7 @@ filled g t = part g.form (gap_parts g t) g.later
 
 -- ---- forms around a part, from the innermost one
 
+-- a term in the gaps of the forms around it
 abbrev pub plugged : List Gap → Term → Term
 plugged [] t = t
 plugged (g ∷ gs) t = plugged gs (filled g t)

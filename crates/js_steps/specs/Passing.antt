@@ -24,14 +24,17 @@ use Rattle.js_steps.specs.Tasks.{Wide, gaps_of, InScopes}
 
 -- ---- which form takes which completion
 
+-- a `try` with its catch takes a throw
 abbrev pub passing_try : Completion → Passing
 passing_try (throws v place) = passings.Takes (takings.Catches v)
 passing_try c = passings.Lets
 
+-- an active call takes a return; every other completion passes it, and its frame is gone
 abbrev pub passing_call : Completion → Passing
 passing_call (returns v) = passings.Takes (takings.Returns v)
 passing_call c = passings.Unframes
 
+-- the turn of a loop takes a `break` and a `continue`
 abbrev pub passing_turn : Completion → Passing
 passing_turn breaks = passings.Takes takings.Breaks
 passing_turn continues = passings.Takes takings.Turns
@@ -42,6 +45,7 @@ abbrev pub passing_entry : Option ForOfEntry → Completion → Passing
 passing_entry None c = passings.Lets
 passing_entry (Some e) c = passing_turn c
 
+-- whether the form of a task takes a completion, and as what
 abbrev pub passing_of : NodeTable → Op → ℕ → Completion → Passing
 passing_of t ops.Catching info c = passing_try c
 passing_of t ops.CatchingName info c = passing_try c
@@ -53,6 +57,7 @@ passing_of t op info c = passings.Lets
 
 -- ---- what it makes of it
 
+-- what a form does with a completion that it takes so, or lets pass
 abbrev pub took : Addr → Form → Completion → Terms → Passing → Action
 took scope f c later passings.Lets = leave c
 took scope f c later passings.Unframes = pop_frame (leave c)

@@ -30,14 +30,17 @@ pub record IsLeaf (node : Node) : Type 0 where
   pub parts : node.first ≡ node.mid
   pub value : is_literal node.op ≡ false
 
+-- there is a node, and it has no parts to reduce
 abbrev pub IsLeafAt : Option Node → Type 0
 IsLeafAt None = ⊥
 IsLeafAt (Some node) = IsLeaf node
 
+-- there is a task, and all of its parts have their values
 abbrev pub IsAtRow : List Wide → Type 0
 IsAtRow [] = ⊥
 IsAtRow (w ∷ ws) = w.at ≡ w.mid
 
+-- what holds of the tasks and the nodes at this point
 abbrev pub IsAt : NodeTable → List Wide → Point → Type 0
 IsAt t ws points.Row = IsAtRow ws
 IsAt t ws (points.Leaf n) = IsLeafAt (slice_get t.nodes.items n)

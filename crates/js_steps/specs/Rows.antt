@@ -27,6 +27,7 @@ abbrev pub RowOf : List (List ℕ) → NodeTable → Wide → Addr → State →
 RowOf ts t w outer s r u =
     scope_in (task_form ts t w) outer ≡ w.inner → Reduces ts t w (performed (row (program_of ts t) s outer (task_form ts t w) w.values (later_of ts t w)) s) r u
 
+-- a `try` with its catch
 abbrev pub IsCatching : Op → Type 0
 IsCatching ops.Catching = Unit {0}
 IsCatching ops.CatchingName = Unit {0}

@@ -81,6 +81,7 @@ IsGoing p = Unit {0}
 
 -- ---- what a row's answer asks for
 
+-- what an answer asks of the machine; all that isn't told of here goes on with a term
 abbrev pub answer_of : Reduced → Answer
 answer_of (reduced.Raises v) = kinds.Raises v
 answer_of (reduced.Returns v) = kinds.Travels (returns v)

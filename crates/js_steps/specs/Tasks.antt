@@ -36,10 +36,12 @@ pub record Wide : Type 0 where
 abbrev pub turn_scope : ℕ → Addr → Option Addr
 turn_scope info inner = if nat_eq info 0 then None else Some inner
 
+-- the completion that a `finally` keeps, if it keeps one
 abbrev pub kept_of : Option Extra → Option Completion
 kept_of (Some (extras.Kept c)) = Some c
 kept_of _ = None
 
+-- the index of a `for .. of`; 0 of all else
 abbrev pub index_of : Option Extra → ℕ
 index_of (Some (extras.Turn list i)) = i
 index_of _ = 0
@@ -75,12 +77,15 @@ abbrev pub with_list : Option Extra → Terms → Terms
 with_list (Some (extras.Turn list i)) later = more (done list) later
 with_list _ later = later
 
+-- the parts that a task keeps for later
 abbrev pub later_of : List (List ℕ) → NodeTable → Wide → Terms
 later_of ts t w = with_list w.extra (trees ts t (kept_from w.extra w.mid) w.end)
 
+-- a task as a form with a gap before the parts that come
 abbrev pub gap_of : List (List ℕ) → NodeTable → Wide → Gap
 gap_of ts t w = record { form = task_form ts t w; before = w.values; after = trees ts t w.at w.mid; later = later_of ts t w }
 
+-- tasks as forms with gaps, from the innermost one
 abbrev pub gaps_of : List (List ℕ) → NodeTable → List Wide → List Gap
 gaps_of ts t [] = []
 gaps_of ts t (w ∷ ws) = gap_of ts t w ∷ gaps_of ts t ws
@@ -91,6 +96,7 @@ redex_of ts t w = part (task_form ts t w) (dones w.values) (later_of ts t w)
 
 -- ---- scopes: each task has the scope in which its parts are; the scope around all tasks is that of the scripts
 
+-- the scope of the innermost task's parts; where there is no task, the scope around all
 abbrev pub scope_of : Addr → List Wide → Addr
 scope_of root [] = root
 scope_of root (w ∷ ws) = w.inner

@@ -31,6 +31,7 @@ pub data Start : Type 0 where
   function_word : Start
   no_start : Start
 
+-- what a token of this kind begins, with its string value and its number
 abbrev pub start_by : TokenKind → List ℕ → ℕ → Start
 start_by kinds.This s n = this_word
 start_by kinds.Name s n = a_name s
@@ -45,6 +46,7 @@ start_by kinds.LeftParenthesis s n = parenthesis
 start_by kinds.Function s n = function_word
 start_by _ s n = no_start
 
+-- what the next token begins, if there is one
 abbrev pub start : Option Token → Start
 start None = no_start
 start (Some t) = start_by t.kind t.string_value t.numeric_value
@@ -56,12 +58,14 @@ pub data Link : Type 0 where
   arguments : Link
   no_link : Link
 
+-- what a token of this kind is behind a call or a member
 abbrev pub link_by : TokenKind → Link
 link_by kinds.Dot = dot
 link_by kinds.LeftBracket = key
 link_by kinds.LeftParenthesis = arguments
 link_by _ = no_link
 
+-- what the next token is behind a call or a member
 abbrev pub link : Option Token → Link
 link None = no_link
 link (Some t) = link_by t.kind
@@ -84,6 +88,7 @@ pub data Prefix : Type 0 where
   an_update : UpdateOperator → Prefix
   no_prefix : Prefix
 
+-- what a token of this kind is before an operand
 abbrev pub prefix_by : TokenKind → Prefix
 prefix_by kinds.Delete = deletes
 prefix_by kinds.Void = a_unary unaries.Void
@@ -96,6 +101,7 @@ prefix_by kinds.Increment = an_update updates.Increment
 prefix_by kinds.Decrement = an_update updates.Decrement
 prefix_by _ = no_prefix
 
+-- what the next token is before an operand
 abbrev pub prefix : Option Token → Prefix
 prefix None = no_prefix
 prefix (Some t) = prefix_by t.kind
@@ -125,6 +131,7 @@ operator_by kinds.Divide = Some binaries.Divide
 operator_by kinds.Remainder = Some binaries.Remainder
 operator_by _ = None
 
+-- the operator that the next token is, if it is one
 abbrev pub operator : Option Token → Option BinaryOperator
 operator None = None
 operator (Some t) = operator_by t.kind
@@ -135,6 +142,7 @@ pub data Joint : Type 0 where
   assigns_by : AssignmentOperator → Joint
   no_joint : Joint
 
+-- what a token of this kind is behind an operation
 abbrev pub joint_by : TokenKind → Joint
 joint_by kinds.Question = question
 joint_by kinds.Assign = assigns_by assigns.Assign
@@ -151,6 +159,7 @@ joint_by kinds.BitwiseOrAssign = assigns_by assigns.BitwiseOr
 joint_by kinds.BitwiseXorAssign = assigns_by assigns.BitwiseXor
 joint_by _ = no_joint
 
+-- what the next token is behind an operation
 abbrev pub joint : Option Token → Joint
 joint None = no_joint
 joint (Some t) = joint_by t.kind
@@ -174,16 +183,19 @@ pub data Head : Type 0 where
   listed : Bool → Head
   no_arrow : Head
 
+-- the head that names in parentheses are, by how they end: where an expression can begin so, an arrow must follow
 abbrev pub listed_by : Option (Bool × List Token) → Head
 listed_by None = no_arrow
 listed_by (Some (true, ts)) = listed true
 listed_by (Some (false, ts)) = if is_arrow (head_of ts) then listed false else no_arrow
 
+-- what a token that begins so and those behind it are the head of
 abbrev pub head_by : Start → List Token → Head
 head_by (a_name n) ts = if is_arrow (head_of ts) then one_parameter else no_arrow
 head_by parenthesis ts = listed_by (past_names true ts)
 head_by _ ts = no_arrow
 
+-- the head of an arrow function with which the tokens begin, if they begin with one
 abbrev pub arrow_head : List Token → Head
 arrow_head ts = head_by (start (head_of ts)) (tail_of ts)
 
@@ -197,12 +209,14 @@ pub data KeyStart : Type 0 where
   a_computed_key : KeyStart
   no_key : KeyStart
 
+-- what a token of this kind is as a key, with its string value and its number
 abbrev pub key_start_by : TokenKind → List ℕ → ℕ → KeyStart
 key_start_by kinds.String s n = a_string_key s
 key_start_by kinds.Number s n = a_number_key n
 key_start_by kinds.LeftBracket s n = a_computed_key
 key_start_by k s n = if is_word k then a_word_key s else no_key
 
+-- what the next token is as a key
 abbrev pub key_start : Option Token → KeyStart
 key_start None = no_key
 key_start (Some t) = key_start_by t.kind t.string_value t.numeric_value
@@ -213,11 +227,13 @@ pub data AfterKey : Type 0 where
   parameters : AfterKey
   no_member : AfterKey
 
+-- what a token of this kind is behind a key
 abbrev pub after_key_by : TokenKind → AfterKey
 after_key_by kinds.Colon = colon
 after_key_by kinds.LeftParenthesis = parameters
 after_key_by _ = no_member
 
+-- what the next token is behind a key
 abbrev pub after_key : Option Token → AfterKey
 after_key None = no_member
 after_key (Some t) = after_key_by t.kind
@@ -227,6 +243,7 @@ abbrev pub is_shorthand_by : Bool → AfterKey → Bool
 is_shorthand_by true no_member = true
 is_shorthand_by _ _ = false
 
+-- the member that comes is a name alone
 abbrev pub is_shorthand : List Token → Bool
 is_shorthand ts = is_shorthand_by (is_kind kinds.Name (head_of ts)) (after_key (head_of (tail_of ts)))
 
@@ -250,6 +267,7 @@ pub data First : Type 0 where
   a_function : First
   an_expression : First
 
+-- what a token of this kind begins; any that begins no other statement begins an expression, if any
 abbrev pub first_by : TokenKind → First
 first_by kinds.LeftBrace = a_block
 first_by kinds.Let = a_lexical false
@@ -268,6 +286,7 @@ first_by kinds.Debugger = a_debugger
 first_by kinds.Function = a_function
 first_by _ = an_expression
 
+-- what the next token begins
 abbrev pub first : Option Token → First
 first None = an_expression
 first (Some t) = first_by t.kind
@@ -288,9 +307,11 @@ pub data ForHead : Type 0 where
   declares : Bool → ForHead
   plain_head : ForHead
 
+-- the head whose first token begins so, with the tokens behind it
 abbrev pub for_head_by : First → List Token → ForHead
 for_head_by (a_lexical c) ts = if is_kind kinds.Name (head_of ts) && is_name (codes "of") (head_of (tail_of ts)) then each c else declares c
 for_head_by _ ts = plain_head
 
+-- the head that the tokens behind the parenthesis begin
 abbrev pub for_head : List Token → ForHead
 for_head ts = for_head_by (first (head_of ts)) (tail_of ts)

@@ -35,6 +35,7 @@ use Rattle.js_syntax.specs.Views.{tokens_view}
 
 -- ---- expressions
 
+-- what begins a primary expression
 abbrev pub start_view : Start → classes.Start
 start_view starts.This = classes.this_word
 start_view (starts.Name text) = classes.a_name text.now
@@ -48,18 +49,21 @@ start_view starts.Parenthesis = classes.parenthesis
 start_view starts.Function = classes.function_word
 start_view starts.Other = classes.no_start
 
+-- what goes on with a call or a member
 abbrev pub link_view : Option Link → classes.Link
 link_view None = classes.no_link
 link_view (Some links.Dot) = classes.dot
 link_view (Some links.Key) = classes.key
 link_view (Some links.Arguments) = classes.arguments
 
+-- what stands before an operand
 abbrev pub prefix_view : Option Prefix → classes.Prefix
 prefix_view None = classes.no_prefix
 prefix_view (Some prefixes.Delete) = classes.deletes
 prefix_view (Some (prefixes.Unary o)) = classes.a_unary o
 prefix_view (Some (prefixes.Update o)) = classes.an_update o
 
+-- what goes on behind an operation
 abbrev pub joint_view : Option Joint → classes.Joint
 joint_view None = classes.no_joint
 joint_view (Some joints.Question) = classes.question
@@ -67,10 +71,12 @@ joint_view (Some (joints.Assigns o)) = classes.assigns_by o
 
 -- ---- arrow functions
 
+-- how names in parentheses end, with the tokens behind them
 abbrev pub past_view : Option (Bool × Bor (List lexer.Token)) → Option (Bool × List Token)
 past_view None = None
 past_view (Some x) = Some (x.0, tokens_view x.1.now)
 
+-- what an arrow function begins with
 abbrev pub head_view : Option Head → classes.Head
 head_view None = classes.no_arrow
 head_view (Some heads.Name) = classes.one_parameter
@@ -78,6 +84,7 @@ head_view (Some (heads.List only)) = classes.listed only
 
 -- ---- object literals
 
+-- what begins a key
 abbrev pub key_start_view : Option KeyStart → classes.KeyStart
 key_start_view None = classes.no_key
 key_start_view (Some (key_starts.Word text)) = classes.a_word_key text.now
@@ -85,6 +92,7 @@ key_start_view (Some (key_starts.String text)) = classes.a_string_key (string_va
 key_start_view (Some (key_starts.Number n)) = classes.a_number_key n.value
 key_start_view (Some key_starts.Computed) = classes.a_computed_key
 
+-- what comes behind a key
 abbrev pub after_key_view : Option AfterKey → classes.AfterKey
 after_key_view None = classes.no_member
 after_key_view (Some after_keys.Colon) = classes.colon
@@ -92,6 +100,7 @@ after_key_view (Some after_keys.Parameters) = classes.parameters
 
 -- ---- statements
 
+-- what begins a statement or a declaration
 abbrev pub first_view : First → classes.First
 first_view firsts.Block = classes.a_block
 first_view (firsts.Lexical constant) = classes.a_lexical constant
@@ -109,16 +118,19 @@ first_view firsts.Debugger = classes.a_debugger
 first_view firsts.Function = classes.a_function
 first_view firsts.Expression = classes.an_expression
 
+-- what the head of a `for` begins with
 abbrev pub for_head_view : Option ForHead → classes.ForHead
 for_head_view None = classes.plain_head
 for_head_view (Some (for_heads.Each constant)) = classes.each constant
 for_head_view (Some (for_heads.Declares constant)) = classes.declares constant
 
+-- how an expression ends before an absent semicolon
 abbrev pub edge_view : Edge → tokens.Edge
 edge_view edges.Plain = tokens.plain
 edge_view edges.Braces = tokens.braces
 edge_view edges.Update = tokens.update
 
+-- what a statement ends in before its semicolon
 abbrev pub end_view : End → tokens.End
 end_view (ends.Expression edge) = tokens.after_expression (edge_view edge)
 end_view ends.Word = tokens.after_word
@@ -126,6 +138,7 @@ end_view ends.Do = tokens.after_do
 
 -- ---- lists
 
+-- what comes after an element of a list
 abbrev pub after_view : Option After → reading.After
 after_view None = reading.neither
 after_view (Some afters.GoesOn) = reading.goes_on

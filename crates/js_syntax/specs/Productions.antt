@@ -33,6 +33,7 @@ pub record Below : Type 0 where
 
 -- ---- lists of trees
 
+-- the same reader for each element of a list, whatever stands before it
 abbrev pub one_of : {A : Type 0} → Reader A → Unit {0} → Reader A
 one_of r s ts = r ts
 
@@ -93,14 +94,17 @@ initializer_by b constant n true ts = do
 initializer_by b true n false ts = Err (stuck (length ts))
 initializer_by b false n false ts = Ok (trees.declarator n trees.omitted, ts)
 
+-- a declarator whose name differs from these; a constant has its initializer (14.3.1)
 unfoldable pub declarator_at : Below → Bool → List Identifier → Reader Declarator
 declarator_at b constant taken ts = do
   n ← fresh_name taken ts
   initializer_by b constant n.0 (is_kind kinds.Assign (head_of n.1)) n.1
 
+-- the name that a declarator declares
 abbrev pub name_of : Declarator → Identifier
 name_of (trees.declarator n e) = n
 
+-- the names before, and that of a declarator
 abbrev pub with_declarator : List Identifier → Declarator → List Identifier
 with_declarator taken d = name_of d ∷ taken
 
@@ -113,6 +117,7 @@ declarators_at b constant taken ts = do
 
 -- ---- expressions with what ends them
 
+-- an expression and the token behind it, or that token at once
 abbrev pub optional_by : Below → TokenKind → Bool → Reader OptionalExpression
 optional_by b closer true ts = Ok (trees.omitted, tail_of ts)
 optional_by b closer false ts = do
@@ -133,6 +138,7 @@ ended_expression b ts = do
 
 -- ---- items
 
+-- a piece of a production: a token, a name, a tree, or a list of trees with what ends it
 pub data Item : Type 0 where
   tok : TokenKind → Item
   near : TokenKind → Item
@@ -151,6 +157,7 @@ pub data Item : Type 0 where
   in_braces : Context → List Identifier → Item
   code : Item
 
+-- the type of what is read for a piece
 abbrev pub Value : Item → Type 0
 Value (tok k) = Unit {0}
 Value (near k) = Unit {0}
@@ -168,6 +175,7 @@ Value (a_block context taken) = Statements
 Value (in_braces context taken) = Statements
 Value code = Code
 
+-- the types of what is read for some pieces, one after the other
 abbrev pub Values : List Item → Type 0
 Values [] = Unit {0}
 Values (i ∷ is) = Value i × Values is
@@ -176,6 +184,7 @@ Values (i ∷ is) = Value i × Values is
 unfoldable pub expect_name : List ℕ → Reader (Unit {0})
 expect_name n ts = if is_name n (head_of ts) then Ok (tt, tail_of ts) else Err (stuck (length ts))
 
+-- what reads a piece
 abbrev pub item : Below → (i : Item) → Reader (Value i)
 item b (tok k) ts = expect k ts
 item b (near k) ts = expect_near k ts

@@ -12,6 +12,7 @@ pub data Fault : Type 0 where
   stuck : ℕ → Fault
   deep : ℕ → Fault
 
+-- what is read from the front of tokens: a value with the tokens after it, or why reading stops
 abbrev pub Read : Type 0 → Type 0
 Read A = Result (A × List Token) Fault
 
@@ -70,11 +71,13 @@ pub data After : Type 0 where
   ends : After
   neither : After
 
+-- what it is where the token that ends the list comes, and where a comma does
 abbrev pub after_by : Bool → Bool → After
 after_by true comma = ends
 after_by false true = goes_on
 after_by false false = neither
 
+-- what comes after an element, by the next token
 abbrev pub after : TokenKind → Option Token → After
 after closer o = after_by (is_kind closer o) (is_kind kinds.Comma o)
 
@@ -84,6 +87,7 @@ go_after go goes_on ts = go (tail_of ts)
 go_after go ends ts = Ok ([], tail_of ts)
 go_after go neither ts = Err (stuck (length ts))
 
+-- the elements from here on, where the token that ends them comes next or doesn't
 abbrev pub elements_by : {S A : Type 0} → (S → Reader A) → (S → A → S) → (S → Reader (List A)) → TokenKind → S → Bool → Reader (List A)
 elements_by one next go closer s true ts = Ok ([], tail_of ts)
 elements_by one next go closer s false ts = do
@@ -91,6 +95,7 @@ elements_by one next go closer s false ts = do
   y ← go_after (go (next s x.0)) (after closer (head_of x.1)) x.1
   Ok (x.0 ∷ y.0, y.1)
 
+-- the elements of a list up to the token that ends it, and that token
 unfoldable pub elements : {S A : Type 0} → (S → Reader A) → (S → A → S) → TokenKind → ℕ → S → Reader (List A)
 elements one next closer zero s ts = Err (deep (length ts))
 elements one next closer (suc k) s ts = elements_by one next (λ s r. elements one next closer k s r) closer s (is_kind closer (head_of ts)) ts
@@ -103,6 +108,7 @@ others_by one next go s true ts = do
   y ← go (next s x.0) x.1
   Ok (x.0 ∷ y.0, y.1)
 
+-- the elements behind a first one, for as long as a comma follows
 unfoldable pub others : {S A : Type 0} → (S → Reader A) → (S → A → S) → ℕ → S → Reader (List A)
 others one next zero s ts = Err (deep (length ts))
 others one next (suc k) s ts = others_by one next (λ s r. others one next k s r) s (is_kind kinds.Comma (head_of ts)) ts
@@ -120,6 +126,7 @@ items_by one next go s false ts = do
   y ← go (next s x.0) x.1
   Ok (x.0 ∷ y.0, y.1)
 
+-- the elements of a list of statements, of which there may be none
 unfoldable pub items : {S A : Type 0} → (S → Reader A) → (S → A → S) → ℕ → S → Reader (List A)
 items one next zero s ts = Err (deep (length ts))
 items one next (suc k) s ts = items_by one next (λ s r. items one next k s r) s (ends_list (head_of ts)) ts
@@ -134,6 +141,7 @@ no_state s x = tt
 abbrev pub with_name : List Identifier → Identifier → List Identifier
 with_name taken n = n ∷ taken
 
+-- the names before, and some more behind them
 abbrev pub with_names : List Identifier → List Identifier → List Identifier
 with_names taken [] = taken
 with_names taken (n ∷ ns) = with_names (n ∷ taken) ns

@@ -28,5 +28,6 @@ token_view t = record {
   end = t.start + length t.text.now;
 }
 
+-- tokens as the grammar sees them
 abbrev pub tokens_view : List lexer.Token → List Token
 tokens_view ts = map token_view ts

@@ -17,14 +17,18 @@ term_layer (Term-F.Done v) = semantics.done v
 term_layer (Term-F.Standing v s) = semantics.standing v s
 term_layer (Term-F.Part f now later) = semantics.part f.value now later
 
+-- some parts, in order
 abbrev pub terms_layer : Terms-F semantics.Term semantics.Terms → semantics.Terms
 terms_layer ts = listed ts.items.items
 
+-- the term of the definitions that a term of the code is
 unfoldable pub term_view : Term → semantics.Term
 term_view = fold-Term semantics.Term semantics.Terms term_layer terms_layer
 
+-- the parts of the definitions that parts of the code are
 unfoldable pub terms_view : Terms → semantics.Terms
 terms_view = fold-Terms semantics.Term semantics.Terms term_layer terms_layer
 
+-- the parts of the definitions that a list of terms is
 abbrev pub listed_view : List Term → semantics.Terms
 listed_view ts = listed (map term_view ts)

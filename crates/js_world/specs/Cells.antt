@@ -26,13 +26,16 @@ name_text ts (function_names.Made text) = text.value
 abbrev pub binding_at : List (List ℕ) → Slot → Binding
 binding_at ts s = record { name = name_of ts s.name.number; constant = s.constant; value = s.value }
 
+-- the names of a scope in their order
 abbrev pub bindings : List (List ℕ) → List Slot → List Binding
 bindings ts [] = []
 bindings ts (s ∷ ss) = binding_at ts s ∷ bindings ts ss
 
+-- the function that a stored one stands for
 abbrev pub function_cell : List (List ℕ) → FunctionCell → Cell
 function_cell ts f = cells.Function f.code (name_text ts f.name) f.length f.scope f.this
 
+-- the cell that a stored one stands for
 abbrev pub cell_of : List (List ℕ) → Stored → Cell
 cell_of ts (stored.Object ps) = cells.Object ps
 cell_of ts (stored.Error class ps) = cells.Error class ps
@@ -41,10 +44,12 @@ cell_of ts (stored.Text us) = cells.Text us
 cell_of ts (stored.Function f) = function_cell ts f.value
 cell_of ts (stored.Scope k n o ss) = cells.Bindings k (name_text ts n) o (bindings ts ss)
 
+-- the cell that a stored one stands for, where there is one
 abbrev pub cell_at : List (List ℕ) → Option Stored → Option Cell
 cell_at ts None = None
 cell_at ts (Some c) = Some (cell_of ts c)
 
+-- the cells that stored ones stand for
 abbrev pub cells_of : List (List ℕ) → List Stored → List Cell
 cells_of ts [] = []
 cells_of ts (c ∷ cs) = cell_of ts c ∷ cells_of ts cs
@@ -56,6 +61,7 @@ abbrev pub slot_place : List Slot → ℕ → ℕ
 slot_place [] n = 0
 slot_place (s ∷ ss) n = if nat_eq s.name.number n then 0 else 1 + slot_place ss n
 
+-- the texts of some names
 abbrev pub texts_of : List (List ℕ) → List NameId → List (List ℕ)
 texts_of ts [] = []
 texts_of ts (n ∷ ns) = name_of ts n.number ∷ texts_of ts ns
@@ -67,19 +73,23 @@ slots_from i (n ∷ ns) args = record { name = n; constant = false; value = Some
 
 -- ---- only numbers below one
 
+-- all names of a scope are numbers below one
 abbrev pub SlotsWithin : ℕ → List Slot → Type 0
 SlotsWithin n [] = Unit {0}
 SlotsWithin n (s ∷ ss) = (s.name.number < n) × SlotsWithin n ss
 
+-- the name of a function is a number below one, where it is a number
 abbrev pub NameWithin : ℕ → FunctionName → Type 0
 NameWithin n (function_names.Known m) = m.number < n
 NameWithin n _ = Unit {0}
 
+-- all names in a stored cell are numbers below one
 abbrev pub Within : ℕ → Stored → Type 0
 Within n (stored.Function f) = NameWithin n f.value.name
 Within n (stored.Scope k name o ss) = NameWithin n name × SlotsWithin n ss
 Within n _ = Unit {0}
 
+-- all names in stored cells are numbers below one
 abbrev pub AllWithin : ℕ → List Stored → Type 0
 AllWithin n [] = Unit {0}
 AllWithin n (c ∷ cs) = Within n c × AllWithin n cs

@@ -15,10 +15,12 @@ use Rattle.js_world.specs.Places.{with_value_at}
 
 -- ---- whether all names are known
 
+-- all names of a scope are numbers below one
 abbrev pub all_below : List Slot → ℕ → Bool
 all_below [] n = true
 all_below (s ∷ ss) n = nat_lt s.name.number n && all_below ss n
 
+-- the name of a function is a number below one, where it is a number
 abbrev pub is_below : FunctionName → ℕ → Bool
 is_below (function_names.Known m) n = nat_lt m.number n
 is_below _ n = true
@@ -31,10 +33,12 @@ is_within _ n = true
 
 -- ---- a value for the name at a place of the scope at a place
 
+-- the scope with that value; what is no scope stays as it is
 abbrev pub value_in_cell : Stored → ℕ → Value → Stored
 value_in_cell (stored.Scope k n o ss) place v = stored.Scope k n o (with_value_at ss place v)
 value_in_cell c place v = c
 
+-- the cells, of which the scope at the first place has that value
 abbrev pub value_in_cells : List Stored → ℕ → ℕ → Value → List Stored
 value_in_cells [] i place v = []
 value_in_cells (c ∷ cs) zero place v = value_in_cell c place v ∷ cs
@@ -53,6 +57,7 @@ pub record Heap : Type 0 where
 abbrev pub base_world : List (List ℕ) → List Stored → ℕ → ℕ → World
 base_world ts cs cells_left units_left = record { base = cells_of ts cs; scratch = []; start = None; room = record { cells = cells_left; units = units_left } }
 
+-- the world that a heap is with a table of names
 abbrev pub heap_world : List (List ℕ) → Heap → World
 heap_world ts h = base_world ts h.cells h.cells_left h.units_left
 
@@ -63,6 +68,7 @@ pub record Fit (cs : List Stored) (ends cells_left : ℕ) : Type 0 where
 
 -- ---- room for one more cell
 
+-- the units left once there is one more cell of so many units, or the count that would pass its limit
 abbrev pub MakesRoom : ℕ → ℕ → ℕ → Result ℕ Refused → Type 0
 MakesRoom cells_left units_left units (Ok left) = (0 < cells_left) × (units + left ≡ units_left)
 MakesRoom cells_left units_left units (Err (Full counted.Cells)) = cells_left ≡ 0

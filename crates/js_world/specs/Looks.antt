@@ -14,6 +14,7 @@ looked_on (Here f) further = kept_slot (Some f)
 looked_on (Outward a) further = further a
 looked_on Nowhere further = None
 
+-- the scope doesn't have the name
 abbrev pub IsNotHere : Looked → Type 0
 IsNotHere (Here f) = ⊥
 IsNotHere (Outward a) = Unit {0}
@@ -25,6 +26,7 @@ IsPlacedIn (Here f) at bs name = (f.scope ≡ at) × (f.place ≡ name_place bs 
 IsPlacedIn (Outward a) at bs name = Unit {0}
 IsPlacedIn Nowhere at bs name = Unit {0}
 
+-- what is found in a scope stands at its place in that scope's cell
 abbrev pub IsPlaced : Looked → Addr → Option Cell → List ℕ → Type 0
 IsPlaced (Here f) at c name = (f.scope ≡ at) × HasPlace c f.place name
 IsPlaced (Outward a) at c name = Unit {0}

@@ -24,6 +24,7 @@ pub record Over : Type 0 where
 abbrev pub overlay_world : List (List ℕ) → List Cell → List Stored → ℕ → ℕ → ℕ → World
 overlay_world ts base cs start cells_left units_left = record { base = base; scratch = cells_of ts cs; start = Some start; room = record { cells = cells_left; units = units_left } }
 
+-- the world that a session's cells over a program's are with a table of names
 abbrev pub over_world : List (List ℕ) → Over → World
 over_world ts o = overlay_world ts (cells_of ts o.base.cells) o.cells o.start o.cells_left o.units_left
 
@@ -31,9 +32,11 @@ over_world ts o = overlay_world ts (cells_of ts o.base.cells) o.cells o.start o.
 abbrev pub space_of : List (List ℕ) → Heap → ScratchSpace
 space_of ts h = record { cells = cells_of ts h.cells; room = record { cells = h.cells_left; units = h.units_left } }
 
+-- a session that made nothing yet
 abbrev pub first_space : ScratchSpace
 first_space = record { cells = []; room = scratch_room }
 
+-- what a session made so far, by the world after its evaluation
 abbrev pub space_after : World → ScratchSpace
 space_after w = record { cells = w.scratch; room = w.room }
 
@@ -60,6 +63,7 @@ pub record Marked : Type 0 where
   pub cells_left : ℕ
   pub units_left : ℕ
 
+-- a mark at the present end of a session's cells
 abbrev pub mark_of : Heap → Marked
 mark_of h = record { count = length h.cells; ends = h.ends; cells_left = h.cells_left; units_left = h.units_left }
 

@@ -19,6 +19,7 @@ AreKeysOf ks ps = AllZip (λ k p. k.items ≡ p.key) ks ps
 abbrev pub AreIndicesOf : List ℕ → List Property → Type 0
 AreIndicesOf is ps = AllZip (λ i p. index_of_key p.key ≡ Some i) is ps
 
+-- all of these numbers are above one
 abbrev pub AreAbove : ℕ → List ℕ → Type 0
 AreAbove i [] = Unit {0}
 AreAbove i (j ∷ js) = (i < j) × AreAbove i js
@@ -41,6 +42,7 @@ IsSearched is x r = MatchResult r (λ i. (i < length is) × (slice_index is i �
 abbrev pub MayFollow : Property → Property → Type 0
 MayFollow p q = (same_units p.key q.key ≡ false) × (stands_before (index_of_key q.key) (index_of_key p.key) ≡ false)
 
+-- all of these properties may stand behind one
 abbrev pub AllFollow : Property → List Property → Type 0
 AllFollow p [] = Unit {0}
 AllFollow p (q ∷ qs) = MayFollow p q × AllFollow p qs

@@ -12,6 +12,7 @@ Taken there units (Err (Full counted.Cells)) = ⊥
 Taken there units (Err Effect) = ⊥
 Taken there units (Err Memory) = ⊥
 
+-- what is left once units are given back; want of memory says nothing
 abbrev pub GivenBack : ℕ → ℕ → Result ℕ Refused → Type 0
 GivenBack there units (Ok left) = left ≡ there + units
 GivenBack there units (Err Memory) = Unit {0}

@@ -20,6 +20,7 @@ stronger Return Return = Return
 stronger Return Call = Call
 stronger Call k = Call
 
+-- the stronger one of a kind and what there may be besides
 abbrev pub strongest : SpotKind → Option SpotKind → Option SpotKind
 strongest k None = Some k
 strongest k (Some l) = Some (stronger k l)

@@ -22,6 +22,7 @@ use Rattle.locations.specs.declared.spot.SpotKind.{SpotKind}
 use Rattle.locations.specs.declared.spot.SpotKind.TheVariants as kinds
 use Rattle.locations.specs.declared.marks.Marked.{Marked}
 
+-- some marks of a source
 abbrev pub Marks : Type 0
 Marks = List Marked
 
@@ -37,31 +38,37 @@ pub record Marking : Type 0 where
 
 -- ---- parts
 
+-- the marks of some parts
 abbrev pub together : List Marks → Marks
 together [] = []
 together (ms ∷ rest) = ms ++ together rest
 
+-- the marks in some expressions
 abbrev pub in_all : List Marking → Marks
 in_all [] = []
 in_all (e ∷ es) = e.marks ++ in_all es
 
+-- the marks of a part that may be absent
 abbrev pub where_present : Option Marks → Marks
 where_present None = []
 where_present (Some ms) = ms
 
+-- the marks in an expression that may be absent
 abbrev pub in_present : Option Marking → Marks
 in_present None = []
 in_present (Some e) = e.marks
 
 -- ---- expressions
 
+-- an expression that doesn't end in a name
 abbrev pub marking : ℕ → Marks → Marking
 marking node ms = record { node = node; last_word = None; marks = ms }
 
--- a name, and a member with the name behind its last point
+-- a name, which is its own last word
 abbrev pub name_marking : ℕ → Marking
 name_marking node = record { node = node; last_word = Some (start node); marks = [] }
 
+-- a member with a fixed key, which is its last word, of so many units
 abbrev pub member_marking : ℕ → Marking → ℕ → Marking
 member_marking node object len = record { node = node; last_word = Some (before_end node len); marks = object.marks }
 
@@ -89,6 +96,7 @@ Layer F = F Marking Marks Marks Marks Marks Marks Marks Marks Marks Marks Marks
 
 -- ---- one level of each type, with what is known of its parts
 
+-- one level of an expression, with its node, its last word and the marks in it
 abbrev pub expression_layer : Layer Expr-F → Marking
 expression_layer (Expr-F.This node) = marking node.0 []
 expression_layer (Expr-F.Name node n) = name_marking node.0
@@ -113,12 +121,14 @@ expression_layer (Expr-F.Conditional node t a b) = marking node.0 (t.value.marks
 expression_layer (Expr-F.Assign node o t e) = marking node.0 (t.value.marks ++ e.value.marks)
 expression_layer (Expr-F.Comma node es) = marking node.0 es
 
+-- one level of the key of a member
 abbrev pub key_layer : Layer PropertyName-F → Marks
 key_layer (PropertyName-F.Word us) = []
 key_layer (PropertyName-F.StringLiteral us) = []
 key_layer (PropertyName-F.NumericLiteral v) = []
 key_layer (PropertyName-F.Computed e) = e.marks
 
+-- one level of a member of an object literal; the body of a method has a closing brace
 abbrev pub property_layer : Layer PropertyDefinition-F → Marks
 property_layer (PropertyDefinition-F.Shorthand n) = []
 property_layer (PropertyDefinition-F.Value k e) = k ++ e.marks
@@ -144,58 +154,76 @@ statement_layer (Stmt-F.Try node b h f) = beginning kinds.Plain node.0 ++ b ++ w
 statement_layer (Stmt-F.Debugger node) = beginning kinds.Debugger node.0
 statement_layer (Stmt-F.FunctionDeclaration node n ps body) = in_function node.0 body
 
+-- one level of a block, which has the marks of its statements
 abbrev pub block_layer : Layer layers.Block-F → Marks
 block_layer b = b.body
 
+-- one level of a catch
 abbrev pub catch_layer : Layer layers.Catch-F → Marks
 catch_layer c = c.block
 
+-- one level of a declarator
 abbrev pub declarator_layer : Layer layers.Declarator-F → Marks
 declarator_layer d = in_present d.initializer
 
+-- one level of the declarators of a declaration
 abbrev pub declarators_layer : Layer layers.Declarators-F → Marks
 declarators_layer ds = together ds.items.items
 
+-- one level of a list of expressions
 abbrev pub expressions_layer : Layer layers.Exprs-F → Marks
 expressions_layer es = in_all es.items.items
 
+-- one level of the members of an object literal
 abbrev pub properties_layer : Layer layers.PropertyDefinitions-F → Marks
 properties_layer ps = together ps.items.items
 
+-- one level of a list of statements
 abbrev pub statements_layer : Layer layers.Stmts-F → Marks
 statements_layer ss = together ss.items.items
 
 -- ---- the marks of each type of tree
 
+-- the marks of an expression, with its node and its last word
 unfoldable pub expression_marks : Expr → Marking
 expression_marks = fold-Expr Marking Marks Marks Marks Marks Marks Marks Marks Marks Marks Marks expression_layer property_layer key_layer statement_layer block_layer catch_layer declarator_layer declarators_layer expressions_layer properties_layer statements_layer
 
+-- the marks of a member of an object literal
 unfoldable pub property_marks : PropertyDefinition → Marks
 property_marks = fold-PropertyDefinition Marking Marks Marks Marks Marks Marks Marks Marks Marks Marks Marks expression_layer property_layer key_layer statement_layer block_layer catch_layer declarator_layer declarators_layer expressions_layer properties_layer statements_layer
 
+-- the marks of the key of a member
 unfoldable pub key_marks : PropertyName → Marks
 key_marks = fold-PropertyName Marking Marks Marks Marks Marks Marks Marks Marks Marks Marks Marks expression_layer property_layer key_layer statement_layer block_layer catch_layer declarator_layer declarators_layer expressions_layer properties_layer statements_layer
 
+-- the marks of a statement or declaration
 unfoldable pub statement_marks : Stmt → Marks
 statement_marks = fold-Stmt Marking Marks Marks Marks Marks Marks Marks Marks Marks Marks Marks expression_layer property_layer key_layer statement_layer block_layer catch_layer declarator_layer declarators_layer expressions_layer properties_layer statements_layer
 
+-- the marks of a block
 unfoldable pub block_marks : Block → Marks
 block_marks = fold-Block Marking Marks Marks Marks Marks Marks Marks Marks Marks Marks Marks expression_layer property_layer key_layer statement_layer block_layer catch_layer declarator_layer declarators_layer expressions_layer properties_layer statements_layer
 
+-- the marks of a catch
 unfoldable pub catch_marks : Catch → Marks
 catch_marks = fold-Catch Marking Marks Marks Marks Marks Marks Marks Marks Marks Marks Marks expression_layer property_layer key_layer statement_layer block_layer catch_layer declarator_layer declarators_layer expressions_layer properties_layer statements_layer
 
+-- the marks of a declarator
 unfoldable pub declarator_marks : Declarator → Marks
 declarator_marks = fold-Declarator Marking Marks Marks Marks Marks Marks Marks Marks Marks Marks Marks expression_layer property_layer key_layer statement_layer block_layer catch_layer declarator_layer declarators_layer expressions_layer properties_layer statements_layer
 
+-- the marks of the declarators of a declaration
 unfoldable pub declarators_marks : Declarators → Marks
 declarators_marks = fold-Declarators Marking Marks Marks Marks Marks Marks Marks Marks Marks Marks Marks expression_layer property_layer key_layer statement_layer block_layer catch_layer declarator_layer declarators_layer expressions_layer properties_layer statements_layer
 
+-- the marks of a list of expressions
 unfoldable pub expressions_marks : Exprs → Marks
 expressions_marks = fold-Exprs Marking Marks Marks Marks Marks Marks Marks Marks Marks Marks Marks expression_layer property_layer key_layer statement_layer block_layer catch_layer declarator_layer declarators_layer expressions_layer properties_layer statements_layer
 
+-- the marks of the members of an object literal
 unfoldable pub properties_marks : PropertyDefinitions → Marks
 properties_marks = fold-PropertyDefinitions Marking Marks Marks Marks Marks Marks Marks Marks Marks Marks Marks expression_layer property_layer key_layer statement_layer block_layer catch_layer declarator_layer declarators_layer expressions_layer properties_layer statements_layer
 
+-- the marks of a list of statements
 unfoldable pub statements_marks : Stmts → Marks
 statements_marks = fold-Stmts Marking Marks Marks Marks Marks Marks Marks Marks Marks Marks Marks expression_layer property_layer key_layer statement_layer block_layer catch_layer declarator_layer declarators_layer expressions_layer properties_layer statements_layer

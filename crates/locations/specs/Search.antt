@@ -12,6 +12,7 @@ abbrev pub first_from : Pos → List Spot → Option Spot
 first_from p [] = None
 first_from p (s ∷ ss) = if is_before s.pos p then first_from p ss else Some s
 
+-- a position is before the end, where there is one
 abbrev pub is_before_end : Option Pos → Pos → Bool
 is_before_end None p = true
 is_before_end (Some end) p = is_before p end

@@ -29,7 +29,7 @@ EndsAt kinds.Out asked depth = depth < asked
 abbrev pub HasArrived : Arrival → Type 0
 HasArrived a = IsSome a.place
 
--- the rule of a cause, for a session that stops the program at all; `hit` says that an active breakpoint of its is at the
+-- the rule of a cause, for a session that stops the program at all; `hit` says that an active breakpoint of it is at the
 -- place, and that the condition of it holds
 abbrev pub Applies : Rules → Arrival → Bool → Cause → Type 0
 Applies r a hit causes.Exception = StopsAtRaise r.exceptions a.raised
@@ -67,6 +67,7 @@ NoneHolds r a hit = (c : Cause) → ¬ Holds r a hit c
 
 -- ---- the first, as a function
 
+-- a throw was raised that no `catch` will take
 abbrev pub is_uncaught : Option Bool → Bool
 is_uncaught None = false
 is_uncaught (Some uncaught) = uncaught
