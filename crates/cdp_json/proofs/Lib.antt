@@ -5,6 +5,7 @@ pub mod MessageLemmas
 pub mod OrderLemmas
 pub mod PlainLemmas
 pub mod ReadBackLemmas
+pub mod SafeLemmas
 pub mod TextLemmas
 pub mod ViewLaws
 pub mod WholeLemmas

@@ -1,7 +1,12 @@
+pub mod ArgumentViews
+pub mod Arguments
+pub mod Calls
 pub mod CommandForm
 pub mod Commands
 pub mod Compact
+pub mod Flags
 pub mod Json
+pub mod JsonCodes
 pub mod KeyOrder
 pub mod Members
 pub mod MessageForm
@@ -12,4 +17,5 @@ pub mod Parts
 pub mod Plain
 pub mod ReadBack
 pub mod Refusals
+pub mod SafeValues
 pub mod Views

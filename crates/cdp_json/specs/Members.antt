@@ -14,6 +14,7 @@ abbrev pub if_given : {A : Type 0} → (Data → Option A) → Option Data → O
 if_given kind None = Some None
 if_given kind (Some d) = option_map Some (kind d)
 
+-- a member that may be absent, and is of this kind where it is there
 abbrev pub optional : {A : Type 0} → (Data → Option A) → List ℕ → Data → Option (Option A)
 optional kind name d = if_given kind (get name d)
 
@@ -29,6 +30,7 @@ is_integer d = is_some (option_and_then as_u64 (as_number d)) || is_some (option
 abbrev pub if_coordinate : ℕ → Option ℕ
 if_coordinate n = if nat_lt n (2 ^ 32) then Some n else None
 
+-- a line or a column: an integer from 0 to 2^32-1
 abbrev pub coordinate_of : Data → Option ℕ
 coordinate_of d = option_and_then if_coordinate (option_and_then as_u64 (as_number d))
 
@@ -37,6 +39,7 @@ abbrev pub column_of : Option Data → Option ℕ
 column_of None = Some 0
 column_of (Some d) = coordinate_of d
 
+-- a position of a line and a column
 abbrev pub position_from : Option ℕ → Option ℕ → Option Pos
 position_from None column = None
 position_from (Some line) None = None

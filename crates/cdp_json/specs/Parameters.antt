@@ -1,9 +1,12 @@
 -- The parameters of each method (Chrome DevTools Protocol 1.3), read off a JSON value. Members without a meaning are passed over.
-use Rattle.std.specs.Prelude.{ℕ, List, [], ◌∷◌, Bool, true, ◌&&◌, bytes_eq, if◌then◌else◌, codes, Option, Some, None, is_some, option_map, option_and_then}
+use Rattle.std.specs.Prelude.{ℕ, List, [], ◌∷◌, Bool, bytes_eq, if◌then◌else◌, codes, Option, Some, None, option_map, option_and_then}
 use Rattle.cdp_text.specs.declared.position.Pos.{Pos}
 use Rattle.serde_json.specs.Data.{Data}
 use Rattle.serde_json.specs.Find.{get, as_bool, as_str}
+use Rattle.cdp_json.specs.Calls.{call_of}
+use Rattle.cdp_json.specs.Flags.{if_true, flags_of}
 use Rattle.cdp_json.specs.Members.{required, optional, text_of, is_integer, position_of}
+use Rattle.cdp_json.specs.declared.flags.EvaluationFlags.{EvaluationFlags}
 use Rattle.cdp_json.specs.declared.method.Method.{Method}
 use Rattle.cdp_json.specs.declared.method.Method.TheVariants as methods
 use Rattle.cdp_json.specs.declared.params.Location.{Location}
@@ -15,24 +18,29 @@ use Rattle.cdp_json.specs.declared.params.Params.TheVariants as params
 
 -- ---- locations: `scriptId`, `lineNumber`, `columnNumber?`
 
+-- a location of the id of a script and a position
 abbrev pub location_from : Option (List ℕ) → Option Pos → Option Location
 location_from None position = None
 location_from (Some id) None = None
 location_from (Some id) (Some position) = Some (record { script_id = id; position = position })
 
+-- a location, as an object
 abbrev pub location_of : Data → Option Location
 location_of d = location_from (required text_of (codes "scriptId") d) (position_of d)
 
 -- ---- conditions: an empty one is none
 
+-- an empty text is none
 abbrev pub unless_empty : List ℕ → Option (List ℕ)
 unless_empty [] = None
 unless_empty (u ∷ us) = Some (u ∷ us)
 
+-- a condition, where it is absent or a text
 abbrev pub condition_from : Option Data → Option (Option (List ℕ))
 condition_from None = Some None
 condition_from (Some d) = option_map unless_empty (text_of d)
 
+-- `condition?`
 abbrev pub condition_of : Data → Option (Option (List ℕ))
 condition_of d = condition_from (get (codes "condition") d)
 
@@ -49,6 +57,7 @@ by_url_from (Some url) None condition = None
 by_url_from (Some url) (Some position) None = None
 by_url_from (Some url) (Some position) (Some condition) = Some (params.SetBreakpointByUrl url position condition)
 
+-- `lineNumber, url, columnNumber?, condition?`
 abbrev pub by_url_of : Data → Option Params
 by_url_of d = by_url_from (required text_of (codes "url") d) (position_of d) (condition_of d)
 
@@ -58,6 +67,7 @@ at_location_from None condition = None
 at_location_from (Some location) None = None
 at_location_from (Some location) (Some condition) = Some (params.SetBreakpoint location condition)
 
+-- `location, condition?`
 abbrev pub at_location_of : Data → Option Params
 at_location_of d = at_location_from (required location_of (codes "location") d) (condition_of d)
 
@@ -81,6 +91,7 @@ state_named name =
     else if bytes_eq name (codes "all") then Some All
     else None
 
+-- `state`
 abbrev pub state_of : Data → Option Params
 state_of d = option_map params.SetPauseOnExceptions (option_and_then state_named (required as_str (codes "state") d))
 
@@ -89,6 +100,7 @@ abbrev pub depth_from : Option Data → Option Params
 depth_from None = None
 depth_from (Some d) = if is_integer d then Some params.SetAsyncCallStackDepth else None
 
+-- `maxDepth`
 abbrev pub depth_of : Data → Option Params
 depth_of d = depth_from (get (codes "maxDepth") d)
 
@@ -100,6 +112,7 @@ possible_from (Some start) (Some None) = Some (params.GetPossibleBreakpoints sta
 possible_from (Some start) (Some (Some end)) =
     if bytes_eq start.script_id end.script_id then Some (params.GetPossibleBreakpoints start (Some end)) else None
 
+-- `start, end?`
 abbrev pub possible_of : Data → Option Params
 possible_of d = possible_from (required location_of (codes "start") d) (optional location_of (codes "end") d)
 
@@ -107,34 +120,23 @@ possible_of d = possible_from (required location_of (codes "start") d) (optional
 abbrev pub source_of : Data → Option Params
 source_of d = option_map params.GetScriptSource (required text_of (codes "scriptId") d)
 
--- whether a flag is absent, or a truth value
-abbrev pub is_flag : List ℕ → Data → Bool
-is_flag name d = is_some (optional as_bool name d)
-
--- `silent?, returnByValue?, generatePreview?`: their kinds are tested, and their values don't change what is answered
-abbrev pub are_flags : Data → Bool
-are_flags d = is_flag (codes "silent") d && is_flag (codes "returnByValue") d && is_flag (codes "generatePreview") d
-
--- a flag that is absent is true
-abbrev pub unless_false : Option Bool → Bool
-unless_false None = true
-unless_false (Some flag) = flag
-
--- an evaluation, where its text is there and its group and flag are of their kinds
-abbrev pub evaluation_from : Option (List ℕ) → Option (Option (List ℕ)) → Option (Option Bool) → Option Evaluation
-evaluation_from None group throws = None
-evaluation_from (Some expression) None throws = None
+-- an evaluation, where its text is there and its group and flags are of their kinds
+abbrev pub evaluation_from : Option (List ℕ) → Option (Option (List ℕ)) → Option EvaluationFlags → Option Evaluation
+evaluation_from None group flags = None
+evaluation_from (Some expression) None flags = None
 evaluation_from (Some expression) (Some group) None = None
-evaluation_from (Some expression) (Some group) (Some throws) =
-    Some (record { expression = expression; object_group = group; throw_on_side_effect = unless_false throws })
-
--- `expression, objectGroup?, throwOnSideEffect?`
-abbrev pub evaluated_of : Data → Option Evaluation
-evaluated_of d = evaluation_from (required text_of (codes "expression") d) (optional text_of (codes "objectGroup") d) (optional as_bool (codes "throwOnSideEffect") d)
+evaluation_from (Some expression) (Some group) (Some flags) =
+    Some (record {
+      expression = expression;
+      object_group = group;
+      return_by_value = flags.return_by_value;
+      generate_preview = flags.generate_preview;
+      throw_on_side_effect = flags.throw_on_side_effect;
+    })
 
 -- `expression, objectGroup?, silent?, returnByValue?, generatePreview?, throwOnSideEffect?`
 abbrev pub evaluation_of : Data → Option Evaluation
-evaluation_of d = if are_flags d then evaluated_of d else None
+evaluation_of d = evaluation_from (required text_of (codes "expression") d) (optional text_of (codes "objectGroup") d) (flags_of d)
 
 -- the parameters of an evaluation
 abbrev pub evaluate_of : Data → Option Params
@@ -150,13 +152,18 @@ on_frame_from (Some id) (Some evaluation) = Some (params.EvaluateOnCallFrame id 
 abbrev pub on_frame_of : Data → Option Params
 on_frame_of d = on_frame_from (required text_of (codes "callFrameId") d) (evaluation_of d)
 
--- `objectId, ownProperties?, generatePreview?`; the flags are read, and don't change what is answered
+-- the parameters of a call
+abbrev pub call_function_of : Data → Option Params
+call_function_of d = option_map params.CallFunctionOn (call_of d)
+
+-- `objectId, ownProperties?, generatePreview?`
 abbrev pub properties_from : Option (List ℕ) → Option (Option Bool) → Option (Option Bool) → Option Params
 properties_from None own preview = None
 properties_from (Some id) None preview = None
 properties_from (Some id) (Some own) None = None
-properties_from (Some id) (Some own) (Some preview) = Some (params.GetProperties id)
+properties_from (Some id) (Some own) (Some preview) = Some (params.GetProperties id (if_true own) (if_true preview))
 
+-- `objectId, ownProperties?, generatePreview?`
 abbrev pub properties_of : Data → Option Params
 properties_of d = properties_from (required text_of (codes "objectId") d) (optional as_bool (codes "ownProperties") d) (optional as_bool (codes "generatePreview") d)
 
@@ -188,7 +195,12 @@ params_of methods.SetAsyncCallStackDepth d = depth_of d
 params_of methods.GetPossibleBreakpoints d = possible_of d
 params_of methods.GetScriptSource d = source_of d
 params_of methods.EvaluateOnCallFrame d = on_frame_of d
+params_of methods.RuntimeEnable d = Some params.RuntimeEnable
+params_of methods.RuntimeDisable d = Some params.RuntimeDisable
 params_of methods.Evaluate d = evaluate_of d
+params_of methods.CallFunctionOn d = call_function_of d
 params_of methods.GetProperties d = properties_of d
 params_of methods.ReleaseObject d = release_of d
 params_of methods.ReleaseObjectGroup d = release_group_of d
+params_of methods.GlobalLexicalScopeNames d = Some params.GlobalLexicalScopeNames
+params_of methods.RunIfWaitingForDebugger d = Some params.RunIfWaitingForDebugger

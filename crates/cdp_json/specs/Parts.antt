@@ -7,9 +7,11 @@ use Rattle.cdp_json.specs.Json.{Json, number, text, list, object, items_of, memb
 abbrev pub Pair : Type 0
 Pair = List ℕ × Json
 
+-- an object of these members
 abbrev pub object_of : List Pair → Json
 object_of pairs = object (members_of pairs)
 
+-- a list of these values
 abbrev pub list_of : List Json → Json
 list_of values = list (items_of values)
 
@@ -22,5 +24,6 @@ abbrev pub place_pairs : Place → List Pair
 place_pairs p =
     (codes "columnNumber", number (pos p.pos.col)) ∷ (codes "lineNumber", number (pos p.pos.line)) ∷ (codes "scriptId", text (decimal p.script)) ∷ []
 
+-- a place as a location
 abbrev pub location : Place → Json
 location p = object_of (place_pairs p)

@@ -6,5 +6,6 @@ use Rattle.std.specs.List.{list_all}
 abbrev pub is_plain_unit : ℕ → Bool
 is_plain_unit u = nat_le 32 u && nat_lt u 128 && not (u == 34) && not (u == 92)
 
+-- each unit of a text stands for itself in JSON
 abbrev pub is_plain : List ℕ → Bool
 is_plain = list_all is_plain_unit

@@ -1,7 +1,7 @@
 -- The codes and messages of refusals (JSON-RPC 2.0, section 5.1).
 use Rattle.std.specs.Prelude.{ℕ, ℤ, negsuc, List, ◌++◌, codes, decimal}
 use Rattle.cdp_json.specs.declared.refusal.Refusal.{Refusal}
-use Rattle.cdp_json.specs.declared.refusal.Refusal.TheVariants.{NotJson, NotObject, NoId, NoMethod, UnknownMethod, InvalidParameters, NotPaused, UnknownObject, UnknownFrame, UnknownScript, Unresolved, BreakpointExists, NotEnabled, BreakpointsFull, NeedsNoSideEffect, BudgetSpent, ScratchFull}
+use Rattle.cdp_json.specs.declared.refusal.Refusal.TheVariants.{NotJson, NotObject, NoId, NoMethod, UnknownMethod, InvalidParameters, NotPaused, UnknownObject, UnknownFrame, UnknownScript, Unresolved, BreakpointExists, NotEnabled, BreakpointsFull, NeedsNoSideEffect, BudgetSpent, ScratchFull, ReferenceChainTooLong}
 use Rattle.cdp_json.specs.declared.refusal.ScratchLimit.{ScratchLimit}
 use Rattle.cdp_json.specs.declared.refusal.ScratchLimit.TheVariants.{Cells, Units}
 
@@ -24,6 +24,7 @@ code_of (BreakpointsFull count) = negsuc 31999
 code_of NeedsNoSideEffect = negsuc 31999
 code_of BudgetSpent = negsuc 31999
 code_of (ScratchFull count what) = negsuc 31999
+code_of ReferenceChainTooLong = negsuc 31999
 
 -- what a limit counts
 abbrev pub counted : ScratchLimit → List ℕ
@@ -49,3 +50,4 @@ message_of (BreakpointsFull count) = codes "Breakpoints are full: " ++ decimal c
 message_of NeedsNoSideEffect = codes "Evaluation needs throwOnSideEffect"
 message_of BudgetSpent = codes "Evaluation spent its budget of 100000 steps"
 message_of (ScratchFull count what) = codes "Scratch heap is full: " ++ decimal count ++ counted what
+message_of ReferenceChainTooLong = codes "Object reference chain is too long"

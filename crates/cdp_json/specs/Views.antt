@@ -18,24 +18,31 @@ json_layer (Json-F.Text s) = json.text s
 json_layer (Json-F.List l) = json.list l
 json_layer (Json-F.Object o) = json.object o
 
+-- a list of values that were seen
 abbrev pub list_layer : JsonList-F json.Json json.Items json.Members (List ℕ × json.Json) → json.Items
 list_layer l = items_of l.items.items
 
+-- an object of members that were seen
 abbrev pub object_layer : JsonObject-F json.Json json.Items json.Members (List ℕ × json.Json) → json.Members
 object_layer o = members_of o.members.items
 
+-- a member whose value was seen
 abbrev pub member_layer : Member-F json.Json json.Items json.Members (List ℕ × json.Json) → List ℕ × json.Json
 member_layer m = (m.key, m.value)
 
+-- a value
 unfoldable pub json_view : Json → json.Json
 json_view = fold-Json json.Json json.Items json.Members (List ℕ × json.Json) json_layer list_layer object_layer member_layer
 
+-- the values of a list
 unfoldable pub list_view : JsonList → json.Items
 list_view = fold-JsonList json.Json json.Items json.Members (List ℕ × json.Json) json_layer list_layer object_layer member_layer
 
+-- the members of an object
 unfoldable pub object_view : JsonObject → json.Members
 object_view = fold-JsonObject json.Json json.Items json.Members (List ℕ × json.Json) json_layer list_layer object_layer member_layer
 
+-- a member, with its key
 unfoldable pub member_view : Member → List ℕ × json.Json
 member_view = fold-Member json.Json json.Items json.Members (List ℕ × json.Json) json_layer list_layer object_layer member_layer
 

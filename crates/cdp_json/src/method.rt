@@ -24,10 +24,15 @@ pub enum Method {
     GetPossibleBreakpoints,
     GetScriptSource,
     EvaluateOnCallFrame,
+    RuntimeEnable,
+    RuntimeDisable,
     Evaluate,
+    CallFunctionOn,
     GetProperties,
     ReleaseObject,
     ReleaseObjectGroup,
+    GlobalLexicalScopeNames,
+    RunIfWaitingForDebugger,
 }
 
 /// The method of this name, as `Debugger.enable`.
@@ -53,10 +58,15 @@ pub(crate) fn method_named(name: &str) -> Option<Method>
         "Debugger.getPossibleBreakpoints" => Some(Method::GetPossibleBreakpoints),
         "Debugger.getScriptSource" => Some(Method::GetScriptSource),
         "Debugger.evaluateOnCallFrame" => Some(Method::EvaluateOnCallFrame),
+        "Runtime.enable" => Some(Method::RuntimeEnable),
+        "Runtime.disable" => Some(Method::RuntimeDisable),
         "Runtime.evaluate" => Some(Method::Evaluate),
+        "Runtime.callFunctionOn" => Some(Method::CallFunctionOn),
         "Runtime.getProperties" => Some(Method::GetProperties),
         "Runtime.releaseObject" => Some(Method::ReleaseObject),
         "Runtime.releaseObjectGroup" => Some(Method::ReleaseObjectGroup),
+        "Runtime.globalLexicalScopeNames" => Some(Method::GlobalLexicalScopeNames),
+        "Runtime.runIfWaitingForDebugger" => Some(Method::RunIfWaitingForDebugger),
         _ => None,
     }
 }

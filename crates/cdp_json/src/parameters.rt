@@ -6,8 +6,10 @@ ghost use Rattle.std.specs.Prelude.{◌≡◌, IfOk, Some, codes, option_map, op
 ghost use Rattle.serde_json.specs.View.{view};
 ghost use Rattle.serde_json.specs.Find.{as_str};
 ghost use Rattle.cdp_json.specs.Members.{required, optional};
-ghost use Rattle.cdp_json.specs.Parameters.{location_from, location_of, unless_empty, condition_of, continue_of, by_url_from, by_url_of, at_location_from, at_location_of, remove_of, active_of, skip_of, state_named, state_of, depth_of, possible_from, possible_of, source_of, is_flag, are_flags, unless_false, evaluation_from, evaluated_of, evaluation_of, evaluate_of, on_frame_from, on_frame_of, properties_from, properties_of, release_of, release_group_of, params_of};
+ghost use Rattle.cdp_json.specs.Parameters.{location_from, location_of, unless_empty, condition_of, continue_of, by_url_from, by_url_of, at_location_from, at_location_of, remove_of, active_of, skip_of, state_named, state_of, depth_of, possible_from, possible_of, source_of, evaluation_from, evaluation_of, evaluate_of, on_frame_from, on_frame_of, call_function_of, properties_from, properties_of, release_of, release_group_of, params_of};
 
+use crate::calls::call;
+use crate::flags::{EvaluationFlags, flag_or_false, flags};
 use crate::members::{
     bool_at, is_whole, optional_bool_at, optional_text_at, position, str_at, text, text_at,
 };
@@ -291,47 +293,23 @@ fn source(alloc: Global, value: &Value) -> Result<Option<Params>, AllocError>
     }
 }
 
-/// Whether a flag is absent, or a truth value.
-fn flag_fits(value: &Value, name: &str) -> bool
-    ensures { result ≡ is_flag name.now (view value.now) }
-{
-    optional_bool_at(value, name).is_some()
-}
-
-/// `silent?, returnByValue?, generatePreview?`: whether they are of their kind
-fn flags_fit(value: &Value) -> bool
-    ensures { result ≡ are_flags (view value.now) }
-{
-    flag_fits(value, "silent")
-        && flag_fits(value, "returnByValue")
-        && flag_fits(value, "generatePreview")
-}
-
-/// A flag, true where it is absent.
-fn flag_or_true(flag: Option<bool>) -> bool
-    ensures { result ≡ unless_false flag }
-{
-    match flag {
-        Some(flag) => flag,
-        None => true,
-    }
-}
-
 /// An evaluation, where all of its parameters are there.
 fn made_evaluation(
     expression: Option<Units>,
     object_group: Option<Option<Units>>,
-    throws: Option<Option<bool>>,
+    flags: Option<EvaluationFlags>,
 ) -> Option<Evaluation>
-    ensures { result ≡ evaluation_from expression object_group throws }
+    ensures { result ≡ evaluation_from expression object_group flags }
 {
     match expression {
         Some(expression) => match object_group {
-            Some(object_group) => match throws {
-                Some(throws) => Some(Evaluation {
+            Some(object_group) => match flags {
+                Some(flags) => Some(Evaluation {
                     expression,
                     object_group,
-                    throw_on_side_effect: flag_or_true(throws),
+                    return_by_value: flags.return_by_value,
+                    generate_preview: flags.generate_preview,
+                    throw_on_side_effect: flags.throw_on_side_effect,
                 }),
                 None => None,
             },
@@ -341,25 +319,13 @@ fn made_evaluation(
     }
 }
 
-/// `expression, objectGroup?, throwOnSideEffect?`
-fn evaluated(alloc: Global, value: &Value) -> Result<Option<Evaluation>, AllocError>
-    ensures { IfOk result (λ evaluation. evaluation ≡ evaluated_of (view value.now)) }
-{
-    let expression = text_at(alloc, value, "expression")?;
-    let object_group = optional_text_at(alloc, value, "objectGroup")?;
-    let throws = optional_bool_at(value, "throwOnSideEffect");
-    Ok(made_evaluation(expression, object_group, throws))
-}
-
 /// `expression, objectGroup?, silent?, returnByValue?, generatePreview?, throwOnSideEffect?`
 fn evaluation(alloc: Global, value: &Value) -> Result<Option<Evaluation>, AllocError>
     ensures { IfOk result (λ evaluation. evaluation ≡ evaluation_of (view value.now)) }
 {
-    if flags_fit(value) {
-        evaluated(alloc, value)
-    } else {
-        Ok(None)
-    }
+    let expression = text_at(alloc, value, "expression")?;
+    let object_group = optional_text_at(alloc, value, "objectGroup")?;
+    Ok(made_evaluation(expression, object_group, flags(value)))
 }
 
 /// The parameters of an evaluation.
@@ -397,6 +363,16 @@ fn on_frame(alloc: Global, value: &Value) -> Result<Option<Params>, AllocError>
     Ok(made_on_frame(call_frame_id, evaluation))
 }
 
+/// The parameters of a call.
+fn call_function(alloc: Global, value: &Value) -> Result<Option<Params>, AllocError>
+    ensures { IfOk result (λ params. params ≡ call_function_of (view value.now)) }
+{
+    match call(alloc, value)? {
+        Some(call) => Ok(Some(Params::CallFunctionOn { call })),
+        None => Ok(None),
+    }
+}
+
 /// The parameters of a list of properties, where all are of their kinds.
 fn made_properties(
     object_id: Option<Units>,
@@ -407,8 +383,12 @@ fn made_properties(
 {
     match object_id {
         Some(object_id) => match own {
-            Some(_) => match preview {
-                Some(_) => Some(Params::GetProperties { object_id }),
+            Some(own) => match preview {
+                Some(preview) => Some(Params::GetProperties {
+                    object_id,
+                    own_properties: flag_or_false(own),
+                    generate_preview: flag_or_false(preview),
+                }),
                 None => None,
             },
             None => None,
@@ -474,9 +454,14 @@ pub(crate) fn params(
         Method::GetPossibleBreakpoints => possible(alloc, value),
         Method::GetScriptSource => source(alloc, value),
         Method::EvaluateOnCallFrame => on_frame(alloc, value),
+        Method::RuntimeEnable => Ok(Some(Params::RuntimeEnable)),
+        Method::RuntimeDisable => Ok(Some(Params::RuntimeDisable)),
         Method::Evaluate => evaluate(alloc, value),
+        Method::CallFunctionOn => call_function(alloc, value),
         Method::GetProperties => properties(alloc, value),
         Method::ReleaseObject => release(alloc, value),
         Method::ReleaseObjectGroup => release_group(alloc, value),
+        Method::GlobalLexicalScopeNames => Ok(Some(Params::GlobalLexicalScopeNames)),
+        Method::RunIfWaitingForDebugger => Ok(Some(Params::RunIfWaitingForDebugger)),
     }
 }

@@ -1,5 +1,6 @@
 //! The parameters of commands.
 
+use crate::arguments::Arguments;
 use cdp_text::position::Pos;
 use cdp_text::units::Units;
 
@@ -18,13 +19,28 @@ pub enum ExceptionPauses {
     All,
 }
 
-/// A text that is to be evaluated, and the group of the objects that it comes to. An absent `throwOnSideEffect` is true.
-/// `silent`, `returnByValue` and `generatePreview` must be truth values where they are given, but have no effect yet, so
-/// they aren't kept.
+/// A text that is to be evaluated, the group of the objects that it comes to, and how its result is described. An absent
+/// `throwOnSideEffect` is true, the other flags are false where they are absent. `silent` must be a truth value where it
+/// is given, but has no effect, so it isn't kept.
 #[derive(Debug, Drop)]
 pub struct Evaluation {
     pub expression: Units,
     pub object_group: Option<Units>,
+    pub return_by_value: bool,
+    pub generate_preview: bool,
+    pub throw_on_side_effect: bool,
+}
+
+/// A function that is to be called with these arguments, the object that is its `this`, the group of the objects that the
+/// call comes to, and how its result is described. Absent arguments are none, and flags are read as an evaluation's.
+#[derive(Debug, Drop)]
+pub struct FunctionCall {
+    pub function_declaration: Units,
+    pub object_id: Option<Units>,
+    pub arguments: Arguments,
+    pub object_group: Option<Units>,
+    pub return_by_value: bool,
+    pub generate_preview: bool,
     pub throw_on_side_effect: bool,
 }
 
@@ -76,11 +92,19 @@ pub enum Params {
         call_frame_id: Units,
         evaluation: Evaluation,
     },
+    RuntimeEnable,
+    RuntimeDisable,
     Evaluate {
         evaluation: Evaluation,
     },
+    CallFunctionOn {
+        call: FunctionCall,
+    },
+    /// The flags are false where they are absent.
     GetProperties {
         object_id: Units,
+        own_properties: bool,
+        generate_preview: bool,
     },
     ReleaseObject {
         object_id: Units,
@@ -88,4 +112,6 @@ pub enum Params {
     ReleaseObjectGroup {
         object_group: Units,
     },
+    GlobalLexicalScopeNames,
+    RunIfWaitingForDebugger,
 }

@@ -52,6 +52,8 @@ pub enum Refusal {
     BudgetSpent,
     /// The evaluation would pass this limit of the scratch heap.
     ScratchFull { count: u64, what: ScratchLimit },
+    /// A result that is asked for by value is nested too deep, or has too many values.
+    ReferenceChainTooLong,
 }
 
 /// The code of a refusal (JSON-RPC 2.0, section 5.1).
@@ -95,6 +97,7 @@ pub(crate) fn message(alloc: Global, refusal: &Refusal) -> Result<Units, AllocEr
         Refusal::NeedsNoSideEffect => ascii(alloc, b"Evaluation needs throwOnSideEffect"),
         Refusal::BudgetSpent => ascii(alloc, b"Evaluation spent its budget of 100000 steps"),
         Refusal::ScratchFull { count, what } => scratch_full(alloc, *count, *what),
+        Refusal::ReferenceChainTooLong => ascii(alloc, b"Object reference chain is too long"),
     }
 }
 

@@ -1,0 +1,36 @@
+-- The flags of an evaluation or a call: `silent?, returnByValue?, generatePreview?, throwOnSideEffect?`.
+use Rattle.std.specs.Prelude.{List, ℕ, Bool, true, false, if◌then◌else◌, codes, Option, Some, None, is_some}
+use Rattle.serde_json.specs.Data.{Data}
+use Rattle.serde_json.specs.Find.{as_bool}
+use Rattle.cdp_json.specs.Members.{optional}
+use Rattle.cdp_json.specs.declared.flags.EvaluationFlags.{EvaluationFlags}
+
+-- whether a flag is absent, or a truth value
+abbrev pub is_flag : List ℕ → Data → Bool
+is_flag name d = is_some (optional as_bool name d)
+
+-- a flag that is absent is false
+abbrev pub if_true : Option Bool → Bool
+if_true None = false
+if_true (Some flag) = flag
+
+-- a flag that is absent is true
+abbrev pub unless_false : Option Bool → Bool
+unless_false None = true
+unless_false (Some flag) = flag
+
+-- `returnByValue?, generatePreview?, throwOnSideEffect?`
+abbrev pub flags_from : Option (Option Bool) → Option (Option Bool) → Option (Option Bool) → Option EvaluationFlags
+flags_from None preview throws = None
+flags_from (Some by_value) None throws = None
+flags_from (Some by_value) (Some preview) None = None
+flags_from (Some by_value) (Some preview) (Some throws) =
+    Some (record { return_by_value = if_true by_value; generate_preview = if_true preview; throw_on_side_effect = unless_false throws })
+
+-- the flags that have an effect
+abbrev pub given_flags : Data → Option EvaluationFlags
+given_flags d = flags_from (optional as_bool (codes "returnByValue") d) (optional as_bool (codes "generatePreview") d) (optional as_bool (codes "throwOnSideEffect") d)
+
+-- the kind of `silent` is tested, and its value doesn't change what is answered
+abbrev pub flags_of : Data → Option EvaluationFlags
+flags_of d = if is_flag (codes "silent") d then given_flags d else None
