@@ -78,7 +78,7 @@ carried f t u ps qs x y p q r h = subst (λ v. Fits (f v) (numbers_of ps) x) (sy
 
 -- ---- the numbers of places
 
-numbers_append : (ps qs : List Place) → numbers_of (ps ++ qs) ≡ numbers_of ps ++ numbers_of qs
+pub numbers_append : (ps qs : List Place) → numbers_of (ps ++ qs) ≡ numbers_of ps ++ numbers_of qs
 numbers_append [] qs = refl
 numbers_append (stands s ∷ ps) qs = numbers_append ps qs
 numbers_append (stands_maybe k ∷ ps) qs = numbers_append ps qs
@@ -97,7 +97,7 @@ numbers_turn (ps ∷ pieces) = numbers_append ps (in_turn pieces) ∙ ap (λ ns.
 numbers_node : (n : NodeId) (pieces : List (List Place)) → numbers_of (node_of n pieces) ≡ numbers_in pieces ++ n.0 ∷ []
 numbers_node n pieces = numbers_append (in_turn pieces) (closes n.0 ∷ []) ∙ ap (λ ns. ns ++ n.0 ∷ []) (numbers_turn pieces)
 
-quiet : (ms : List Mark) → numbers_of (plain ms) ≡ []
+pub quiet : (ms : List Mark) → numbers_of (plain ms) ≡ []
 quiet [] = refl
 quiet (token s ∷ ms) = quiet ms
 quiet (beside s ∷ ms) = quiet ms

@@ -1,2 +1,4 @@
+pub mod NodeSpans
 pub mod Numbered
+pub mod NumberedPlaces
 pub mod Numbering
