@@ -22,3 +22,9 @@ pub fn texts_of_functions()
     ensures is { (source : _) (e : _) → function_of source ≡ Some e → IsSource IsFunction height source e }
     ensures none { (source : _) → ((e : _) → IsSource IsFunction height source e → ⊥) → function_of source ≡ None }
 {}
+
+/// The text of a function expression or of an arrow function is an expression with the same tree.
+#[tactic(auto, using(crate::proofs::NodeTextLemmas::function_tree_is))]
+pub fn functions_are_expressions()
+    ensures { (source : _) (e : _) → function_of source ≡ Some e → expression_of source ≡ Some e }
+{}

@@ -5,6 +5,7 @@ mod earlier;
 mod functions;
 mod kept;
 mod laws;
+pub mod node_text;
 pub mod parse;
 mod reading;
 pub mod source;
