@@ -1,6 +1,9 @@
 pub mod DescribedLemmas
+pub mod GivenLemmas
 pub mod IdLemmas
 pub mod KeyLemmas
+pub mod LevelLemmas
 pub mod MakingLemmas
 pub mod MemberLemmas
 pub mod PreviewLemmas
+pub mod ScopeNameLemmas

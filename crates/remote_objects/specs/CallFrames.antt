@@ -20,6 +20,7 @@ backtrace = codes "backtrace"
 
 -- ---- scopes
 
+-- the type of a scope
 abbrev pub kind_text : ListedKind → List ℕ
 kind_text kinds.Block = codes "block"
 kind_text kinds.Catch = codes "catch"
@@ -33,12 +34,15 @@ abbrev pub name_pairs : List ℕ → List Pair
 name_pairs [] = []
 name_pairs (u ∷ us) = (codes "name", text (u ∷ us)) ∷ []
 
+-- a scope with what its names are described as
 abbrev pub scope_of : ShownScope → Json → Json
 scope_of s described = object_of (name_pairs s.name ++ (codes "object", described) ∷ (codes "type", text (kind_text s.kind)) ∷ [])
 
+-- a scope with a handle on its names
 abbrev pub scope_made : Sight → ShownScope → handles.State → Made Json
 scope_made s scope h = record { made = scope_of scope (remote_scope s.session (Some backtrace) scope.bindings h).made; handles = (remote_scope s.session (Some backtrace) scope.bindings h).handles }
 
+-- scopes, in order
 abbrev pub scopes_made : Sight → List ShownScope → handles.State → Made (List Json)
 scopes_made s scopes h = made_all (scope_made s) scopes h
 
@@ -49,6 +53,7 @@ abbrev pub function_pairs : Option Place → List Pair
 function_pairs None = []
 function_pairs (Some place) = (codes "functionLocation", location place) ∷ []
 
+-- the URL of a script; that of none is empty
 abbrev pub url_of : Option Script → List ℕ
 url_of None = []
 url_of (Some s) = s.url
@@ -68,6 +73,7 @@ frame_object s stop depth f scopes receiver = object_of (
 abbrev pub receiver_made : Sight → ShownFrame → handles.State → Made Json
 receiver_made s f h = remote s (Some backtrace) f.receiver (scopes_made s f.scopes h).handles
 
+-- a frame so far from the top one
 abbrev pub frame_made : Sight → ℕ → ℕ → ShownFrame → handles.State → Made Json
 frame_made s stop depth f h = record {
   made = frame_object s stop depth f (scopes_made s f.scopes h).made (receiver_made s f h).made;

@@ -34,16 +34,19 @@ pub record Slot : Type 0 where
 
 -- ---- objects
 
+-- a property of an object, with its flags
 abbrev pub property_slot : Property → Slot
 property_slot p = record { name = p.key; content = a_value p.value; writable = p.writable; enumerable = p.enumerable; configurable = p.configurable }
 
--- the elements of an array from an index on, then its length, which can be written alone
+-- the length of an array, which can be written alone
 abbrev pub array_length : ℕ → Slot
 array_length n = record { name = codes "length"; content = a_value (values.Number (pos n)); writable = true; enumerable = false; configurable = false }
 
+-- an element of an array, which can be changed in every way
 abbrev pub element_slot : ℕ → Value → Slot
 element_slot i v = record { name = decimal i; content = a_value v; writable = true; enumerable = true; configurable = true }
 
+-- the elements of an array from an index on, then its length
 abbrev pub elements_from : ℕ → List Value → List Slot
 elements_from i [] = array_length i ∷ []
 elements_from i (v ∷ vs) = element_slot i v ∷ elements_from (i + 1) vs
@@ -52,6 +55,7 @@ elements_from i (v ∷ vs) = element_slot i v ∷ elements_from (i + 1) vs
 abbrev pub fixed_slot : List ℕ → Content → Slot
 fixed_slot name content = record { name = name; content = content; writable = false; enumerable = false; configurable = true }
 
+-- those of a function of this length and name
 abbrev pub function_slots : ℕ → List ℕ → List Slot
 function_slots len name = fixed_slot (codes "length") (a_value (values.Number (pos len))) ∷ fixed_slot (codes "name") (a_text name) ∷ []
 
@@ -70,10 +74,12 @@ abbrev pub binding_slots : List ℕ → Bool → Option Value → List Slot
 binding_slots name constant None = []
 binding_slots name constant (Some v) = record { name = name; content = a_value v; writable = not constant; enumerable = true; configurable = true } ∷ []
 
+-- names, in order
 abbrev pub names_slots : List Binding → List Slot
 names_slots [] = []
 names_slots (b ∷ bs) = binding_slots b.name b.constant b.value ++ names_slots bs
 
+-- the names of a scope that have a value; another cell has none
 abbrev pub scope_slots : Option Cell → List Slot
 scope_slots (Some (cells.Bindings kind name outer names)) = names_slots names
 scope_slots cell = []
@@ -85,6 +91,7 @@ slots_of w (targets.Scope a) = scope_slots (read_cell w a)
 
 -- ---- descriptors
 
+-- what a property holds, as a remote object
 abbrev pub content_made : Sight → Detail → Option (List ℕ) → Content → handles.State → Made Json
 content_made s detail group (a_value v) h = remote_with s detail group v h
 content_made s detail group (a_text units) h = record { made = object_of (text_pairs units); handles = h }
@@ -99,6 +106,7 @@ descriptor_of p value = object_of (
     ∷ (codes "value", value)
     ∷ (codes "writable", boolean p.writable) ∷ [])
 
+-- a property, described
 abbrev pub descriptor : Sight → Detail → Option (List ℕ) → Slot → handles.State → Made Json
 descriptor s detail group p h = record { made = descriptor_of p (content_made s detail group p.content h).made; handles = (content_made s detail group p.content h).handles }
 

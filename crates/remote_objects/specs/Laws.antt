@@ -1,5 +1,5 @@
 -- What holds of descriptors and of previews.
-use Rattle.std.specs.Prelude.{◌≡◌, ℕ, List, [], ◌∷◌, map, length, take, nat_lt, Option, Some}
+use Rattle.std.specs.Prelude.{◌≡◌, ◌≤◌, ℕ, List, [], ◌∷◌, map, length, take, nat_lt, Option, Some}
 use Rattle.js_heap.specs.declared.cell.Cell.{Cell}
 use Rattle.js_heap.specs.declared.cell.Cell.TheVariants as cells
 use Rattle.js_heap.specs.declared.cell.Property.{Property}
@@ -12,11 +12,14 @@ use Rattle.cdp_json.specs.Json.{Json}
 use Rattle.remote_objects.specs.declared.detail.Detail.{Detail}
 use Rattle.remote_objects.specs.Previews.{entry, property_preview, listed, most_listed}
 use Rattle.remote_objects.specs.Sights.{Sight}
+use Rattle.remote_objects.specs.ByValue.{value_given, if_within, by_value, most_deep, most_met}
 use Rattle.remote_objects.specs.Descriptors.{Slot, object_slots, slots_of, descriptor_of, descriptors_with}
 
+-- the name of a property as it is described
 abbrev pub slot_name : Slot → List ℕ
 slot_name p = p.name
 
+-- the key of a property as an object has it
 abbrev pub key_of : Property → List ℕ
 key_of p = p.key
 
@@ -49,3 +52,7 @@ ListsFirstKeys = (w : World) (cell : Option Cell) → ArePreviews w (take (most_
 -- it says that there are more where `Object.keys` gives more
 abbrev pub SaysWhetherMore : Type 0
 SaysWhetherMore = (w : World) (cell : Option Cell) → (listed w cell).more ≡ nat_lt (most_listed cell) (length (keys_of_cell cell))
+
+-- a value by value is the same however many more levels are looked at
+abbrev pub IgnoresLevels : Type 0
+IgnoresLevels = (w : World) (n : ℕ) (v : Value) → most_deep ≤ n → if_within most_deep most_met (value_given w n v) ≡ by_value w v

@@ -2,9 +2,11 @@ pub mod Ids
 pub mod Sights
 pub mod Values
 pub mod Previews
+pub mod ByValue
 pub mod Making
 pub mod Remote
 pub mod Descriptors
+pub mod ScopeNames
 pub mod CallFrames
 pub mod Views
 pub mod Slots

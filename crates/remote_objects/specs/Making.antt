@@ -18,6 +18,7 @@ abbrev pub number_by : Option HandleFault → handles.State → Option ℕ
 number_by None h = Some (next_number h)
 number_by (Some fault) h = None
 
+-- the handles behind that
 abbrev pub handles_by : Option HandleFault → Target → Option (List ℕ) → handles.State → handles.State
 handles_by None target group h = with_handle target group h
 handles_by (Some fault) target group h = h

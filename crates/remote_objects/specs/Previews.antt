@@ -31,16 +31,19 @@ value_text w v = shown w v
 
 -- ---- subtypes; empty where there is none
 
+-- that of a cell
 abbrev pub cell_subtype : Option Cell → List ℕ
 cell_subtype (Some (cells.Error class ps)) = codes "error"
 cell_subtype (Some (cells.Array vs)) = codes "array"
 cell_subtype cell = []
 
+-- that of a value
 abbrev pub value_subtype : World → Value → List ℕ
 value_subtype w values.Null = codes "null"
 value_subtype w (values.Object a) = cell_subtype (read_cell w a)
 value_subtype w v = []
 
+-- the member that names it, if there is one
 abbrev pub subtype_pairs : List ℕ → List Pair
 subtype_pairs [] = []
 subtype_pairs (u ∷ us) = subtyped (u ∷ us)
@@ -52,12 +55,15 @@ pub record Entry : Type 0 where
   pub name : List ℕ
   pub value : Value
 
+-- one of this name and value
 abbrev pub entry : List ℕ → Value → Entry
 entry name value = record { name = name; value = value }
 
+-- a property, if it is enumerable
 abbrev pub entry_if : Property → List Entry
 entry_if p = if p.enumerable then entry p.key p.value ∷ [] else []
 
+-- the enumerable ones of these properties
 abbrev pub enumerable : List Property → List Entry
 enumerable [] = []
 enumerable (p ∷ ps) = entry_if p ++ enumerable ps
@@ -89,6 +95,7 @@ pub record Listed : Type 0 where
   pub first : List Json
   pub more : Bool
 
+-- the first so many
 abbrev pub first_of : ℕ → List Json → Listed
 first_of n js = record { first = take n js; more = nat_lt n (length js) }
 
@@ -97,9 +104,11 @@ abbrev pub most_listed : Option Cell → ℕ
 most_listed (Some (cells.Array vs)) = 100
 most_listed cell = 5
 
+-- the first properties of a cell in short
 abbrev pub listed : World → Option Cell → Listed
 listed w cell = first_of (most_listed cell) (map (property_preview w) (entries cell))
 
+-- a preview of this description, with these properties and a subtype, where there is one
 abbrev pub preview_of : List ℕ → Listed → List ℕ → Json
 preview_of description l subtype = object_of (
     (codes "description", text (shortened description))
@@ -108,6 +117,7 @@ preview_of description l subtype = object_of (
     ∷ (codes "type", text (codes "object"))
     ∷ subtype_pairs subtype)
 
+-- that of a cell
 abbrev pub preview : World → Option Cell → Json
 preview w cell = preview_of (cell_description w cell) (listed w cell) (cell_subtype cell)
 
@@ -116,5 +126,6 @@ abbrev pub has_preview : Option Cell → Bool
 has_preview (Some (cells.Function code name len scope receiver)) = false
 has_preview cell = true
 
+-- the member that has it, if the cell has one
 abbrev pub preview_pairs : World → Option Cell → List Pair
 preview_pairs w cell = if has_preview cell then (codes "preview", preview w cell) ∷ [] else []

@@ -22,8 +22,8 @@ with_handle_on session group target pairs h = record { made = object_of (pairs +
 
 -- a value; its handle, if it is an object, is in this group or in none
 abbrev pub remote : Sight → Option (List ℕ) → Value → handles.State → Made Json
-remote s group (values.Object a) h = with_handle_on s.session group (targets.Object a) (value_pairs s.world s.scripts (values.Object a)) h
-remote s group v h = record { made = object_of (value_pairs s.world s.scripts v); handles = h }
+remote s group (values.Object a) h = with_handle_on s.session group (targets.Object a) (value_pairs s (values.Object a)) h
+remote s group v h = record { made = object_of (value_pairs s v); handles = h }
 
 -- a scope, as an object of its names
 abbrev pub remote_scope : ℕ → Option (List ℕ) → Addr → handles.State → Made Json
@@ -34,10 +34,11 @@ remote_scope session group a h = with_handle_on session group (targets.Scope a) 
 -- an object with its handle and its preview, which makes none
 abbrev pub previewed_object : Sight → Option (List ℕ) → Addr → handles.State → Made Json
 previewed_object s group a h = record {
-  made = object_of (cell_pairs s.world s.scripts (read_cell s.world a) ++ id_pairs s.session (handle_on (targets.Object a) group h).made ++ preview_pairs s.world (read_cell s.world a));
+  made = object_of (cell_pairs s (read_cell s.world a) ++ id_pairs s.session (handle_on (targets.Object a) group h).made ++ preview_pairs s.world (read_cell s.world a));
   handles = (handle_on (targets.Object a) group h).handles;
 }
 
+-- a value with a preview, if it is an object
 abbrev pub previewed : Sight → Option (List ℕ) → Value → handles.State → Made Json
 previewed s group (values.Object a) h = previewed_object s group a h
 previewed s group v h = remote s group v h

@@ -15,9 +15,11 @@ slot_with name content flags = record { name = name; content = content; writable
 abbrev pub described : List ℕ → Flags → Json → Json
 described name flags value = descriptor_of (slot_with name (a_text name) flags) value
 
+-- one that holds a value
 abbrev pub value_slot : List ℕ → Value → Flags → Slot
 value_slot name value flags = slot_with name (a_value value) flags
 
+-- one that holds a text without a cell
 abbrev pub text_slot : List ℕ → List ℕ → Flags → Slot
 text_slot name units flags = slot_with name (a_text units) flags
 

@@ -12,9 +12,9 @@ use Rattle.remote_objects.specs.declared.previews.Listed.{Listed}
 use Rattle.remote_objects.specs.Sights.{Sight}
 use Rattle.remote_objects.specs.CallFrames.{function_pairs}
 
--- a world with scripts, for a session
-abbrev pub sight_of : World → List Script → ℕ → Sight
-sight_of w scripts session = record { world = w; scripts = scripts; session = session }
+-- a world with the sources of nodes and with scripts, for a session
+abbrev pub sight_of : (List ℕ → ℕ → List ℕ) → World → List Script → ℕ → Sight
+sight_of node_text w scripts session = record { world = w; node_text = node_text; scripts = scripts; session = session }
 
 -- the members that say which frame it is, and where it stands
 abbrev pub frame_front : ℕ → ℕ → ℕ → ShownFrame → List Pair

@@ -12,6 +12,7 @@ ghost use Rattle.remote_objects.specs.Views.{sight_of};
 
 use crate::describer::Describer;
 use crate::detail::Detail;
+use crate::function_sources::FunctionSources;
 use crate::members::text_members;
 use crate::slots::{Flags, descriptor_of, index_name, length_value};
 use cdp_json::value::{Json, object};
@@ -25,7 +26,7 @@ use js_world::world::World;
 use object_groups::{Handles, Target};
 use std::alloc::AllocError;
 
-impl<'w, W: World> Describer<'w, W> {
+impl<'w, W: World, S: FunctionSources> Describer<'w, W, S> {
     // ---- one property
 
     /// A property that holds a value.
@@ -38,8 +39,8 @@ impl<'w, W: World> Describer<'w, W> {
         group: Option<&[u16]>,
         handles: &mut Handles,
     ) -> Result<Json, AllocError>
-        ensures made { IfOk result (λ j. json_view j ≡ (descriptors.descriptor (sight_of (W.world self.now.names.now self.now.world.now) self.now.scripts.now self.now.session) detail (option_copied group.entry) (value_slot name value flags) handles.old).made) }
-        ensures handles { OnOk result (handles.new ≡ (descriptors.descriptor (sight_of (W.world self.now.names.now self.now.world.now) self.now.scripts.now self.now.session) detail (option_copied group.entry) (value_slot name value flags) handles.old).handles) }
+        ensures made { IfOk result (λ j. json_view j ≡ (descriptors.descriptor (sight_of S.node_text (W.world self.now.names.now self.now.world.now) self.now.scripts.now self.now.session) detail (option_copied group.entry) (value_slot name value flags) handles.old).made) }
+        ensures handles { OnOk result (handles.new ≡ (descriptors.descriptor (sight_of S.node_text (W.world self.now.names.now self.now.world.now) self.now.scripts.now self.now.session) detail (option_copied group.entry) (value_slot name value flags) handles.old).handles) }
     {
         let value = self.remote_with(value, detail, handles, group)?;
         descriptor_of(self.alloc, name, flags, value)
@@ -61,8 +62,8 @@ impl<'w, W: World> Describer<'w, W> {
         group: Option<&[u16]>,
         handles: &mut Handles,
     ) -> Result<Json, AllocError>
-        ensures made { IfOk result (λ j. json_view j ≡ (descriptors.descriptor (sight_of (W.world self.now.names.now self.now.world.now) self.now.scripts.now self.now.session) detail (option_copied group.entry) (descriptors.property_slot property.now) handles.old).made) }
-        ensures handles { OnOk result (handles.new ≡ (descriptors.descriptor (sight_of (W.world self.now.names.now self.now.world.now) self.now.scripts.now self.now.session) detail (option_copied group.entry) (descriptors.property_slot property.now) handles.old).handles) }
+        ensures made { IfOk result (λ j. json_view j ≡ (descriptors.descriptor (sight_of S.node_text (W.world self.now.names.now self.now.world.now) self.now.scripts.now self.now.session) detail (option_copied group.entry) (descriptors.property_slot property.now) handles.old).made) }
+        ensures handles { OnOk result (handles.new ≡ (descriptors.descriptor (sight_of S.node_text (W.world self.now.names.now self.now.world.now) self.now.scripts.now self.now.session) detail (option_copied group.entry) (descriptors.property_slot property.now) handles.old).handles) }
     {
         let name = Units::from_slice(self.alloc, property.key.as_slice())?;
         let flags = Flags {
@@ -82,8 +83,8 @@ impl<'w, W: World> Describer<'w, W> {
         group: Option<&[u16]>,
         handles: &mut Handles,
     ) -> Result<Json, AllocError>
-        ensures made { IfOk result (λ j. json_view j ≡ (descriptors.descriptor (sight_of (W.world self.now.names.now self.now.world.now) self.now.scripts.now self.now.session) detail (option_copied group.entry) (descriptors.element_slot index value) handles.old).made) }
-        ensures handles { OnOk result (handles.new ≡ (descriptors.descriptor (sight_of (W.world self.now.names.now self.now.world.now) self.now.scripts.now self.now.session) detail (option_copied group.entry) (descriptors.element_slot index value) handles.old).handles) }
+        ensures made { IfOk result (λ j. json_view j ≡ (descriptors.descriptor (sight_of S.node_text (W.world self.now.names.now self.now.world.now) self.now.scripts.now self.now.session) detail (option_copied group.entry) (descriptors.element_slot index value) handles.old).made) }
+        ensures handles { OnOk result (handles.new ≡ (descriptors.descriptor (sight_of S.node_text (W.world self.now.names.now self.now.world.now) self.now.scripts.now self.now.session) detail (option_copied group.entry) (descriptors.element_slot index value) handles.old).handles) }
     {
         let name = index_name(self.alloc, index)?;
         let flags = Flags {
@@ -102,8 +103,8 @@ impl<'w, W: World> Describer<'w, W> {
         group: Option<&[u16]>,
         handles: &mut Handles,
     ) -> Result<Json, AllocError>
-        ensures made { IfOk result (λ j. json_view j ≡ (descriptors.descriptor (sight_of (W.world self.now.names.now self.now.world.now) self.now.scripts.now self.now.session) detail (option_copied group.entry) (descriptors.array_length len) handles.old).made) }
-        ensures handles { OnOk result (handles.new ≡ (descriptors.descriptor (sight_of (W.world self.now.names.now self.now.world.now) self.now.scripts.now self.now.session) detail (option_copied group.entry) (descriptors.array_length len) handles.old).handles) }
+        ensures made { IfOk result (λ j. json_view j ≡ (descriptors.descriptor (sight_of S.node_text (W.world self.now.names.now self.now.world.now) self.now.scripts.now self.now.session) detail (option_copied group.entry) (descriptors.array_length len) handles.old).made) }
+        ensures handles { OnOk result (handles.new ≡ (descriptors.descriptor (sight_of S.node_text (W.world self.now.names.now self.now.world.now) self.now.scripts.now self.now.session) detail (option_copied group.entry) (descriptors.array_length len) handles.old).handles) }
     {
         let name = ascii(self.alloc, b"length")?;
         let value = length_value(len)?;
@@ -124,8 +125,8 @@ impl<'w, W: World> Describer<'w, W> {
         group: Option<&[u16]>,
         handles: &mut Handles,
     ) -> Result<Json, AllocError>
-        ensures made { IfOk result (λ j. json_view j ≡ (descriptors.descriptor (sight_of (W.world self.now.names.now self.now.world.now) self.now.scripts.now self.now.session) detail (option_copied group.entry) (bound_slot (binding_at self.now.names.now slot).name slot.constant value) handles.old).made) }
-        ensures handles { OnOk result (handles.new ≡ (descriptors.descriptor (sight_of (W.world self.now.names.now self.now.world.now) self.now.scripts.now self.now.session) detail (option_copied group.entry) (bound_slot (binding_at self.now.names.now slot).name slot.constant value) handles.old).handles) }
+        ensures made { IfOk result (λ j. json_view j ≡ (descriptors.descriptor (sight_of S.node_text (W.world self.now.names.now self.now.world.now) self.now.scripts.now self.now.session) detail (option_copied group.entry) (bound_slot (binding_at self.now.names.now slot).name slot.constant value) handles.old).made) }
+        ensures handles { OnOk result (handles.new ≡ (descriptors.descriptor (sight_of S.node_text (W.world self.now.names.now self.now.world.now) self.now.scripts.now self.now.session) detail (option_copied group.entry) (bound_slot (binding_at self.now.names.now slot).name slot.constant value) handles.old).handles) }
     {
         let name = Units::from_slice(self.alloc, self.names.text(slot.name)?)?;
         let flags = Flags {
@@ -146,8 +147,8 @@ impl<'w, W: World> Describer<'w, W> {
         group: Option<&[u16]>,
         handles: &mut Handles,
     ) -> Result<Vec<Json>, AllocError>
-        ensures made { IfOk result (λ js. map json_view js.items ≡ (made_all (descriptors.descriptor (sight_of (W.world self.now.names.now self.now.world.now) self.now.scripts.now self.now.session) detail (option_copied group.entry)) (map descriptors.property_slot properties.now) handles.old).made) }
-        ensures handles { OnOk result (handles.new ≡ (made_all (descriptors.descriptor (sight_of (W.world self.now.names.now self.now.world.now) self.now.scripts.now self.now.session) detail (option_copied group.entry)) (map descriptors.property_slot properties.now) handles.old).handles) }
+        ensures made { IfOk result (λ js. map json_view js.items ≡ (made_all (descriptors.descriptor (sight_of S.node_text (W.world self.now.names.now self.now.world.now) self.now.scripts.now self.now.session) detail (option_copied group.entry)) (map descriptors.property_slot properties.now) handles.old).made) }
+        ensures handles { OnOk result (handles.new ≡ (made_all (descriptors.descriptor (sight_of S.node_text (W.world self.now.names.now self.now.world.now) self.now.scripts.now self.now.session) detail (option_copied group.entry)) (map descriptors.property_slot properties.now) handles.old).handles) }
     {
         let mut listed = Vec::with_capacity(self.alloc, properties.len())?;
         for place in 0..properties.len() {
@@ -167,8 +168,8 @@ impl<'w, W: World> Describer<'w, W> {
         group: Option<&[u16]>,
         handles: &mut Handles,
     ) -> Result<Vec<Json>, AllocError>
-        ensures made { IfOk result (λ js. map json_view js.items ≡ (made_all (descriptors.descriptor (sight_of (W.world self.now.names.now self.now.world.now) self.now.scripts.now self.now.session) detail (option_copied group.entry)) (descriptors.elements_from 0 values.now) handles.old).made) }
-        ensures handles { OnOk result (handles.new ≡ (made_all (descriptors.descriptor (sight_of (W.world self.now.names.now self.now.world.now) self.now.scripts.now self.now.session) detail (option_copied group.entry)) (descriptors.elements_from 0 values.now) handles.old).handles) }
+        ensures made { IfOk result (λ js. map json_view js.items ≡ (made_all (descriptors.descriptor (sight_of S.node_text (W.world self.now.names.now self.now.world.now) self.now.scripts.now self.now.session) detail (option_copied group.entry)) (descriptors.elements_from 0 values.now) handles.old).made) }
+        ensures handles { OnOk result (handles.new ≡ (made_all (descriptors.descriptor (sight_of S.node_text (W.world self.now.names.now self.now.world.now) self.now.scripts.now self.now.session) detail (option_copied group.entry)) (descriptors.elements_from 0 values.now) handles.old).handles) }
     {
         let mut listed = Vec::with_capacity(self.alloc, values.len())?;
         for index in 0..values.len() {
@@ -186,8 +187,8 @@ impl<'w, W: World> Describer<'w, W> {
         group: Option<&[u16]>,
         handles: &mut Handles,
     ) -> Result<Vec<Json>, AllocError>
-        ensures made { IfOk result (λ js. map json_view js.items ≡ (made_all (descriptors.descriptor (sight_of (W.world self.now.names.now self.now.world.now) self.now.scripts.now self.now.session) detail (option_copied group.entry)) (descriptors.function_slots function.now.length (name_text self.now.names.now function.now.name)) handles.old).made) }
-        ensures handles { OnOk result (handles.new ≡ (made_all (descriptors.descriptor (sight_of (W.world self.now.names.now self.now.world.now) self.now.scripts.now self.now.session) detail (option_copied group.entry)) (descriptors.function_slots function.now.length (name_text self.now.names.now function.now.name)) handles.old).handles) }
+        ensures made { IfOk result (λ js. map json_view js.items ≡ (made_all (descriptors.descriptor (sight_of S.node_text (W.world self.now.names.now self.now.world.now) self.now.scripts.now self.now.session) detail (option_copied group.entry)) (descriptors.function_slots function.now.length (name_text self.now.names.now function.now.name)) handles.old).made) }
+        ensures handles { OnOk result (handles.new ≡ (made_all (descriptors.descriptor (sight_of S.node_text (W.world self.now.names.now self.now.world.now) self.now.scripts.now self.now.session) detail (option_copied group.entry)) (descriptors.function_slots function.now.length (name_text self.now.names.now function.now.name)) handles.old).handles) }
     {
         let flags = Flags {
             writable: false,
@@ -211,8 +212,8 @@ impl<'w, W: World> Describer<'w, W> {
         group: Option<&[u16]>,
         handles: &mut Handles,
     ) -> Result<(), AllocError>
-        ensures made { OnOk result (map json_view listed.new.items ≡ map json_view listed.old.items ++ (made_all (descriptors.descriptor (sight_of (W.world self.now.names.now self.now.world.now) self.now.scripts.now self.now.session) detail (option_copied group.entry)) (slots_at self.now.names.now slot) handles.old).made) }
-        ensures handles { OnOk result (handles.new ≡ (made_all (descriptors.descriptor (sight_of (W.world self.now.names.now self.now.world.now) self.now.scripts.now self.now.session) detail (option_copied group.entry)) (slots_at self.now.names.now slot) handles.old).handles) }
+        ensures made { OnOk result (map json_view listed.new.items ≡ map json_view listed.old.items ++ (made_all (descriptors.descriptor (sight_of S.node_text (W.world self.now.names.now self.now.world.now) self.now.scripts.now self.now.session) detail (option_copied group.entry)) (slots_at self.now.names.now slot) handles.old).made) }
+        ensures handles { OnOk result (handles.new ≡ (made_all (descriptors.descriptor (sight_of S.node_text (W.world self.now.names.now self.now.world.now) self.now.scripts.now self.now.session) detail (option_copied group.entry)) (slots_at self.now.names.now slot) handles.old).handles) }
     {
         match slot.value {
             None => Ok(()),
@@ -231,8 +232,8 @@ impl<'w, W: World> Describer<'w, W> {
         group: Option<&[u16]>,
         handles: &mut Handles,
     ) -> Result<Vec<Json>, AllocError>
-        ensures made { IfOk result (λ js. map json_view js.items ≡ (made_all (descriptors.descriptor (sight_of (W.world self.now.names.now self.now.world.now) self.now.scripts.now self.now.session) detail (option_copied group.entry)) (descriptors.names_slots (bindings self.now.names.now slots.now)) handles.old).made) }
-        ensures handles { OnOk result (handles.new ≡ (made_all (descriptors.descriptor (sight_of (W.world self.now.names.now self.now.world.now) self.now.scripts.now self.now.session) detail (option_copied group.entry)) (descriptors.names_slots (bindings self.now.names.now slots.now)) handles.old).handles) }
+        ensures made { IfOk result (λ js. map json_view js.items ≡ (made_all (descriptors.descriptor (sight_of S.node_text (W.world self.now.names.now self.now.world.now) self.now.scripts.now self.now.session) detail (option_copied group.entry)) (descriptors.names_slots (bindings self.now.names.now slots.now)) handles.old).made) }
+        ensures handles { OnOk result (handles.new ≡ (made_all (descriptors.descriptor (sight_of S.node_text (W.world self.now.names.now self.now.world.now) self.now.scripts.now self.now.session) detail (option_copied group.entry)) (descriptors.names_slots (bindings self.now.names.now slots.now)) handles.old).handles) }
     {
         let mut listed = Vec::with_capacity(self.alloc, slots.len())?;
         for i in 0..slots.len() {
@@ -251,8 +252,8 @@ impl<'w, W: World> Describer<'w, W> {
         group: Option<&[u16]>,
         handles: &mut Handles,
     ) -> Result<Vec<Json>, AllocError>
-        ensures made { IfOk result (λ js. map json_view js.items ≡ (made_all (descriptors.descriptor (sight_of (W.world self.now.names.now self.now.world.now) self.now.scripts.now self.now.session) detail (option_copied group.entry)) (descriptors.object_slots (cell_at self.now.names.now (option_copied cell.entry))) handles.old).made) }
-        ensures handles { OnOk result (handles.new ≡ (made_all (descriptors.descriptor (sight_of (W.world self.now.names.now self.now.world.now) self.now.scripts.now self.now.session) detail (option_copied group.entry)) (descriptors.object_slots (cell_at self.now.names.now (option_copied cell.entry))) handles.old).handles) }
+        ensures made { IfOk result (λ js. map json_view js.items ≡ (made_all (descriptors.descriptor (sight_of S.node_text (W.world self.now.names.now self.now.world.now) self.now.scripts.now self.now.session) detail (option_copied group.entry)) (descriptors.object_slots (cell_at self.now.names.now (option_copied cell.entry))) handles.old).made) }
+        ensures handles { OnOk result (handles.new ≡ (made_all (descriptors.descriptor (sight_of S.node_text (W.world self.now.names.now self.now.world.now) self.now.scripts.now self.now.session) detail (option_copied group.entry)) (descriptors.object_slots (cell_at self.now.names.now (option_copied cell.entry))) handles.old).handles) }
     {
         match cell {
             Some(Stored::Object { properties }) => self.properties(
@@ -282,8 +283,8 @@ impl<'w, W: World> Describer<'w, W> {
         group: Option<&[u16]>,
         handles: &mut Handles,
     ) -> Result<Vec<Json>, AllocError>
-        ensures made { IfOk result (λ js. map json_view js.items ≡ (made_all (descriptors.descriptor (sight_of (W.world self.now.names.now self.now.world.now) self.now.scripts.now self.now.session) detail (option_copied group.entry)) (descriptors.scope_slots (cell_at self.now.names.now (option_copied cell.entry))) handles.old).made) }
-        ensures handles { OnOk result (handles.new ≡ (made_all (descriptors.descriptor (sight_of (W.world self.now.names.now self.now.world.now) self.now.scripts.now self.now.session) detail (option_copied group.entry)) (descriptors.scope_slots (cell_at self.now.names.now (option_copied cell.entry))) handles.old).handles) }
+        ensures made { IfOk result (λ js. map json_view js.items ≡ (made_all (descriptors.descriptor (sight_of S.node_text (W.world self.now.names.now self.now.world.now) self.now.scripts.now self.now.session) detail (option_copied group.entry)) (descriptors.scope_slots (cell_at self.now.names.now (option_copied cell.entry))) handles.old).made) }
+        ensures handles { OnOk result (handles.new ≡ (made_all (descriptors.descriptor (sight_of S.node_text (W.world self.now.names.now self.now.world.now) self.now.scripts.now self.now.session) detail (option_copied group.entry)) (descriptors.scope_slots (cell_at self.now.names.now (option_copied cell.entry))) handles.old).handles) }
     {
         match cell {
             Some(Stored::Scope { slots, .. }) => self.bindings(
@@ -304,8 +305,8 @@ impl<'w, W: World> Describer<'w, W> {
         group: Option<&[u16]>,
         handles: &mut Handles,
     ) -> Result<Vec<Json>, AllocError>
-        ensures made { IfOk result (λ js. map json_view js.items ≡ (descriptors.descriptors_with (sight_of (W.world self.now.names.now self.now.world.now) self.now.scripts.now self.now.session) detail (option_copied group.entry) target handles.old).made) }
-        ensures handles { OnOk result (handles.new ≡ (descriptors.descriptors_with (sight_of (W.world self.now.names.now self.now.world.now) self.now.scripts.now self.now.session) detail (option_copied group.entry) target handles.old).handles) }
+        ensures made { IfOk result (λ js. map json_view js.items ≡ (descriptors.descriptors_with (sight_of S.node_text (W.world self.now.names.now self.now.world.now) self.now.scripts.now self.now.session) detail (option_copied group.entry) target handles.old).made) }
+        ensures handles { OnOk result (handles.new ≡ (descriptors.descriptors_with (sight_of S.node_text (W.world self.now.names.now self.now.world.now) self.now.scripts.now self.now.session) detail (option_copied group.entry) target handles.old).handles) }
     {
         match target {
             Target::Object(a) => self.object_properties(self.world.find(a), detail, group, handles),
@@ -320,8 +321,8 @@ impl<'w, W: World> Describer<'w, W> {
         group: Option<&[u16]>,
         handles: &mut Handles,
     ) -> Result<Vec<Json>, AllocError>
-        ensures made { IfOk result (λ js. map json_view js.items ≡ (descriptors.descriptors (sight_of (W.world self.now.names.now self.now.world.now) self.now.scripts.now self.now.session) (option_copied group.entry) target handles.old).made) }
-        ensures handles { OnOk result (handles.new ≡ (descriptors.descriptors (sight_of (W.world self.now.names.now self.now.world.now) self.now.scripts.now self.now.session) (option_copied group.entry) target handles.old).handles) }
+        ensures made { IfOk result (λ js. map json_view js.items ≡ (descriptors.descriptors (sight_of S.node_text (W.world self.now.names.now self.now.world.now) self.now.scripts.now self.now.session) (option_copied group.entry) target handles.old).made) }
+        ensures handles { OnOk result (handles.new ≡ (descriptors.descriptors (sight_of S.node_text (W.world self.now.names.now self.now.world.now) self.now.scripts.now self.now.session) (option_copied group.entry) target handles.old).handles) }
     {
         self.descriptors_with(target, Detail::Plain, group, handles)
     }

@@ -8,6 +8,7 @@ ghost use Rattle.remote_objects.specs.CallFrames as listing;
 ghost use Rattle.remote_objects.specs.Views.{sight_of, frame_front, frame_back};
 
 use crate::describer::Describer;
+use crate::function_sources::FunctionSources;
 use crate::functions::numbered;
 use crate::ids::frame_id;
 use crate::members::put;
@@ -136,11 +137,11 @@ fn put_back(
     put(alloc, members, b"url", url)
 }
 
-impl<'w, W: World> Describer<'w, W> {
+impl<'w, W: World, S: FunctionSources> Describer<'w, W, S> {
     /// A scope.
     fn scope(&self, scope: &Scope<'_>, handles: &mut Handles) -> Result<Json, AllocError>
-        ensures made { IfOk result (λ j. json_view j ≡ (listing.scope_made (sight_of (W.world self.now.names.now self.now.world.now) self.now.scripts.now self.now.session) (shown.scope_of scope.now) handles.old).made) }
-        ensures handles { OnOk result (handles.new ≡ (listing.scope_made (sight_of (W.world self.now.names.now self.now.world.now) self.now.scripts.now self.now.session) (shown.scope_of scope.now) handles.old).handles) }
+        ensures made { IfOk result (λ j. json_view j ≡ (listing.scope_made (sight_of S.node_text (W.world self.now.names.now self.now.world.now) self.now.scripts.now self.now.session) (shown.scope_of scope.now) handles.old).made) }
+        ensures handles { OnOk result (handles.new ≡ (listing.scope_made (sight_of S.node_text (W.world self.now.names.now self.now.world.now) self.now.scripts.now self.now.session) (shown.scope_of scope.now) handles.old).handles) }
     {
         let group = Some(backtrace());
         let described = remote_scope(self.alloc, self.session, group, scope.bindings, handles)?;
@@ -149,8 +150,8 @@ impl<'w, W: World> Describer<'w, W> {
 
     /// Scopes, in order.
     fn scopes(&self, scopes: &[Scope<'_>], handles: &mut Handles) -> Result<Vec<Json>, AllocError>
-        ensures made { IfOk result (λ js. map json_view js.items ≡ (listing.scopes_made (sight_of (W.world self.now.names.now self.now.world.now) self.now.scripts.now self.now.session) (map shown.scope_of scopes.now) handles.old).made) }
-        ensures handles { OnOk result (handles.new ≡ (listing.scopes_made (sight_of (W.world self.now.names.now self.now.world.now) self.now.scripts.now self.now.session) (map shown.scope_of scopes.now) handles.old).handles) }
+        ensures made { IfOk result (λ js. map json_view js.items ≡ (listing.scopes_made (sight_of S.node_text (W.world self.now.names.now self.now.world.now) self.now.scripts.now self.now.session) (map shown.scope_of scopes.now) handles.old).made) }
+        ensures handles { OnOk result (handles.new ≡ (listing.scopes_made (sight_of S.node_text (W.world self.now.names.now self.now.world.now) self.now.scripts.now self.now.session) (map shown.scope_of scopes.now) handles.old).handles) }
     {
         let mut listed = Vec::with_capacity(self.alloc, scopes.len())?;
         for i in 0..scopes.len() {
@@ -168,7 +169,7 @@ impl<'w, W: World> Describer<'w, W> {
         scopes: Vec<Json>,
         receiver: Json,
     ) -> Result<Json, AllocError>
-        ensures { IfOk result (λ j. json_view j ≡ listing.frame_object (sight_of (W.world self.now.names.now self.now.world.now) self.now.scripts.now self.now.session) stop depth (shown.frame_of frame.now) (map json_view scopes.items) (json_view receiver)) }
+        ensures { IfOk result (λ j. json_view j ≡ listing.frame_object (sight_of S.node_text (W.world self.now.names.now self.now.world.now) self.now.scripts.now self.now.session) stop depth (shown.frame_of frame.now) (map json_view scopes.items) (json_view receiver)) }
     {
         let mut members = front_members(self.alloc, self.session, stop, depth, frame)?;
         let url = url_of(numbered(self.scripts, frame.place.script));
@@ -184,8 +185,8 @@ impl<'w, W: World> Describer<'w, W> {
         frame: &CallFrame<'_>,
         handles: &mut Handles,
     ) -> Result<Json, AllocError>
-        ensures made { IfOk result (λ j. json_view j ≡ (listing.frame_made (sight_of (W.world self.now.names.now self.now.world.now) self.now.scripts.now self.now.session) stop depth (shown.frame_of frame.now) handles.old).made) }
-        ensures handles { OnOk result (handles.new ≡ (listing.frame_made (sight_of (W.world self.now.names.now self.now.world.now) self.now.scripts.now self.now.session) stop depth (shown.frame_of frame.now) handles.old).handles) }
+        ensures made { IfOk result (λ j. json_view j ≡ (listing.frame_made (sight_of S.node_text (W.world self.now.names.now self.now.world.now) self.now.scripts.now self.now.session) stop depth (shown.frame_of frame.now) handles.old).made) }
+        ensures handles { OnOk result (handles.new ≡ (listing.frame_made (sight_of S.node_text (W.world self.now.names.now self.now.world.now) self.now.scripts.now self.now.session) stop depth (shown.frame_of frame.now) handles.old).handles) }
     {
         let scopes = self.scopes(frame.scopes.as_slice(), handles)?;
         let receiver = self.remote(frame.this, handles, Some(backtrace()))?;
@@ -199,8 +200,8 @@ impl<'w, W: World> Describer<'w, W> {
         frames: &[CallFrame<'_>],
         handles: &mut Handles,
     ) -> Result<Vec<Json>, AllocError>
-        ensures made { IfOk result (λ js. map json_view js.items ≡ (listing.frames_made (sight_of (W.world self.now.names.now self.now.world.now) self.now.scripts.now self.now.session) stop (map shown.frame_of frames.now) handles.old).made) }
-        ensures handles { OnOk result (handles.new ≡ (listing.frames_made (sight_of (W.world self.now.names.now self.now.world.now) self.now.scripts.now self.now.session) stop (map shown.frame_of frames.now) handles.old).handles) }
+        ensures made { IfOk result (λ js. map json_view js.items ≡ (listing.frames_made (sight_of S.node_text (W.world self.now.names.now self.now.world.now) self.now.scripts.now self.now.session) stop (map shown.frame_of frames.now) handles.old).made) }
+        ensures handles { OnOk result (handles.new ≡ (listing.frames_made (sight_of S.node_text (W.world self.now.names.now self.now.world.now) self.now.scripts.now self.now.session) stop (map shown.frame_of frames.now) handles.old).handles) }
     {
         let mut listed = Vec::with_capacity(self.alloc, frames.len())?;
         for depth in 0..frames.len() {

@@ -2,12 +2,17 @@
 
 ghost use Rattle.std.specs.Prelude.{◌≡◌, IfOk, option_copied};
 ghost use Rattle.remote_objects.specs.Values as values;
+ghost use Rattle.remote_objects.specs.Views.{sight_of};
 
+use crate::describer::Describer;
+use crate::function_sources::FunctionSources;
 use cdp_text::units::Units;
 use js_heap::built_in::Code;
+use js_operations::seen::units_at;
 use js_tree::node::{NodeId, Span};
 use js_tree::script::Script;
 use js_values::text::quoted;
+use js_world::world::World;
 use std::alloc::{AllocError, Global};
 
 /// The units of a span.
@@ -49,20 +54,21 @@ fn native_text(alloc: Global, name: &[u16]) -> Result<Units, AllocError>
     quoted(alloc, b"function ", name, b"() { [native code] }")
 }
 
-/// The source of a function: that of its node. An evaluation's functions are of no script.
-pub(crate) fn function_text(
-    alloc: Global,
-    scripts: &[Script],
-    code: Code,
-    name: &[u16],
-) -> Result<Units, AllocError>
-    ensures { IfOk result (λ shown. shown ≡ values.function_text scripts.now code name.now) }
-{
-    match code {
-        Code::Script { number, node } => {
-            Units::from_slice(alloc, node_source(numbered(scripts, number), node))
+impl<'w, W: World, S: FunctionSources> Describer<'w, W, S> {
+    /// The source of a function: that of its node, in its script or in the text of the evaluation that made it.
+    pub(crate) fn function_text(&self, code: Code, name: &[u16]) -> Result<Units, AllocError>
+        ensures { IfOk result (λ shown. shown ≡ values.function_text (sight_of S.node_text (W.world self.now.names.now self.now.world.now) self.now.scripts.now self.now.session) code name.now) }
+    {
+        match code {
+            Code::Script { number, node } => {
+                let source = node_source(numbered(self.scripts, number), node);
+                Units::from_slice(self.alloc, source)
+            }
+            Code::Kept { at, node } => {
+                let text = units_at(self.world, self.names, at);
+                self.sources.node_text(self.alloc, text, node)
+            }
+            Code::BuiltIn(_) => native_text(self.alloc, name),
         }
-        Code::Kept { .. } => Units::from_slice(alloc, &[]),
-        Code::BuiltIn(_) => native_text(alloc, name),
     }
 }

@@ -9,6 +9,7 @@ ghost use Rattle.remote_objects.specs.Previews as previews;
 ghost use Rattle.remote_objects.specs.Views.{listed_view};
 
 use crate::describer::Describer;
+use crate::function_sources::FunctionSources;
 use crate::members::{array_text, ascii_member, put, truth_member};
 use crate::slots::index_name;
 use cdp_json::parts::{ascii_text, member};
@@ -143,7 +144,7 @@ fn preview_of(
     Ok(object(members))
 }
 
-impl<'w, W: World> Describer<'w, W> {
+impl<'w, W: World, S: FunctionSources> Describer<'w, W, S> {
     // ---- values
 
     /// What is shown of the cell at an address; of a function nothing.

@@ -8,6 +8,7 @@ ghost use Rattle.remote_objects.specs.Views.{sight_of};
 
 use crate::describer::Describer;
 use crate::detail::Detail;
+use crate::function_sources::FunctionSources;
 use crate::ids::object_id;
 use crate::members::{plain_members, put};
 use cdp_json::value::{Json, Member, object, text};
@@ -82,7 +83,7 @@ pub(crate) fn remote_scope(
     with_handle_on(alloc, session, group, Target::Scope(a), members, handles)
 }
 
-impl<'w, W: World> Describer<'w, W> {
+impl<'w, W: World, S: FunctionSources> Describer<'w, W, S> {
     /// A value as a remote object; its handle, if it is an object, is in this group or in none.
     pub fn remote(
         &self,
@@ -90,8 +91,8 @@ impl<'w, W: World> Describer<'w, W> {
         handles: &mut Handles,
         group: Option<&[u16]>,
     ) -> Result<Json, AllocError>
-        ensures made { IfOk result (λ j. json_view j ≡ (remotes.remote (sight_of (W.world self.now.names.now self.now.world.now) self.now.scripts.now self.now.session) (option_copied group.entry) value handles.old).made) }
-        ensures handles { OnOk result (handles.new ≡ (remotes.remote (sight_of (W.world self.now.names.now self.now.world.now) self.now.scripts.now self.now.session) (option_copied group.entry) value handles.old).handles) }
+        ensures made { IfOk result (λ j. json_view j ≡ (remotes.remote (sight_of S.node_text (W.world self.now.names.now self.now.world.now) self.now.scripts.now self.now.session) (option_copied group.entry) value handles.old).made) }
+        ensures handles { OnOk result (handles.new ≡ (remotes.remote (sight_of S.node_text (W.world self.now.names.now self.now.world.now) self.now.scripts.now self.now.session) (option_copied group.entry) value handles.old).handles) }
     {
         let members = self.value_members(value)?;
         match value {
@@ -110,8 +111,8 @@ impl<'w, W: World> Describer<'w, W> {
         handles: &mut Handles,
         group: Option<&[u16]>,
     ) -> Result<Json, AllocError>
-        ensures made { IfOk result (λ j. json_view j ≡ (remotes.previewed_object (sight_of (W.world self.now.names.now self.now.world.now) self.now.scripts.now self.now.session) (option_copied group.entry) a handles.old).made) }
-        ensures handles { OnOk result (handles.new ≡ (remotes.previewed_object (sight_of (W.world self.now.names.now self.now.world.now) self.now.scripts.now self.now.session) (option_copied group.entry) a handles.old).handles) }
+        ensures made { IfOk result (λ j. json_view j ≡ (remotes.previewed_object (sight_of S.node_text (W.world self.now.names.now self.now.world.now) self.now.scripts.now self.now.session) (option_copied group.entry) a handles.old).made) }
+        ensures handles { OnOk result (handles.new ≡ (remotes.previewed_object (sight_of S.node_text (W.world self.now.names.now self.now.world.now) self.now.scripts.now self.now.session) (option_copied group.entry) a handles.old).handles) }
     {
         let mut members = self.cell_members(a)?;
         let number = handle_on(Target::Object(a), group, handles)?;
@@ -127,8 +128,8 @@ impl<'w, W: World> Describer<'w, W> {
         handles: &mut Handles,
         group: Option<&[u16]>,
     ) -> Result<Json, AllocError>
-        ensures made { IfOk result (λ j. json_view j ≡ (remotes.previewed (sight_of (W.world self.now.names.now self.now.world.now) self.now.scripts.now self.now.session) (option_copied group.entry) value handles.old).made) }
-        ensures handles { OnOk result (handles.new ≡ (remotes.previewed (sight_of (W.world self.now.names.now self.now.world.now) self.now.scripts.now self.now.session) (option_copied group.entry) value handles.old).handles) }
+        ensures made { IfOk result (λ j. json_view j ≡ (remotes.previewed (sight_of S.node_text (W.world self.now.names.now self.now.world.now) self.now.scripts.now self.now.session) (option_copied group.entry) value handles.old).made) }
+        ensures handles { OnOk result (handles.new ≡ (remotes.previewed (sight_of S.node_text (W.world self.now.names.now self.now.world.now) self.now.scripts.now self.now.session) (option_copied group.entry) value handles.old).handles) }
     {
         match value {
             Value::Object(a) => self.previewed_object(a, handles, group),
@@ -144,8 +145,8 @@ impl<'w, W: World> Describer<'w, W> {
         handles: &mut Handles,
         group: Option<&[u16]>,
     ) -> Result<Json, AllocError>
-        ensures made { IfOk result (λ j. json_view j ≡ (remotes.remote_with (sight_of (W.world self.now.names.now self.now.world.now) self.now.scripts.now self.now.session) detail (option_copied group.entry) value handles.old).made) }
-        ensures handles { OnOk result (handles.new ≡ (remotes.remote_with (sight_of (W.world self.now.names.now self.now.world.now) self.now.scripts.now self.now.session) detail (option_copied group.entry) value handles.old).handles) }
+        ensures made { IfOk result (λ j. json_view j ≡ (remotes.remote_with (sight_of S.node_text (W.world self.now.names.now self.now.world.now) self.now.scripts.now self.now.session) detail (option_copied group.entry) value handles.old).made) }
+        ensures handles { OnOk result (handles.new ≡ (remotes.remote_with (sight_of S.node_text (W.world self.now.names.now self.now.world.now) self.now.scripts.now self.now.session) detail (option_copied group.entry) value handles.old).handles) }
     {
         match detail {
             Detail::Plain => self.remote(value, handles, group),

@@ -6,9 +6,10 @@ ghost use Rattle.js_heap.specs.World.{read_cell};
 ghost use Rattle.js_world.specs.Cells.{name_text};
 ghost use Rattle.cdp_json.specs.Views.{member_view};
 ghost use Rattle.remote_objects.specs.Values as values;
+ghost use Rattle.remote_objects.specs.Views.{sight_of};
 
 use crate::describer::Describer;
-use crate::functions::function_text;
+use crate::function_sources::FunctionSources;
 use crate::members::{
     array_members, null_members, number_members, plain_members, subtyped_members, text_members,
     truth_members, undefined_members, untyped_members,
@@ -23,7 +24,7 @@ use js_world::stored::{FunctionCell, Stored};
 use js_world::world::World;
 use std::alloc::AllocError;
 
-impl<'w, W: World> Describer<'w, W> {
+impl<'w, W: World, S: FunctionSources> Describer<'w, W, S> {
     /// The members of an error at an address.
     fn error_members(&self, class: ErrorClass, a: Addr) -> Result<Vec<Member>, AllocError>
         ensures { IfOk result (λ ms. map member_view ms.items ≡ values.object_pairs (class_text class) (shown (W.world self.now.names.now self.now.world.now) (Value.Object a)) (values.subtyped (codes "error")) (codes "object")) }
@@ -34,16 +35,16 @@ impl<'w, W: World> Describer<'w, W> {
 
     /// The members of a function.
     fn function_members(&self, function: &FunctionCell) -> Result<Vec<Member>, AllocError>
-        ensures { IfOk result (λ ms. map member_view ms.items ≡ values.object_pairs (codes "Function") (values.function_text self.now.scripts.now function.now.code (name_text self.now.names.now function.now.name)) [] (codes "function")) }
+        ensures { IfOk result (λ ms. map member_view ms.items ≡ values.object_pairs (codes "Function") (values.function_text (sight_of S.node_text (W.world self.now.names.now self.now.world.now) self.now.scripts.now self.now.session) function.now.code (name_text self.now.names.now function.now.name)) [] (codes "function")) }
     {
         let name = name_text(self.names, &function.name)?;
-        let source = function_text(self.alloc, self.scripts, function.code, name)?;
+        let source = self.function_text(function.code, name)?;
         untyped_members(self.alloc, b"Function", source, b"function")
     }
 
     /// The members of the cell at an address as an object.
     pub(crate) fn cell_members(&self, a: Addr) -> Result<Vec<Member>, AllocError>
-        ensures { IfOk result (λ ms. map member_view ms.items ≡ values.cell_pairs (W.world self.now.names.now self.now.world.now) self.now.scripts.now (read_cell (W.world self.now.names.now self.now.world.now) a)) }
+        ensures { IfOk result (λ ms. map member_view ms.items ≡ values.cell_pairs (sight_of S.node_text (W.world self.now.names.now self.now.world.now) self.now.scripts.now self.now.session) (read_cell (W.world self.now.names.now self.now.world.now) a)) }
     {
         match self.world.find(a) {
             Some(Stored::Error { class, .. }) => self.error_members(*class, a),
@@ -55,7 +56,7 @@ impl<'w, W: World> Describer<'w, W> {
 
     /// The members of a value, but for the id of an object's handle.
     pub(crate) fn value_members(&self, value: Value) -> Result<Vec<Member>, AllocError>
-        ensures { IfOk result (λ ms. map member_view ms.items ≡ values.value_pairs (W.world self.now.names.now self.now.world.now) self.now.scripts.now value) }
+        ensures { IfOk result (λ ms. map member_view ms.items ≡ values.value_pairs (sight_of S.node_text (W.world self.now.names.now self.now.world.now) self.now.scripts.now self.now.session) value) }
     {
         match value {
             Value::Undefined => undefined_members(self.alloc),

@@ -8,7 +8,7 @@ use Rattle.remote_objects.proofs.describer.Describer.properties.Goals as goal
 
 pub loop-place-preserved : goal.loop-place-preserved
 loop-place-preserved g c =
-    let sight = sight_of (g.W.World.world c.args.self.now.names.now c.args.self.now.world.now) c.args.self.now.scripts.now c.args.self.now.session in
+    let sight = sight_of g.S.FunctionSources.node_text (g.W.World.world c.args.self.now.names.now c.args.self.now.world.now) c.args.self.now.scripts.now c.args.self.now.session in
     let each = descriptor sight c.args.detail (option_copied c.args.group) in
     let ps = c.args.properties.now in
     goes-on each (map property_slot (drop c.loop-place.place ps)) (property_slot c.in-Some.property.now) (map property_slot (drop (c.loop-place.place + 1) ps))
