@@ -47,11 +47,11 @@ then_left j k m p a r s h e f =
 
 -- ---- ends
 
-answer_over : (f : Finish) (s : State) → Answers (answer_of (over (finish_of f) s)) (finished f) s.world
+pub answer_over : (f : Finish) (s : State) → Answers (answer_of (over (finish_of f) s)) (finished f) s.world
 answer_over (finishes.Ended v) s = refl
 answer_over (finishes.Threw v place) s = refl
 
-over_answers : (j k : ℕ) (p : Program) (a : Addr) (r : Run) (f : AnyFinish) (s : State) (e : Evaluated) → j ≤ k → steps_in j p a r ≡ over f s → Answers (answer_of (over f s)) e s.world → Answers (answer_of (steps_in k p a r)) e s.world
+pub over_answers : (j k : ℕ) (p : Program) (a : Addr) (r : Run) (f : AnyFinish) (s : State) (e : Evaluated) → j ≤ k → steps_in j p a r ≡ over f s → Answers (answer_of (over f s)) e s.world → Answers (answer_of (steps_in k p a r)) e s.world
 over_answers j k p a r f s e h g i =
     let P : Run → Type 0 = λ x. Answers (answer_of x) e s.world in
     subst P (sym (then_left j k (k - j) p a r (over f s) h refl g ∙ over_stays (k - j) p a f s)) i
@@ -86,12 +86,12 @@ end-answers j left most p a r first why t s e inv h g i =
 
 -- ---- the world behind it
 
-over_ends : (j k : ℕ) (p : Program) (a : Addr) (r : Run) (f : AnyFinish) (s : State) (e : Evaluated) → j ≤ k → steps_in j p a r ≡ over f s → EndsIn (over f s) e s.world → EndsIn (steps_in k p a r) e s.world
+pub over_ends : (j k : ℕ) (p : Program) (a : Addr) (r : Run) (f : AnyFinish) (s : State) (e : Evaluated) → j ≤ k → steps_in j p a r ≡ over f s → EndsIn (over f s) e s.world → EndsIn (steps_in k p a r) e s.world
 over_ends j k p a r f s e h g i =
     let P : Run → Type 0 = λ x. EndsIn x e s.world in
     subst P (sym (then_left j k (k - j) p a r (over f s) h refl g ∙ over_stays (k - j) p a f s)) i
 
-finished_ends : (f : Finish) (s : State) → EndsIn (over (finish_of f) s) (finished f) s.world
+pub finished_ends : (f : Finish) (s : State) → EndsIn (over (finish_of f) s) (finished f) s.world
 finished_ends (finishes.Ended v) s = refl
 finished_ends (finishes.Threw v place) s = refl
 
@@ -165,7 +165,7 @@ open_spent (done v) s w h = absurd cc
 open_spent (standing v place) s w h = refl
 open_spent (part f now later) s w h = refl
 
-done_at : (ts : List (List ℕ)) (table : NodeTable) (v : Value) → term_at ts table [] (points.Done v) ≡ done v
+pub done_at : (ts : List (List ℕ)) (table : NodeTable) (v : Value) → term_at ts table [] (points.Done v) ≡ done v
 unfolding term_at
 done_at ts table v = refl
 

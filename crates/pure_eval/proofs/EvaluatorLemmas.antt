@@ -4,6 +4,8 @@ use Rattle.std.specs.Prelude.{nat_eq, nat_le}
 use Rattle.js_heap.specs.declared.value.Addr.{Addr}
 use Rattle.js_heap.specs.declared.value.Addr.TheVariants.{Base, Scratch}
 use Rattle.js_heap.specs.declared.value.Value.{Value}
+use Rattle.js_heap.specs.declared.value.Value.TheVariants as values
+use Rattle.js_heap.specs.BuiltIns.{script_scope}
 use Rattle.js_heap.specs.declared.cell.Cell.TheVariants as cells
 use Rattle.js_heap.specs.declared.change.Counted.{Counted}
 use Rattle.js_heap.specs.declared.change.Counted.TheVariants as counted
@@ -14,14 +16,16 @@ use Rattle.js_semantics.specs.declared.form.Source.TheVariants.{Script as script
 use Rattle.js_semantics.specs.Terms as semantics
 use Rattle.js_semantics.specs.Terms.{Term, Terms, settle}
 use Rattle.js_semantics.specs.Functions.{Program, SourceTree, same_source}
-use Rattle.js_tree.specs.declared.script.Expression.{Expression}
+use Rattle.js_tree.specs.declared.script.FunctionCode.{FunctionCode}
 use Rattle.js_tree.specs.declared.tree.Expr.{Expr}
 use Rattle.js_semantics.specs.Makers.{Made}
 use Rattle.js_semantics.specs.Sources.{expression_source}
 use Rattle.js_semantics.specs.Literals.{source_literals}
+use Rattle.js_semantics.specs.Laws.{AnswerKeeps}
+use Rattle.js_semantics.proofs.EvaluationLemmas.{evaluate-keeps, call-keeps}
 use Rattle.js_semantics.proofs.LiteralLaws.{literals-agree}
 use Rattle.js_semantics.specs.Run.{literals, program_from, run_of, steps_in}
-use Rattle.js_semantics.specs.Evaluation.{Answer, answer_of, budget, evaluation_state, evaluated, answered, after_try, place_literals, next_kept, kept_term, kept_tree, with_source, prepared, evaluate, evaluate_expression}
+use Rattle.js_semantics.specs.Evaluation.{Answer, answer_of, budget, evaluation_state, evaluated, answered, after_try, place_literals, next_kept, kept_term, kept_tree, with_source, prepared, Argument, with_arguments, evaluate_function}
 use Rattle.js_terms.specs.Views.{term_view}
 use Rattle.js_world.specs.Names.{GoesOn}
 use Rattle.js_world.specs.Heaps.{Heap, heap_world}
@@ -40,10 +44,14 @@ use Rattle.pure_eval.specs.declared.evaluated.Evaluated.{Evaluated}
 use Rattle.pure_eval.specs.declared.evaluated.Evaluated.TheVariants as ends
 use Rattle.pure_eval.specs.declared.evaluator.Evaluator.{Evaluator}
 use Rattle.pure_eval.specs.declared.prepared.Prepared.{Prepared}
+use Rattle.pure_eval.specs.declared.work.Work.{Work}
+use Rattle.pure_eval.specs.declared.work.Work.TheVariants as works
+use Rattle.pure_eval.specs.Arguments.{arguments_of}
+use Rattle.pure_eval.specs.Calling.{called, worked, work_of}
 use Rattle.pure_eval.specs.Evaluators.{IsBelow, AreBelow, Stands, Runs, IsMadeOf, IsBehind, is_kept, RunsAfter}
 use Rattle.pure_eval.specs.Leaving.{Leaves}
 use Rattle.pure_eval.specs.Orders.{AreSameLiterals, ready_in_order}
-use Rattle.pure_eval.specs.Preparing.{IsPrepared}
+use Rattle.pure_eval.specs.Preparing.{IsReady}
 use Rattle.pure_eval.specs.Programs.{HasSameFunctions, IsNewSource}
 use Rattle.pure_eval.proofs.SettledTerms.{kept-settled}
 use Rattle.pure_eval.proofs.ProgramLemmas.{same-steps, behind-others, in-front}
@@ -175,16 +183,24 @@ stands-with ts us t u n next root x p h at e order ls s i l a m =
     let o : Stands us u (length h.cells + 1) (with_source p (space_of ts h) e) = subst Q (source_same (Scratch (length h.cells)) (next_kept (space_of ts h)) x (kept_tree (next_kept (space_of ts h)) e) (sym (next-same ts h)) m.term_is) k in
     subst R (sym b.1) o
 
-evaluator_answers : (ts us : List (List ℕ)) (t u : NodeTable) (n root : ℕ) (x : Term) (p : Program) (w : World) (y z : ScratchSpace) (at : Addr) (scope : Addr) (receiver : Value) (e : Made) (source : List ℕ) (order ls : List (List ℕ)) (r : Evaluated) → IsAdded ts t at x us u root → Stands us u n (with_source p y e) → IsMadeOf (next_kept y) e order ls x → (AreSameLiterals order ls → Leaves (answered (ready_in_order w y source order ls (settle (tree us u root))) (evaluated (program_of us u) scope receiver)) r y z) → Leaves (evaluate p w y scope receiver source order e) r y z
-evaluator_answers ts us t u n root x p w y z at scope receiver e source order ls r a s m h =
-    let f : settle (tree us u root) ≡ kept_tree (next_kept y) e = ap settle (a.tree us (same-names us)) ∙ m.stays ∙ m.term_is in
-    evaluate_by w y z source order ls (settle (tree us u root)) e r (evaluated (program_of us u) scope receiver) (evaluated (with_source p y e) scope receiver)
-    (λ v o. evaluated_same (program_of us u) (with_source p y e) scope receiver v o (s.same us (same-names us))) f m.literals_are (h m.outcome)
+called_same : (p q : Program) (receiver : Value) (as_given : List Argument) (w : World) (t : Term) → HasSameFunctions p q → called p receiver as_given w t ≡ called q receiver as_given w t
+called_same p q receiver as_given w t h =
+    answered_same (with_arguments receiver as_given (fine t w)) (evaluated p script_scope values.Undefined) (evaluated q script_scope values.Undefined) (λ v u. evaluated_same p q script_scope values.Undefined v u h)
 
-pub evaluator-leaves : (ts us ns : List (List ℕ)) (t u : NodeTable) (n next root : ℕ) (x : Term) (p : Program) (w : World) (h k : Heap) (at : Addr) (scope : Addr) (receiver : Value) (e : Made) (source : List ℕ) (order ls : List (List ℕ)) (r : Evaluated) → Stands ts t n p → at ≡ next_of h → IsBehind at n next → IsAdded ts t at x us u root → IsMadeOf (next_kept (space_of ts h)) e order ls x → (AreSameLiterals order ls → Leaves (answered (ready_in_order w (space_of ts h) source order ls (settle (tree us u root))) (evaluated (program_of us u) scope receiver)) r (space_of ts h) (space_of us k)) → ns ≡ us → Leaves (evaluate p w (space_of ts h) scope receiver source order e) r (space_of ts h) (space_of ns k)
-evaluator-leaves ts us ns t u n next root x p w h k at scope receiver e source order ls r s i l a m f g =
-    let P : List (List ℕ) → Type 0 = λ vs. Leaves (evaluate p w (space_of ts h) scope receiver source order e) r (space_of ts h) (space_of vs k) in
-    subst P (sym g) (evaluator_answers ts us t u next root x p w (space_of ts h) (space_of us k) at scope receiver e source order ls r a (stands-with ts us t u n next root x p h at e order ls s i l a m) m f)
+worked_same : (p q : Program) (work : Work) (w : World) (t : Term) → HasSameFunctions p q → worked p work w t ≡ worked q work w t
+worked_same p q (works.Expression scope receiver) w t h = evaluated_same p q scope receiver w t h
+worked_same p q (works.Call receiver arguments) w t h = called_same p q receiver (arguments_of arguments.now) w t h
+
+evaluator_answers : (ts us : List (List ℕ)) (t u : NodeTable) (n root : ℕ) (x : Term) (p : Program) (w : World) (y z : ScratchSpace) (at : Addr) (work : Work) (e : Made) (source : List ℕ) (order ls : List (List ℕ)) (r : Evaluated) → IsAdded ts t at x us u root → Stands us u n (with_source p y e) → IsMadeOf (next_kept y) e order ls x → (AreSameLiterals order ls → Leaves (answered (ready_in_order w y source order ls (settle (tree us u root))) (worked (program_of us u) work)) r y z) → Leaves (work_of p w y source order e work) r y z
+evaluator_answers ts us t u n root x p w y z at work e source order ls r a s m h =
+    let f : settle (tree us u root) ≡ kept_tree (next_kept y) e = ap settle (a.tree us (same-names us)) ∙ m.stays ∙ m.term_is in
+    evaluate_by w y z source order ls (settle (tree us u root)) e r (worked (program_of us u) work) (worked (with_source p y e) work)
+    (λ v o. worked_same (program_of us u) (with_source p y e) work v o (s.same us (same-names us))) f m.literals_are (h m.outcome)
+
+pub evaluator-leaves : (ts us ns : List (List ℕ)) (t u : NodeTable) (n next root : ℕ) (x : Term) (p : Program) (w : World) (h k : Heap) (at : Addr) (work : Work) (e : Made) (source : List ℕ) (order ls : List (List ℕ)) (r : Evaluated) → Stands ts t n p → at ≡ next_of h → IsBehind at n next → IsAdded ts t at x us u root → IsMadeOf (next_kept (space_of ts h)) e order ls x → (AreSameLiterals order ls → Leaves (answered (ready_in_order w (space_of ts h) source order ls (settle (tree us u root))) (worked (program_of us u) work)) r (space_of ts h) (space_of us k)) → ns ≡ us → Leaves (work_of p w (space_of ts h) source order e work) r (space_of ts h) (space_of ns k)
+evaluator-leaves ts us ns t u n next root x p w h k at work e source order ls r s i l a m f g =
+    let P : List (List ℕ) → Type 0 = λ vs. Leaves (work_of p w (space_of ts h) source order e work) r (space_of ts h) (space_of vs k) in
+    subst P (sym g) (evaluator_answers ts us t u next root x p w (space_of ts h) (space_of us k) at work e source order ls r a (stands-with ts us t u n next root x p h at e order ls s i l a m) m f)
 
 -- ---- names that are known
 
@@ -232,23 +248,36 @@ compiled ts xs o c h e = let P : Option ScriptCode → Type 0 = λ q. AreCompile
 pub made-of : (at : Addr) (e : Expr) → IsMadeOf at (expression_source e) (source_literals e) (literals (kept_term at (expression_source e))) (kept_tree at (expression_source e))
 made-of at e = record { term_is = refl; literals_are = refl; stays = kept-settled at e; outcome = λ w. literals-agree w at e }
 
-pub prepared-made : (at : Addr) (e : Expression) (p : Prepared) (order ls : List (List ℕ)) → order ≡ p.order.items → ls ≡ p.literals.items → IsPrepared at e p → IsMadeOf at (expression_source e.tree) order ls (term_view p.term)
-prepared-made at e p order ls f g i =
+pub ready-made : (at : Addr) (units : List ℕ) (e : Expr) (p : Prepared) (order ls : List (List ℕ)) → order ≡ p.order.items → ls ≡ p.literals.items → IsReady at units e p → IsMadeOf at (expression_source e) order ls (term_view p.term)
+ready-made at units e p order ls f g i =
     let P : List (List ℕ) → Type 0 = λ o. AreSameLiterals o ls in
-    let Q : List (List ℕ) → Type 0 = λ l. AreSameLiterals (source_literals e.tree) l in
+    let Q : List (List ℕ) → Type 0 = λ l. AreSameLiterals (source_literals e) l in
     record {
       term_is = i.term;
       literals_are = g ∙ i.literals;
-      stays = ap settle i.term ∙ kept-settled at e.tree ∙ sym i.term;
-      outcome = subst P (sym (f ∙ i.order)) (subst Q (sym (g ∙ i.literals)) (λ w. literals-agree w at e.tree));
+      stays = ap settle i.term ∙ kept-settled at e ∙ sym i.term;
+      outcome = subst P (sym (f ∙ i.order)) (subst Q (sym (g ∙ i.literals)) (λ w. literals-agree w at e));
     }
 
-pub prepared-leaves : (q : Program) (w : World) (x y : ScratchSpace) (scope : Addr) (receiver : Value) (at : Addr) (e : Expression) (p : Prepared) (order : List (List ℕ)) (r : Evaluated) → order ≡ p.order.items → IsPrepared at e p → Leaves (evaluate q w x scope receiver p.source order (expression_source e.tree)) r x y → Leaves (evaluate_expression q w x scope receiver e) r x y
-prepared-leaves q w x y scope receiver at e p order r f i h =
-    let P : List ℕ → Type 0 = λ us. Leaves (evaluate q w x scope receiver us order (expression_source e.tree)) r x y in
-    let Q : List (List ℕ) → Type 0 = λ o. Leaves (evaluate q w x scope receiver e.source o (expression_source e.tree)) r x y in
+pub ready-leaves : (q : Program) (w : World) (x y : ScratchSpace) (work : Work) (at : Addr) (units : List ℕ) (e : Expr) (p : Prepared) (order : List (List ℕ)) (r : Evaluated) → order ≡ p.order.items → IsReady at units e p → Leaves (work_of q w x p.source order (expression_source e) work) r x y → Leaves (work_of q w x units (source_literals e) (expression_source e) work) r x y
+ready-leaves q w x y work at units e p order r f i h =
+    let P : List ℕ → Type 0 = λ us. Leaves (work_of q w x us order (expression_source e) work) r x y in
+    let Q : List (List ℕ) → Type 0 = λ o. Leaves (work_of q w x units o (expression_source e) work) r x y in
     subst Q (f ∙ i.order) (subst P i.source h)
 
--- what was prepared for the next address of a session's cells
-pub prepared-there : (ts : List (List ℕ)) (h : Heap) (at : Addr) (e : Expression) (p : Prepared) → at ≡ next_of h → IsPrepared at e p → IsPrepared (next_kept (space_of ts h)) e p
-prepared-there ts h at e p f i = let P : Addr → Type 0 = λ a. IsPrepared a e p in subst P (f ∙ sym (next-same ts h)) i
+-- ---- the definition's calls
+
+calls : (t : Tried Term) (p : Program) (receiver : Value) (as_given : List Argument) → answered (with_arguments receiver as_given t) (evaluated p script_scope values.Undefined) ≡ answered t (called p receiver as_given)
+calls (fine t w) p receiver as_given = refl
+calls effect p receiver as_given = refl
+calls (full what) p receiver as_given = refl
+
+pub call-is : (p : Program) (w : World) (x : ScratchSpace) (f : FunctionCode) (receiver : Value) (as_given : List Argument) → evaluate_function p w x f receiver as_given ≡ answered (prepared w x f.source (source_literals f.tree) (expression_source f.tree)) (called (with_source p x (expression_source f.tree)) receiver as_given)
+call-is p w x f receiver as_given = calls (prepared w x f.source (source_literals f.tree) (expression_source f.tree)) (with_source p x (expression_source f.tree)) receiver as_given
+
+pub work-keeps : (p : Program) (w : World) (x : ScratchSpace) (source : List ℕ) (order : List (List ℕ)) (e : Made) (work : Work) → AnswerKeeps w x (work_of p w x source order e work)
+work-keeps p w x source order e (works.Expression scope receiver) = evaluate-keeps p w x scope receiver source order e
+work-keeps p w x source order e (works.Call receiver arguments) =
+    let as_given : List Argument = arguments_of arguments.now in
+    let P : Answer → Type 0 = λ a. AnswerKeeps w x a in
+    subst P (calls (prepared w x source order e) (with_source p x e) receiver as_given) (call-keeps p w x source order e receiver as_given)

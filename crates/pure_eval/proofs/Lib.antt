@@ -6,6 +6,8 @@ pub mod EvaluatedLemmas
 pub mod LeavingLemmas
 pub mod PlacedLemmas
 pub mod LiteralLemmas
+pub mod ArgumentLemmas
+pub mod CallLemmas
 pub mod ProgramLemmas
 pub mod SettledTerms
 pub mod OrderLemmas

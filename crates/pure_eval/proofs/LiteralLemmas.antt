@@ -56,7 +56,7 @@ pub record MakesOn (w : World) (xs : List (List ℕ)) (i : ℕ) (v : World) : Ty
 pub makes-first : (w : World) (xs : List (List ℕ)) → MakesOn w xs 0 w
 makes-first w xs = record { rest = refl; keeps = keeps-same w }
 
-made_keeps : (v u : World) (c : _) (a : Addr) → make_cell v c ≡ fine a u → Keeps v u
+pub made_keeps : (v u : World) (c : _) (a : Addr) → make_cell v c ≡ fine a u → Keeps v u
 made_keeps v u c a e =
     let P : Tried Addr → Type 0 = λ t. AfterFine t (λ b z. Keeps v z) in
     let k : P (fine a u) = subst P e (making-keeps v c) in

@@ -4,7 +4,6 @@ use Rattle.std.proofs.Math.Seq.{take-length}
 use Rattle.std.specs.Prelude.{slice_get}
 use Rattle.js_heap.specs.declared.value.Addr.{Addr}
 use Rattle.js_heap.specs.declared.value.Addr.TheVariants.{Scratch}
-use Rattle.js_heap.specs.declared.value.Value.{Value}
 use Rattle.js_heap.specs.declared.cell.Cell.{Cell}
 use Rattle.js_heap.specs.World.{World}
 use Rattle.js_heap.specs.ScratchSpaces.{ScratchSpace, copied_world}
@@ -12,12 +11,11 @@ use Rattle.js_semantics.specs.Functions.{Program, SourceTree}
 use Rattle.js_semantics.specs.Makers.{Made}
 use Rattle.js_semantics.specs.Terms.{Term}
 use Rattle.js_semantics.specs.Laws.{AnswerKeeps}
-use Rattle.js_semantics.specs.Evaluation.{Answer, evaluate_expression, kept_tree, next_kept}
+use Rattle.js_semantics.specs.Evaluation.{Answer, kept_tree, next_kept}
 use Rattle.js_semantics.specs.Literals.{source_literals}
 use Rattle.js_semantics.specs.Sources.{expression_source}
-use Rattle.js_semantics.proofs.EvaluationLemmas.{evaluate-keeps}
 use Rattle.js_terms.specs.Views.{term_view}
-use Rattle.js_tree.specs.declared.script.Expression.{Expression}
+use Rattle.js_tree.specs.declared.tree.Expr.{Expr}
 use Rattle.js_world.specs.Heaps.{Heap, heap_world}
 use Rattle.js_world.specs.Overlays.{Marked, Over, over_world, space_of, space_after, space_at, next_of}
 use Rattle.js_code.specs.declared.node.Node.{Node}
@@ -29,15 +27,17 @@ use Rattle.pure_eval.specs.declared.evaluated.Evaluated.TheVariants as ends
 use Rattle.pure_eval.specs.declared.evaluator.Evaluator.{Evaluator}
 use Rattle.pure_eval.specs.declared.evaluator.EvaluatorMark.{EvaluatorMark}
 use Rattle.pure_eval.specs.declared.prepared.Prepared.{Prepared}
+use Rattle.pure_eval.specs.declared.work.Work.{Work}
 use Rattle.pure_eval.specs.Adding.{kept_tree_at}
+use Rattle.pure_eval.specs.Calling.{work_of}
 use Rattle.pure_eval.specs.Evaluators.{AreBelow, Runs}
 use Rattle.pure_eval.specs.Leaving.{Leaves}
-use Rattle.pure_eval.specs.Preparing.{IsPrepared}
+use Rattle.pure_eval.specs.Preparing.{IsReady}
 use Rattle.pure_eval.specs.Returning.{WentOn, WentOnAfter, IsCode, IsCodeOf, CodeAfter}
 use Rattle.pure_eval.specs.Whole.{IsWhole}
 use Rattle.pure_eval.specs.Working.{IsWorking, IsOpen, is_given_up}
 use Rattle.pure_eval.specs.Workspaces.{Opened, opened_of, source_kept, EvaluatesTo}
-use Rattle.pure_eval.proofs.EvaluatorLemmas.{next-same, world-further, same-program}
+use Rattle.pure_eval.proofs.EvaluatorLemmas.{next-same, world-further, same-program, work-keeps}
 use Rattle.pure_eval.proofs.ReturnLemmas.{went-through, code-of}
 use Rattle.pure_eval.proofs.WorkspaceLemmas.{space_over, made_open, program-first}
 
@@ -197,12 +197,12 @@ comes_to ends.Spent a e w s old new n start m base h o q k count next b c f kept
     (l.0, open_behind old new n start m base h o q k count next (program_of old.names old.table) x b c.program l.1 (same_cells x x refl))
 comes_to ends.Memory a e w s old new n start m base h o q k count next b c f kept l = tt
 
--- an evaluation of an expression over an opened workspace
-abbrev pub Evaluates : Evaluated → Addr → Value → Prepared → Opened → Opened → Type 0
-Evaluates end scope receiver x old new = (e : Expression) → IsPrepared (next_kept old.behind.scratch) e x → EvaluatesTo (evaluate_expression old.behind.program old.world old.behind.scratch scope receiver e) (expression_source e.tree) end old new
+-- what becomes of a source over an opened workspace
+abbrev pub Evaluates : Evaluated → Work → Prepared → Opened → Opened → Type 0
+Evaluates end work x old new = (source : List ℕ) (e : Expr) → IsReady (next_kept old.behind.scratch) source e x → EvaluatesTo (work_of old.behind.program old.world old.behind.scratch source (source_literals e) (expression_source e) work) (expression_source e) end old new
 
-pub evaluates-open : (end : Evaluated) (x : Prepared) (scope : Addr) (receiver : Value) (old new : Evaluator) (n : ℕ) (start m : EvaluatorMark) (base g h : Heap) (o q : Over) (k : Marked) (count from : ℕ) (next : Addr) → is_given_up end ≡ false → IsOpen old n start m base o k count next → WentOnAfter end old new → CodeAfter end new (program_of old.names old.table) (kept_tree_at (next_of g) (term_view x.term)) → ((us more : List (List ℕ)) → base.ends ≤ length us → heap_world (us ++ more) base ≡ heap_world us base) → base.ends ≤ length old.names → ((i : ℕ) → next ≡ Scratch i → from ≡ i) → count ≤ from → ((ts : List (List ℕ)) → space_of ts g ≡ space_after (over_world ts o)) → ((ts : List (List ℕ)) → over_world ts q ≡ copied_world (heap_world ts base) (space_of ts h)) → ((p : Program) (e : Expression) → Runs old p → IsPrepared (next_kept (space_of old.names g)) e x → Leaves (evaluate_expression p (heap_world old.names base) (space_of old.names g) scope receiver e) end (space_of old.names g) (space_of new.names h)) → Evaluates end scope receiver x (opened_of old n m base o k) (opened_of new n m base q k)
-evaluates-open end x scope receiver old new n start m base g h o q k count from next f i went code further known number long before over answer = λ e prepared.
+pub evaluates-open : (end : Evaluated) (x : Prepared) (work : Work) (old new : Evaluator) (n : ℕ) (start m : EvaluatorMark) (base g h : Heap) (o q : Over) (k : Marked) (count from : ℕ) (next : Addr) → is_given_up end ≡ false → IsOpen old n start m base o k count next → WentOnAfter end old new → CodeAfter end new (program_of old.names old.table) (kept_tree_at (next_of g) (term_view x.term)) → ((us more : List (List ℕ)) → base.ends ≤ length us → heap_world (us ++ more) base ≡ heap_world us base) → base.ends ≤ length old.names → ((i : ℕ) → next ≡ Scratch i → from ≡ i) → count ≤ from → ((ts : List (List ℕ)) → space_of ts g ≡ space_after (over_world ts o)) → ((ts : List (List ℕ)) → over_world ts q ≡ copied_world (heap_world ts base) (space_of ts h)) → ((p : Program) (source : List ℕ) (e : Expr) → Runs old p → IsReady (next_kept (space_of old.names g)) source e x → Leaves (work_of p (heap_world old.names base) (space_of old.names g) source (source_literals e) (expression_source e) work) end (space_of old.names g) (space_of new.names h)) → Evaluates end work x (opened_of old n m base o k) (opened_of new n m base q k)
+evaluates-open end x work old new n start m base g h o q k count from next f i went code further known number long before over answer = λ source e prepared.
     let y : ScratchSpace = space_after (over_world old.names o) in
     let p : Program = program_of old.names old.table in
     let w : World = heap_world old.names base in
@@ -217,8 +217,8 @@ evaluates-open end x scope receiver old new n start m base g h o q k count from 
       there = omega (arith, long, at, counts);
       over = over;
     } in
-    let P : ScratchSpace → Type 0 = λ z. IsPrepared (next_kept z) e x → Leaves (evaluate_expression p w z scope receiver e) end z (space_of new.names h) in
-    let l : P y = subst P (before old.names) (answer p e i.working.code.runs) in
-    comes_to end (evaluate_expression p w y scope receiver e) (expression_source e.tree) w (kept_tree_at (next_of g) (term_view x.term)) old new n start m base h o q k count next b code
-    (source_is old.names g y (term_view x.term) (expression_source e.tree) (before old.names) prepared.term)
-    (evaluate-keeps p w y scope receiver e.source (source_literals e.tree) (expression_source e.tree)) (l prepared)
+    let P : ScratchSpace → Type 0 = λ z. IsReady (next_kept z) source e x → Leaves (work_of p w z source (source_literals e) (expression_source e) work) end z (space_of new.names h) in
+    let l : P y = subst P (before old.names) (answer p source e i.working.code.runs) in
+    comes_to end (work_of p w y source (source_literals e) (expression_source e) work) (expression_source e) w (kept_tree_at (next_of g) (term_view x.term)) old new n start m base h o q k count next b code
+    (source_is old.names g y (term_view x.term) (expression_source e) (before old.names) prepared.term)
+    (work-keeps p w y source (source_literals e) (expression_source e) work) (l prepared)

@@ -7,6 +7,8 @@ pub mod Leaving
 pub mod Orders
 pub mod Evaluators
 pub mod Preparing
+pub mod Arguments
+pub mod Calling
 pub mod Returning
 pub mod TermCodes
 pub mod Working

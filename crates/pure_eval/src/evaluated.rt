@@ -25,7 +25,7 @@ pub enum Evaluated {
 }
 
 /// How an evaluation ends whose run does.
-fn finish_of(finish: Finish) -> Evaluated
+pub fn finish_of(finish: Finish) -> Evaluated
     ensures { result ≡ finished finish }
 {
     match finish {

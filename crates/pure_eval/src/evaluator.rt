@@ -1,9 +1,10 @@
 //! A session's evaluator.
 
 ghost use Rattle.std.specs.Prelude.{◌≡◌, ◌≤◌, ℕ, List, true, false, length, IfOk, IfSome};
-ghost use Rattle.js_tree.specs.declared.script.Expression.{Expression};
-ghost use Rattle.js_semantics.specs.Evaluation.{answered, evaluated, evaluate, evaluate_expression, next_kept, with_source};
+ghost use Rattle.js_tree.specs.declared.tree.Expr.{Expr};
+ghost use Rattle.js_semantics.specs.Evaluation.{answered, next_kept, with_source};
 ghost use Rattle.js_semantics.specs.Functions.{Program};
+ghost use Rattle.js_semantics.specs.Literals.{source_literals};
 ghost use Rattle.js_semantics.specs.Makers.{Made};
 ghost use Rattle.js_semantics.specs.Run.{program_from};
 ghost use Rattle.js_semantics.specs.Sources.{expression_source};
@@ -17,25 +18,28 @@ ghost use Rattle.js_code.specs.Codes.{HasFunctions};
 ghost use Rattle.js_code.specs.Trees.{tree, program_of, IsTable};
 ghost use Rattle.js_terms.specs.Views.{term_view, terms_view};
 ghost use Rattle.pure_eval.specs.Adding.{GoesOnWith, kept_tree_at};
+ghost use Rattle.pure_eval.specs.Calling.{worked, work_of, HasCall};
 ghost use Rattle.pure_eval.specs.Cutting.{IsMarkOf, IsBack};
 ghost use Rattle.pure_eval.specs.Whole.{IsWhole};
 ghost use Rattle.pure_eval.specs.Evaluators.{Runs, IsMadeOf, IsBehind, is_kept, RunsAfter};
 ghost use Rattle.pure_eval.specs.Leaving.{Leaves};
 ghost use Rattle.pure_eval.specs.Orders.{AreSameLiterals, ready_in_order};
-ghost use Rattle.pure_eval.specs.Preparing.{IsPrepared};
+ghost use Rattle.pure_eval.specs.Preparing.{IsReady};
 ghost use Rattle.pure_eval.specs.Returning.{WentOn, WentOnAfter, IsMarked, IsAgain, CameFrom, CameAfter, HasAdded, IsCode, IsCodeOf, CodeAfter};
 
 use crate::adding::add_source;
+use crate::calling::{add_call, is_call};
 use crate::closed::is_whole;
 use crate::cutting::{TableMark, cut, mark};
 use crate::evaluated::Evaluated;
 use crate::orders::evaluate_in_order;
 use crate::prepared::Prepared;
 use crate::session::Outcome;
+use crate::work::Work;
 use cdp_text::units::Units;
 use js_code::table::NodeTable;
 use js_compile::scripts::{ScriptCode, code_of_scripts};
-use js_heap::value::{Addr, Value};
+use js_heap::value::Addr;
 use js_steps::rows::Rows;
 use js_terms::term::{Term, Terms};
 use js_world::heap::BaseHeap;
@@ -50,6 +54,8 @@ pub struct Evaluator {
     pub table: NodeTable,
     // the sources that are kept stand at addresses below this number
     pub next: u32,
+    // the entry of this number is that of a call which stands in no statement
+    pub call: u32,
 }
 
 /// Where an evaluator's code ended, and below which number its kept sources stood.
@@ -111,15 +117,15 @@ fn is_kept(end: Evaluated) -> bool
     }
 }
 
-/// The evaluation of a source whose code a table has, with names that went on from those that the cells need.
+/// What becomes of a source whose code a table has, with names that went on from those that the cells need.
 fn evaluate_known<T: Rows>(
     alloc: Global,
     table: &NodeTable,
     names: &Names,
     base: &BaseHeap,
     scratch: Scratch,
-    scope: Addr,
-    receiver: Value,
+    call: u32,
+    work: Work<'_>,
     source: &Units,
     order: &[Units],
     literals: &[Units],
@@ -127,14 +133,15 @@ fn evaluate_known<T: Rows>(
 ) -> Outcome
     requires table { IsTable table.now }
     requires functions { HasFunctions table.now }
-    ensures { (before : List (List ℕ)) → GoesOn before names.now → base.now.ends ≤ length before → scratch.ends ≤ length before → AreSameLiterals order.now literals.now → Leaves (answered (ready_in_order (heap_world before base.now) (space_of before scratch) source.now order.now literals.now (settle (tree names.now table.now node))) (evaluated (program_of names.now table.now) scope receiver)) result.end (space_of before scratch) (space_of names.now result.scratch) }
+    requires call { HasCall table.now call }
+    ensures { (before : List (List ℕ)) → GoesOn before names.now → base.now.ends ≤ length before → scratch.ends ≤ length before → AreSameLiterals order.now literals.now → Leaves (answered (ready_in_order (heap_world before base.now) (space_of before scratch) source.now order.now literals.now (settle (tree names.now table.now node))) (worked (program_of names.now table.now) work.entry)) result.end (space_of before scratch) (space_of names.now result.scratch) }
 {
     base.goes_on();
     scratch.goes_on();
     let mut known = scratch;
     known.know(names);
     evaluate_in_order::<T>(
-        alloc, table, names, base, known, scope, receiver, source, order, literals, node,
+        alloc, table, names, base, known, call, work, source, order, literals, node,
     )
 }
 
@@ -159,10 +166,13 @@ impl Evaluator {
         if !is_whole(&table) {
             return Err(AllocError);
         }
+        let mut table = table;
+        let call = add_call(&mut table)?;
         Ok(Evaluator {
             names: known,
             table,
             next: 0,
+            call,
         })
     }
 
@@ -228,24 +238,23 @@ impl Evaluator {
         cut(&mut self.table, mark);
     }
 
-    /// Evaluates a source in a scope with a `this`, over a program's cells and behind those of a session: the answer is
-    /// the definition's, with the cells that it made, or with those of before. The source is given with its term, in which
-    /// its literals have their addresses, and with its literals in its own order and in that of the term. Behind a value
-    /// or a throw the evaluator has the source. After want of memory it is given up, and so are the session's cells.
+    /// What becomes of a source over a program's cells and behind those of a session: the answer is the definition's, with
+    /// the cells that it made, or with those of before. The source is given with its term, in which its literals have their
+    /// addresses, and with its literals in its own order and in that of the term. Behind a value or a throw the evaluator has
+    /// the source. After want of memory it is given up, and so are the session's cells.
     pub fn evaluate<T: Rows>(
         &mut self,
         alloc: Global,
         base: &BaseHeap,
         scratch: Scratch,
-        scope: Addr,
-        receiver: Value,
+        work: Work<'_>,
         source: &Units,
         order: &[Units],
         literals: &[Units],
         term: &Term,
     ) -> Outcome
         requires { IsWhole self.old.table }
-        ensures answer { (p : Program) (e : Made) → Runs self.old p → IsMadeOf (next_kept (space_of self.old.names scratch)) e order.now literals.now (term_view term.now) → Leaves (evaluate p (heap_world self.old.names base.now) (space_of self.old.names scratch) scope receiver source.now order.now e) result.end (space_of self.old.names scratch) (space_of self.new.names result.scratch) }
+        ensures answer { (p : Program) (e : Made) → Runs self.old p → IsMadeOf (next_kept (space_of self.old.names scratch)) e order.now literals.now (term_view term.now) → Leaves (work_of p (heap_world self.old.names base.now) (space_of self.old.names scratch) source.now order.now e work.entry) result.end (space_of self.old.names scratch) (space_of self.new.names result.scratch) }
         ensures program { (p : Program) (e : Made) → Runs self.old p → IsMadeOf (next_kept (space_of self.old.names scratch)) e order.now literals.now (term_view term.now) → RunsAfter result.end self.new p (with_source p (space_of self.old.names scratch) e) }
         ensures goes_on { WentOnAfter result.end self.old self.new }
         ensures came { (m : EvaluatorMark) (p : Program) → CameFrom m p self.old → CameAfter result.end m p self.new }
@@ -257,14 +266,21 @@ impl Evaluator {
                 scratch,
             };
         };
+        // every evaluator that was started has the entry; that it has is tested here rather than carried on
+        if !is_call(&self.table, self.call) {
+            return Outcome {
+                end: Evaluated::Memory,
+                scratch,
+            };
+        }
         let outcome = evaluate_known::<T>(
             alloc,
             &self.table,
             &self.names,
             base,
             scratch,
-            scope,
-            receiver,
+            self.call,
+            work,
             source,
             order,
             literals,
@@ -274,22 +290,20 @@ impl Evaluator {
         outcome
     }
 
-    /// Evaluates an expression that is ready to be evaluated at the next address of a session's cells, in a scope with a
-    /// `this`, over a program's cells and behind those of the session: the answer is the definition's, with the cells that
-    /// it made, or with those of before. Behind a value or a throw the evaluator has the source. After want of memory it
-    /// is given up, and so are the session's cells.
-    pub fn evaluate_expression<T: Rows>(
+    /// What becomes of a source that is ready at the next address of a session's cells, over a program's cells and behind
+    /// those of the session: the answer is the definition's, with the cells that it made, or with those of before. Behind a
+    /// value or a throw the evaluator has the source. After want of memory it is given up, and so are the session's cells.
+    pub fn evaluate_ready<T: Rows>(
         &mut self,
         alloc: Global,
         base: &BaseHeap,
         scratch: Scratch,
-        scope: Addr,
-        receiver: Value,
+        work: Work<'_>,
         prepared: &Prepared,
     ) -> Outcome
         requires { IsWhole self.old.table }
-        ensures answer { (p : Program) (e : Expression) → Runs self.old p → IsPrepared (next_kept (space_of self.old.names scratch)) e prepared.now → Leaves (evaluate_expression p (heap_world self.old.names base.now) (space_of self.old.names scratch) scope receiver e) result.end (space_of self.old.names scratch) (space_of self.new.names result.scratch) }
-        ensures program { (p : Program) (e : Expression) → Runs self.old p → IsPrepared (next_kept (space_of self.old.names scratch)) e prepared.now → RunsAfter result.end self.new p (with_source p (space_of self.old.names scratch) (expression_source e.tree)) }
+        ensures answer { (p : Program) (source : List ℕ) (tree : Expr) → Runs self.old p → IsReady (next_kept (space_of self.old.names scratch)) source tree prepared.now → Leaves (work_of p (heap_world self.old.names base.now) (space_of self.old.names scratch) source (source_literals tree) (expression_source tree) work.entry) result.end (space_of self.old.names scratch) (space_of self.new.names result.scratch) }
+        ensures program { (p : Program) (source : List ℕ) (tree : Expr) → Runs self.old p → IsReady (next_kept (space_of self.old.names scratch)) source tree prepared.now → RunsAfter result.end self.new p (with_source p (space_of self.old.names scratch) (expression_source tree)) }
         ensures goes_on { WentOnAfter result.end self.old self.new }
         ensures came { (m : EvaluatorMark) (p : Program) → CameFrom m p self.old → CameAfter result.end m p self.new }
         ensures code { IsCode self.old → CodeAfter result.end self.new (program_of self.old.names self.old.table) (kept_tree_at (next_of scratch) (term_view prepared.now.term)) }
@@ -298,8 +312,7 @@ impl Evaluator {
             alloc,
             base,
             scratch,
-            scope,
-            receiver,
+            work,
             &prepared.source,
             prepared.order.as_slice(),
             prepared.literals.as_slice(),

@@ -2,6 +2,8 @@
 #![tactic(auto)]
 
 pub mod adding;
+pub mod arguments;
+pub mod calling;
 pub mod closed;
 pub mod cutting;
 pub mod evaluated;
@@ -12,4 +14,5 @@ pub mod orders;
 pub mod prepared;
 pub mod reducing;
 pub mod session;
+pub mod work;
 pub mod workspace;

@@ -14,7 +14,7 @@ use js_world::world::{Refused, World};
 use std::alloc::Global;
 
 /// The cell of a text.
-fn make_text<W: World>(alloc: Global, world: &mut W, units: &Units) -> Result<Addr, Refused>
+pub fn make_text<W: World>(alloc: Global, world: &mut W, units: &Units) -> Result<Addr, Refused>
     ensures made { (names : List (List ℕ)) → Tries (make_cell (W.world names world.old) (cells.Text units.now)) result (W.world names world.new) }
     ensures kept { OnErr result (world.new ≡ world.old) }
 {

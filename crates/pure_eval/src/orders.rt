@@ -2,20 +2,21 @@
 
 ghost use Rattle.std.specs.Prelude.{◌≡◌, ℕ, List};
 ghost use Rattle.js_heap.specs.ScratchSpaces.{copied_world};
-ghost use Rattle.js_semantics.specs.Evaluation.{answered, evaluated};
+ghost use Rattle.js_semantics.specs.Evaluation.{answered};
 ghost use Rattle.js_semantics.specs.Terms.{settle};
 ghost use Rattle.js_world.specs.Heaps.{heap_world};
 ghost use Rattle.js_world.specs.Overlays.{space_of};
 ghost use Rattle.js_code.specs.Codes.{HasFunctions};
 ghost use Rattle.js_code.specs.Trees.{tree, program_of, IsTable};
+ghost use Rattle.pure_eval.specs.Calling.{worked, HasCall};
 ghost use Rattle.pure_eval.specs.Leaving.{Leaves, placed};
 ghost use Rattle.pure_eval.specs.Orders.{AreSameLiterals, ready_in_order, is_full_end, end_behind, EndsAs};
 
 use crate::evaluated::Evaluated;
 use crate::session::{Outcome, evaluate_source, prepare, refused_end, scratch_after};
+use crate::work::Work;
 use cdp_text::units::Units;
 use js_code::table::NodeTable;
-use js_heap::value::{Addr, Value};
 use js_steps::rows::Rows;
 use js_world::heap::BaseHeap;
 use js_world::names::Names;
@@ -69,16 +70,16 @@ fn end_in_order(
     Outcome { end, scratch }
 }
 
-/// The evaluation of a source with its literals in its own order and in that of its term, whose code a table has, in a
-/// scope with a `this`. After want of memory the session is given up.
+/// What becomes of a source with its literals in its own order and in that of its term, whose code a table has with the
+/// entry of a call. After want of memory the session is given up.
 pub fn evaluate_in_order<T: Rows>(
     alloc: Global,
     table: &NodeTable,
     names: &Names,
     base: &BaseHeap,
     scratch: Scratch,
-    scope: Addr,
-    receiver: Value,
+    call: u32,
+    work: Work<'_>,
     source: &Units,
     order: &[Units],
     literals: &[Units],
@@ -86,7 +87,8 @@ pub fn evaluate_in_order<T: Rows>(
 ) -> Outcome
     requires table { IsTable table.now }
     requires functions { HasFunctions table.now }
-    ensures { AreSameLiterals order.now literals.now → Leaves (answered (ready_in_order (heap_world names.now base.now) (space_of names.now scratch) source.now order.now literals.now (settle (tree names.now table.now node))) (evaluated (program_of names.now table.now) scope receiver)) result.end (space_of names.now scratch) (space_of names.now result.scratch) }
+    requires call { HasCall table.now call }
+    ensures { AreSameLiterals order.now literals.now → Leaves (answered (ready_in_order (heap_world names.now base.now) (space_of names.now scratch) source.now order.now literals.now (settle (tree names.now table.now node))) (worked (program_of names.now table.now) work.entry)) result.end (space_of names.now scratch) (space_of names.now result.scratch) }
 {
     let Ok(kept) = Units::from_slice(alloc, source.as_slice()) else {
         return Outcome {
@@ -95,7 +97,7 @@ pub fn evaluate_in_order<T: Rows>(
         };
     };
     let outcome = evaluate_source::<T>(
-        alloc, table, names, base, scratch, scope, receiver, kept, literals, node,
+        alloc, table, names, base, scratch, call, work, kept, literals, node,
     );
     if is_full(outcome.end) {
         end_in_order(alloc, base, outcome.scratch, source, order, outcome.end)

@@ -43,7 +43,7 @@ impl Asks for Nobody {
 }
 
 /// An evaluation goes on to its end, or until so many steps are made.
-fn run_on<T: Rows, W: World>(
+pub fn run_on<T: Rows, W: World>(
     alloc: Global,
     table: &NodeTable,
     names: &Names,

@@ -3,26 +3,29 @@
 ghost use Rattle.std.specs.Prelude.{◌≡◌, ℕ, List};
 ghost use Rattle.js_heap.specs.ScratchSpaces.{ScratchSpace};
 ghost use Rattle.js_heap.specs.Worlds.{Keeps};
-ghost use Rattle.js_semantics.specs.Evaluation.{answered, evaluated};
+ghost use Rattle.js_semantics.specs.Evaluation.{answered};
 ghost use Rattle.js_semantics.specs.Terms.{settle};
 ghost use Rattle.js_world.specs.Calls.{Tries};
 ghost use Rattle.js_world.specs.Heaps.{heap_world};
 ghost use Rattle.js_world.specs.Overlays.{over_world, space_of};
 ghost use Rattle.js_code.specs.Codes.{HasFunctions};
 ghost use Rattle.js_code.specs.Trees.{tree, program_of, IsTable};
+ghost use Rattle.pure_eval.specs.Answering.{Answers};
+ghost use Rattle.pure_eval.specs.Calling.{worked, KeepsTo, HasCall};
 ghost use Rattle.pure_eval.specs.Leaving.{space_behind, GoesOnFrom, Leaves, placed, made_ready, refused_end};
 
+use crate::calling::call_with;
 use crate::evaluated::Evaluated;
 use crate::literals::make_literals;
 use crate::reducing::evaluate_node;
+use crate::work::Work;
 use cdp_text::units::Units;
 use js_code::table::NodeTable;
-use js_heap::value::{Addr, Value};
 use js_steps::rows::Rows;
 use js_world::heap::BaseHeap;
 use js_world::names::Names;
 use js_world::overlay::{Mark, Overlay, Scratch};
-use js_world::world::Refused;
+use js_world::world::{Refused, World};
 use std::alloc::Global;
 
 /// How an evaluation ended, and the session's cells after it.
@@ -45,31 +48,52 @@ pub fn scratch_after(overlay: Overlay<'_>, mark: Mark, end: Evaluated) -> Scratc
     scratch
 }
 
-/// The evaluation of a node in a world that is prepared for it. After want of memory the session is given up.
+/// What becomes of a node in a world that is prepared for it.
+fn end_of_work<T: Rows, W: World>(
+    alloc: Global,
+    table: &NodeTable,
+    names: &Names,
+    world: &mut W,
+    call: u32,
+    work: Work<'_>,
+    node: u32,
+) -> Evaluated
+    requires table { IsTable table.now }
+    requires functions { HasFunctions table.now }
+    requires call { HasCall table.now call }
+    ensures answer { Answers (worked (program_of names.now table.now) work.entry (W.world names.now world.old) (settle (tree names.now table.now node))) result (W.world names.now world.new) }
+    ensures keeps { KeepsTo result (W.world names.now world.old) (W.world names.now world.new) }
+{
+    match work {
+        Work::Expression { scope, receiver } => {
+            evaluate_node::<T, W>(alloc, table, names, scope, receiver, world, node)
+        }
+        Work::Call {
+            receiver,
+            arguments,
+        } => call_with::<T, W>(alloc, table, names, world, call, receiver, arguments, node),
+    }
+}
+
+/// What becomes of a node in a world that is prepared for it; the entry of this number is that of the call, where it is
+/// called. After want of memory the session is given up.
 pub fn evaluate_prepared<T: Rows>(
     alloc: Global,
     table: &NodeTable,
     names: &Names,
     overlay: Overlay<'_>,
     mark: Mark,
-    scope: Addr,
-    receiver: Value,
+    call: u32,
+    work: Work<'_>,
     node: u32,
 ) -> Outcome
     requires table { IsTable table.now }
     requires functions { HasFunctions table.now }
-    ensures { (x : ScratchSpace) → GoesOnFrom (over_world names.now overlay.entry) x mark → Leaves (evaluated (program_of names.now table.now) scope receiver (over_world names.now overlay.entry) (settle (tree names.now table.now node))) result.end x (space_of names.now result.scratch) }
+    requires call { HasCall table.now call }
+    ensures { (x : ScratchSpace) → GoesOnFrom (over_world names.now overlay.entry) x mark → Leaves (worked (program_of names.now table.now) work.entry (over_world names.now overlay.entry) (settle (tree names.now table.now node))) result.end x (space_of names.now result.scratch) }
 {
     let mut overlay = overlay;
-    let end = evaluate_node::<T, Overlay<'_>>(
-        alloc,
-        table,
-        names,
-        scope,
-        receiver,
-        &mut overlay,
-        node,
-    );
+    let end = end_of_work::<T, Overlay<'_>>(alloc, table, names, &mut overlay, call, work, node);
     let scratch = scratch_after(overlay, mark, end);
     Outcome { end, scratch }
 }
@@ -99,27 +123,28 @@ pub fn prepare(
     make_literals(alloc, overlay, literals)
 }
 
-/// The evaluation of a source, whose code a table has, in a scope with a `this`. After want of memory the session is given up.
+/// What becomes of a source, whose code a table has with the entry of a call. After want of memory the session is given up.
 pub fn evaluate_source<T: Rows>(
     alloc: Global,
     table: &NodeTable,
     names: &Names,
     base: &BaseHeap,
     scratch: Scratch,
-    scope: Addr,
-    receiver: Value,
+    call: u32,
+    work: Work<'_>,
     source: Units,
     literals: &[Units],
     node: u32,
 ) -> Outcome
     requires table { IsTable table.now }
     requires functions { HasFunctions table.now }
-    ensures { Leaves (answered (made_ready (heap_world names.now base.now) (space_of names.now scratch) source literals.now (settle (tree names.now table.now node))) (evaluated (program_of names.now table.now) scope receiver)) result.end (space_of names.now scratch) (space_of names.now result.scratch) }
+    requires call { HasCall table.now call }
+    ensures { Leaves (answered (made_ready (heap_world names.now base.now) (space_of names.now scratch) source literals.now (settle (tree names.now table.now node))) (worked (program_of names.now table.now) work.entry)) result.end (space_of names.now scratch) (space_of names.now result.scratch) }
 {
     let mark = scratch.mark();
     let mut overlay = Overlay::over(base, scratch);
     match prepare(alloc, &mut overlay, source, literals) {
-        Ok(()) => evaluate_prepared::<T>(alloc, table, names, overlay, mark, scope, receiver, node),
+        Ok(()) => evaluate_prepared::<T>(alloc, table, names, overlay, mark, call, work, node),
         Err(refused) => {
             let end = refused_end(refused);
             let scratch = scratch_after(overlay, mark, end);

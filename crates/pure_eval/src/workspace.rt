@@ -1,25 +1,32 @@
 //! What a session's evaluations go on from.
 
-ghost use Rattle.std.specs.Prelude.{◌≡◌, [], true, IfOk, IfSome};
+ghost use Rattle.std.specs.Prelude.{◌≡◌, ℕ, List, [], true, IfOk, IfSome};
 ghost use Rattle.js_heap.specs.declared.value.Addr.TheVariants.{Scratch as scratch_place};
 ghost use Rattle.js_heap.specs.ScratchSpaces.{copied_world};
-ghost use Rattle.js_semantics.specs.Evaluation.{evaluate_expression, next_kept};
+ghost use Rattle.js_semantics.specs.Evaluation.{evaluate_expression, evaluate_function, next_kept};
+ghost use Rattle.js_semantics.specs.Literals.{source_literals};
 ghost use Rattle.js_semantics.specs.Run.{program_from};
 ghost use Rattle.js_semantics.specs.Sources.{expression_source};
 ghost use Rattle.js_terms.specs.Views.{terms_view};
 ghost use Rattle.js_tree.specs.declared.script.Expression.{Expression};
+ghost use Rattle.js_tree.specs.declared.script.FunctionCode.{FunctionCode};
+ghost use Rattle.js_tree.specs.declared.tree.Expr.{Expr};
 ghost use Rattle.js_world.specs.Heaps.{heap_world};
 ghost use Rattle.js_world.specs.Names.{name_of, GoesOn};
 ghost use Rattle.js_world.specs.Overlays.{over_world};
-ghost use Rattle.pure_eval.specs.Preparing.{IsPrepared};
+ghost use Rattle.pure_eval.specs.Arguments.{arguments_of};
+ghost use Rattle.pure_eval.specs.Calling.{work_of};
+ghost use Rattle.pure_eval.specs.Preparing.{IsReady, IsPrepared, IsPreparedFunction};
 ghost use Rattle.pure_eval.specs.Returning.{IsCodeOf};
 ghost use Rattle.pure_eval.specs.Working.{IsKnown, is_given_up};
 ghost use Rattle.pure_eval.specs.Workspaces.{begun, emptied_workspace, opened, EvaluatesTo};
 
+use crate::arguments::Argument;
 use crate::evaluated::Evaluated;
 use crate::evaluator::{Evaluator, EvaluatorMark};
 use crate::prepared::Prepared;
 use crate::session::Outcome;
+use crate::work::Work;
 use js_code::table::NodeTable;
 use js_heap::keys::same_units;
 use js_heap::value::{Addr, Value};
@@ -175,6 +182,7 @@ fn no_sources(alloc: Global) -> Evaluator
             sources: Vec::new(alloc),
         },
         next: 0,
+        call: 0,
     }
 }
 
@@ -274,17 +282,14 @@ impl<'b> Opened<'b> {
         self.next
     }
 
-    /// Evaluates an expression, which was prepared for the next address, in a scope with a `this`. Behind a value or a throw its
-    /// source is kept, and so are the cells that it made. After want of memory nothing is known of the workspace, which is to
-    /// be given up.
-    pub fn evaluate<T: Rows>(
+    /// What becomes of a source that is ready at the next address.
+    fn evaluate_ready<T: Rows>(
         &mut self,
         alloc: Global,
-        scope: Addr,
-        receiver: Value,
+        work: Work<'_>,
         prepared: &Prepared,
     ) -> Evaluated
-        ensures { (e : Expression) → IsPrepared (next_kept self.old.behind.scratch) e prepared.now → EvaluatesTo (evaluate_expression self.old.behind.program self.old.world self.old.behind.scratch scope receiver e) (expression_source e.tree) result self.old self.new }
+        ensures { (source : List ℕ) (tree : Expr) → IsReady (next_kept self.old.behind.scratch) source tree prepared.now → EvaluatesTo (work_of self.old.behind.program self.old.world self.old.behind.scratch source (source_literals tree) (expression_source tree) work.entry) (expression_source tree) result self.old self.new }
     {
         let base = self.base;
         // neither of these comes up in a workspace that was opened; that they don't is tested here rather than carried on
@@ -300,7 +305,7 @@ impl<'b> Opened<'b> {
         let scratch = world.into_scratch();
         let outcome = self
             .evaluator
-            .evaluate_expression::<T>(alloc, base, scratch, scope, receiver, prepared);
+            .evaluate_ready::<T>(alloc, base, scratch, work, prepared);
         if is_given_up(outcome.end) {
             // nothing is known of the code that is left
             *self = given_up(alloc, base);
@@ -310,6 +315,44 @@ impl<'b> Opened<'b> {
         self.next = scratch.next_address();
         self.world = Overlay::over(base, scratch);
         end
+    }
+
+    /// Evaluates an expression, which was prepared for the next address, in a scope with a `this`. Behind a value or a throw its
+    /// source is kept, and so are the cells that it made. After want of memory nothing is known of the workspace, which is to
+    /// be given up.
+    pub fn evaluate<T: Rows>(
+        &mut self,
+        alloc: Global,
+        scope: Addr,
+        receiver: Value,
+        prepared: &Prepared,
+    ) -> Evaluated
+        ensures { (e : Expression) → IsPrepared (next_kept self.old.behind.scratch) e prepared.now → EvaluatesTo (evaluate_expression self.old.behind.program self.old.world self.old.behind.scratch scope receiver e) (expression_source e.tree) result self.old self.new }
+    {
+        self.evaluate_ready::<T>(alloc, Work::Expression { scope, receiver }, prepared)
+    }
+
+    /// Calls a function, which was prepared for the next address, in the script scope with a `this` and arguments. The cells of
+    /// the arguments are made before it, from left to right, and the step that makes the function counts. Behind a value or a
+    /// throw its source is kept, and so are the cells that were made. After want of memory nothing is known of the workspace,
+    /// which is to be given up.
+    pub fn call<T: Rows>(
+        &mut self,
+        alloc: Global,
+        receiver: Value,
+        arguments: &[Argument],
+        prepared: &Prepared,
+    ) -> Evaluated
+        ensures { (f : FunctionCode) → IsPreparedFunction (next_kept self.old.behind.scratch) f prepared.now → EvaluatesTo (evaluate_function self.old.behind.program self.old.world self.old.behind.scratch f receiver (arguments_of arguments.now)) (expression_source f.tree) result self.old self.new }
+    {
+        self.evaluate_ready::<T>(
+            alloc,
+            Work::Call {
+                receiver,
+                arguments,
+            },
+            prepared,
+        )
     }
 
     /// The cells of the program with those of the session.

@@ -1,6 +1,7 @@
 use Rattle.js_semantics.specs.Terms.{settle}
 use Rattle.js_world.specs.Overlays.{over_world, space_of}
 use Rattle.js_code.specs.Trees.{tree, program_of}
+use Rattle.pure_eval.specs.Calling.{worked}
 use Rattle.pure_eval.proofs.LeavingLemmas.{leaves}
 use Rattle.pure_eval.proofs.session.evaluate_prepared.Goals as goal
 
@@ -8,4 +9,4 @@ pub returns : goal.returns
 returns g c = λ x from.
     let ts = c.args.names.now in
     let t = c.args.table.now in
-    leaves (program_of ts t) c.args.scope (settle (tree ts t c.args.node)) _ (over_world ts c.evaluate_node-end.new.world) c.args.receiver x (space_of ts c.scratch_after-scratch.result) c.args.mark c.evaluate_node-end.result from c.evaluate_node-end.ensures.answer c.evaluate_node-end.ensures.world (c.scratch_after-scratch.ensures ts)
+    leaves (worked (program_of ts t) c.args.work (over_world ts c.args.overlay) (settle (tree ts t c.args.node))) (over_world ts c.args.overlay) (over_world ts c.end_of_work-end.new.world) x (space_of ts c.scratch_after-scratch.result) c.args.mark c.end_of_work-end.result from c.end_of_work-end.ensures.answer c.end_of_work-end.ensures.keeps (c.scratch_after-scratch.ensures ts)

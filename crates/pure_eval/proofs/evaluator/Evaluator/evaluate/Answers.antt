@@ -13,7 +13,7 @@ returns-clause-answer g c = λ p e runs made.
     let mid = c.add.new.self in
     let a = c.in-Ok.added in
     let has = c.in-Ok.ensures in
-    evaluator-leaves old.names mid.names c.keep.new.self.names old.table mid.table old.next a.next a.node (term_view c.args.term.now) p (heap_world old.names c.args.base.now) c.args.scratch c.evaluate_known-outcome.result.scratch (next_of c.args.scratch) c.args.scope c.args.receiver e c.args.source.now c.args.order.now c.args.literals.now c.evaluate_known-outcome.result.end runs refl has.behind has.source made (c.evaluate_known-outcome.ensures old.names has.source.goes_on has.base_known has.scratch_known) c.keep.ensures.names
+    evaluator-leaves old.names mid.names c.keep.new.self.names old.table mid.table old.next a.next a.node (term_view c.args.term.now) p (heap_world old.names c.args.base.now) c.args.scratch c.evaluate_known-outcome.result.scratch (next_of c.args.scratch) c.args.work e c.args.source.now c.args.order.now c.args.literals.now c.evaluate_known-outcome.result.end runs refl has.behind has.source made (c.evaluate_known-outcome.ensures old.names has.source.goes_on has.base_known has.scratch_known) c.keep.ensures.names
 
 pub returns-clause-program : goal.returns-clause-program
 returns-clause-program g c = λ p e runs made.
@@ -38,6 +38,9 @@ evaluate_known-outcome-requires-clause-table g c = c.in-Ok.ensures.source.whole.
 
 pub evaluate_known-outcome-requires-clause-functions : goal.evaluate_known-outcome-requires-clause-functions
 evaluate_known-outcome-requires-clause-functions g c = c.in-Ok.ensures.source.whole.functions
+
+pub evaluate_known-outcome-requires-clause-call : goal.evaluate_known-outcome-requires-clause-call
+evaluate_known-outcome-requires-clause-call g c = c.if-not-is_call.ensures refl
 
 pub returns-clause-code : goal.returns-clause-code
 returns-clause-code g c = λ code.

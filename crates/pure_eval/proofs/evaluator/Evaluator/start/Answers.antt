@@ -1,6 +1,7 @@
-use Rattle.std.proofs.Common.{ℕ, List, refl, subst}
+use Rattle.std.proofs.Common.{◌≡◌, ℕ, List, refl, subst, ◌∙◌}
 use Rattle.js_terms.specs.Views.{terms_view}
 use Rattle.js_world.specs.Names.{GoesOn}
+use Rattle.js_code.specs.Trees.{program_of}
 use Rattle.pure_eval.proofs.EvaluatorLemmas.{compiled, stands-first}
 use Rattle.js_semantics.specs.Run.{program_from}
 use Rattle.pure_eval.proofs.ReturnLemmas.{code-of}
@@ -24,7 +25,9 @@ is_whole-requires-clause-functions c =
 pub returns-clause-program : goal.returns-clause-program
 returns-clause-program c =
     let h = compiled c.code_of_scripts.new.names (terms_view c.args.scripts.now) c.in_ok-code.field-0 c.in-Some.code c.in_ok-code.ensures.code c.in-Some.is in
-    stands-first c.code_of_scripts.new.names c.in-Some.code.table (terms_view c.args.scripts.now) (c.if-not-is_whole.ensures refl) h.program
+    let whole = c.if-not-is_whole.ensures refl in
+    let added = c.in_ok-call.ensures in
+    stands-first c.code_of_scripts.new.names c.add_call.new.table (terms_view c.args.scripts.now) (added.whole whole) (λ us on. added.program whole us ∙ h.program us on)
 
 pub returns-clause-names : goal.returns-clause-names
 returns-clause-names c =
@@ -34,4 +37,7 @@ returns-clause-names c =
 pub returns-clause-code : goal.returns-clause-code
 returns-clause-code c =
     let h = compiled c.code_of_scripts.new.names (terms_view c.args.scripts.now) c.in_ok-code.field-0 c.in-Some.code c.in_ok-code.ensures.code c.in-Some.is in
-    code-of (record { names = c.code_of_scripts.new.names; table = c.in-Some.code.table; next = 0 }) (program_from 1 (terms_view c.args.scripts.now)) (program_from 1 (terms_view c.args.scripts.now)) (stands-first c.code_of_scripts.new.names c.in-Some.code.table (terms_view c.args.scripts.now) (c.if-not-is_whole.ensures refl) h.program) h.program
+    let whole = c.if-not-is_whole.ensures refl in
+    let added = c.in_ok-call.ensures in
+    let program : (us : List (List ℕ)) → GoesOn c.code_of_scripts.new.names us → program_of us c.add_call.new.table ≡ program_from 1 (terms_view c.args.scripts.now) = λ us on. added.program whole us ∙ h.program us on in
+    code-of (record { names = c.code_of_scripts.new.names; table = c.add_call.new.table; next = 0; call = c.in_ok-call.call }) (program_from 1 (terms_view c.args.scripts.now)) (program_from 1 (terms_view c.args.scripts.now)) (stands-first c.code_of_scripts.new.names c.add_call.new.table (terms_view c.args.scripts.now) (added.whole whole) program) program
