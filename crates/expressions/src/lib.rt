@@ -1,5 +1,5 @@
-//! What an evaluation needs of a parsed expression: its string literals in the order of its source, and its term with the
-//! addresses of their cells.
+//! What an evaluation needs of a parsed expression, and a call of a parsed function: the string literals in the order of the
+//! source, and the term with the addresses of their cells.
 #![tactic(auto)]
 
 pub mod literals;
