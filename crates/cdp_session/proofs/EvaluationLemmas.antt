@@ -21,9 +21,8 @@ use Rattle.pure_eval.specs.declared.evaluated.Evaluated.TheVariants as ends
 use Rattle.pure_eval.specs.Workspaces.{Opened, Workspace, opened, EvaluatesTo}
 use Rattle.cdp_session.specs.declared.done.Done.{Done as Held}
 use Rattle.cdp_session.specs.declared.done.Fault.{Fault}
-use Rattle.cdp_session.specs.Evaluations.{Evaluates, Stops, evaluates_in, is_memory, no_expression, outcome_of_answer, outcome_of_tree}
-use Rattle.cdp_json.specs.declared.params.Evaluation.{Evaluation}
-use Rattle.cdp_json.specs.declared.refusal.Refusal.TheVariants as refusals
+use Rattle.cdp_session.specs.declared.showing.Showing.{Showing}
+use Rattle.cdp_session.specs.Evaluations.{Evaluates, is_memory, no_expression, outcome_of_answer, outcome_of_tree}
 use Rattle.cdp_session.specs.Made.{KeepsIfRefused, Makes}
 use Rattle.cdp_session.specs.Rows.{row_of}
 use Rattle.cdp_session.specs.Sessions.{Session, no_workspace, with_workspace}
@@ -57,15 +56,15 @@ anew : (x : Session) (o n : Opened) (w : World) → o ≡ opened w x.workspace �
 anew x o n w is s =
     is ∙ sym (ap (λ k. opened k n.before) (s.world ∙ ap (λ k. k.world) is) ∙ ap (λ k. opened w k) (s.before ∙ ap (λ k. k.before) is))
 
-pub made-answer : (s : Situation) (x : Session) (group : Option (List ℕ)) (e : Source) (a : Answer) (end : Evaluated) (o n : Opened) (result : Result Held Fault) (new : Session)
+pub made-answer : (s : Situation) (x : Session) (how : Showing) (e : Source) (a : Answer) (end : Evaluated) (o n : Opened) (result : Result Held Fault) (new : Session)
     → o ≡ opened s.standing.world x.workspace → is_memory end ≡ false → EvaluatesTo a e end o n
-    → (s.standing.world ≡ n.world → EvaluatesTo a e end (opened n.world n.before) n → Makes result new (row_of (outcome_of_answer s (with_workspace n.before (with_workspace no_workspace x)) group e a)))
-    → Makes result new (row_of (outcome_of_answer s x group e a))
-made-answer s x group e a end o n result new is some to makes =
+    → (s.standing.world ≡ n.world → EvaluatesTo a e end (opened n.world n.before) n → Makes result new (row_of (outcome_of_answer s (with_workspace n.before (with_workspace no_workspace x)) how e a)))
+    → Makes result new (row_of (outcome_of_answer s x how e a))
+made-answer s x how e a end o n result new is some to makes =
     let there : Stays o n = stays a e end o n some to in
     let world : s.standing.world ≡ n.world = sym (there.world ∙ ap (λ k. k.world) is) in
     let from : EvaluatesTo a e end (opened n.world n.before) n = subst (λ k. EvaluatesTo a e end k n) (anew x o n s.standing.world is there) to in
-    subst (λ y. Makes result new (row_of (outcome_of_answer s y group e a))) (again x o n s.standing.world is there) (makes world from)
+    subst (λ y. Makes result new (row_of (outcome_of_answer s y how e a))) (again x o n s.standing.world is there) (makes world from)
 
 pub kept-answer : (x : Session) (w : World) (e : Source) (a : Answer) (end : Evaluated) (o n : Opened) (result : Result Held Fault) (new : Session)
     → o ≡ opened w x.workspace → is_memory end ≡ false → EvaluatesTo a e end o n
@@ -83,38 +82,33 @@ evaluated-from w x scope receiver ex at p end o n is place ready says =
 
 -- ---- texts
 
--- an evaluation that is asked to have no effect
-pub asked-answer : (s : Situation) (x : Session) (scope : Addr) (receiver : Value) (ev : Evaluation) → ev.throw_on_side_effect ≡ true
-    → evaluates_in s x scope receiver ev ≡ outcome_of_tree s x scope receiver ev.object_group ev.expression (expression_of ev.expression)
-asked-answer s x scope receiver ev is = ap (λ b. if b then outcome_of_tree s x scope receiver ev.object_group ev.expression (expression_of ev.expression) else Stops refusals.NeedsNoSideEffect) is
-
 -- a text that is no expression
-pub no-answer : (s : Situation) (x : Session) (scope : Addr) (receiver : Value) (group : Option (List ℕ)) (source : List ℕ) → expression_of source ≡ None
-    → no_expression x ≡ outcome_of_tree s x scope receiver group source (expression_of source)
-no-answer s x scope receiver group source none = sym (ap (outcome_of_tree s x scope receiver group source) none)
+pub no-answer : (s : Situation) (x : Session) (scope : Addr) (receiver : Value) (how : Showing) (source : List ℕ) → expression_of source ≡ None
+    → no_expression x ≡ outcome_of_tree s x scope receiver how source (expression_of source)
+no-answer s x scope receiver how source none = sym (ap (outcome_of_tree s x scope receiver how source) none)
 
-pub text-answer : (s : Situation) (x : Session) (scope : Addr) (receiver : Value) (group : Option (List ℕ)) (source : List ℕ) (ex : Expression)
+pub text-answer : (s : Situation) (x : Session) (scope : Addr) (receiver : Value) (how : Showing) (source : List ℕ) (ex : Expression)
     → expression_of source ≡ Some (expression_view ex.tree) → ex.source ≡ source → numbered_made (expression_view ex.tree) ≡ expression_source ex.tree
-    → outcome_of_answer s x group (expression_source ex.tree) (definition x.workspace.program s.standing.world x.workspace.scratch scope receiver ex)
-    ≡ outcome_of_tree s x scope receiver group source (expression_of source)
-text-answer s x scope receiver group source ex tree same made =
-    let f : List ℕ → Source → Evaluates = λ text m. outcome_of_answer s x group m (evaluate x.workspace.program s.standing.world x.workspace.scratch scope receiver text (source_literals ex.tree) m) in
+    → outcome_of_answer s x how (expression_source ex.tree) (definition x.workspace.program s.standing.world x.workspace.scratch scope receiver ex)
+    ≡ outcome_of_tree s x scope receiver how source (expression_of source)
+text-answer s x scope receiver how source ex tree same made =
+    let f : List ℕ → Source → Evaluates = λ text m. outcome_of_answer s x how m (evaluate x.workspace.program s.standing.world x.workspace.scratch scope receiver text (source_literals ex.tree) m) in
     ap (λ t. f t (expression_source ex.tree)) same
     ∙ ap (f source) (sym made)
-    ∙ sym (ap (outcome_of_tree s x scope receiver group source) tree)
+    ∙ sym (ap (outcome_of_tree s x scope receiver how source) tree)
 
-refused : (s : Situation) (x : Session) (scope : Addr) (receiver : Value) (group : Option (List ℕ)) (source : List ℕ) (result : Result Held Fault) (new : Session)
-    → expression_of source ≡ None → Makes result new (row_of (no_expression x)) → Makes result new (row_of (outcome_of_tree s x scope receiver group source (expression_of source)))
-refused s x scope receiver group source result new none makes = subst (λ y. Makes result new (row_of y)) (no-answer s x scope receiver group source none) makes
+refused : (s : Situation) (x : Session) (scope : Addr) (receiver : Value) (how : Showing) (source : List ℕ) (result : Result Held Fault) (new : Session)
+    → expression_of source ≡ None → Makes result new (row_of (no_expression x)) → Makes result new (row_of (outcome_of_tree s x scope receiver how source (expression_of source)))
+refused s x scope receiver how source result new none makes = subst (λ y. Makes result new (row_of y)) (no-answer s x scope receiver how source none) makes
 
 -- a text that the parser refuses
-pub fault-answer : (s : Situation) (x : Session) (scope : Addr) (receiver : Value) (group : Option (List ℕ)) (source : List ℕ) (f : ParseFault) (result : Result Held Fault) (new : Session)
+pub fault-answer : (s : Situation) (x : Session) (scope : Addr) (receiver : Value) (how : Showing) (source : List ℕ) (f : ParseFault) (result : Result Held Fault) (new : Session)
     → UnlessMemory (expression_of source ≡ None) f → (f ≡ parse_faults.Memory → result ≡ Err faults.Memory) → Makes result new (row_of (no_expression x))
-    → Makes result new (row_of (outcome_of_tree s x scope receiver group source (expression_of source)))
-fault-answer s x scope receiver group source parse_faults.Memory result new none memory makes =
-    subst (λ r. Makes r new (row_of (outcome_of_tree s x scope receiver group source (expression_of source)))) (sym (memory refl)) tt
-fault-answer s x scope receiver group source (parse_faults.Token at) result new none memory makes = refused s x scope receiver group source result new none makes
-fault-answer s x scope receiver group source (parse_faults.Syntax at) result new none memory makes = refused s x scope receiver group source result new none makes
-fault-answer s x scope receiver group source (parse_faults.TooMany at) result new none memory makes = refused s x scope receiver group source result new none makes
-fault-answer s x scope receiver group source (parse_faults.TooLong units) result new none memory makes = refused s x scope receiver group source result new none makes
-fault-answer s x scope receiver group source parse_faults.TooDeep result new none memory makes = refused s x scope receiver group source result new none makes
+    → Makes result new (row_of (outcome_of_tree s x scope receiver how source (expression_of source)))
+fault-answer s x scope receiver how source parse_faults.Memory result new none memory makes =
+    subst (λ r. Makes r new (row_of (outcome_of_tree s x scope receiver how source (expression_of source)))) (sym (memory refl)) tt
+fault-answer s x scope receiver how source (parse_faults.Token at) result new none memory makes = refused s x scope receiver how source result new none makes
+fault-answer s x scope receiver how source (parse_faults.Syntax at) result new none memory makes = refused s x scope receiver how source result new none makes
+fault-answer s x scope receiver how source (parse_faults.TooMany at) result new none memory makes = refused s x scope receiver how source result new none makes
+fault-answer s x scope receiver how source (parse_faults.TooLong units) result new none memory makes = refused s x scope receiver how source result new none makes
+fault-answer s x scope receiver how source parse_faults.TooDeep result new none memory makes = refused s x scope receiver how source result new none makes

@@ -70,6 +70,7 @@ abbrev pub condition_holds : Standing → Workspace → Option (List ℕ) → Bo
 condition_holds s w None = true
 condition_holds s w (Some source) = holds s w source
 
+-- a breakpoint without a condition, or with one that holds
 abbrev pub is_met : Standing → Workspace → Breakpoint → Bool
 is_met s w b = condition_holds s w b.condition
 

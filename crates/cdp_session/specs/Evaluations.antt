@@ -1,6 +1,6 @@
 -- What an evaluation does to its session, and what it is answered with (Chrome DevTools Protocol 1.3, `Runtime.evaluate` and
 -- `Debugger.evaluateOnCallFrame`).
-use Rattle.std.specs.Prelude.{ℕ, pos, ◌+◌, Bool, true, false, not, is_some, List, [], ◌∷◌, ◌++◌, bytes_eq, codes, if◌then◌else◌, Option, Some, None}
+use Rattle.std.specs.Prelude.{ℕ, pos, ◌+◌, Bool, true, false, not, is_some, List, [], ◌∷◌, ◌++◌, bytes_eq, codes, if◌then◌else◌, ◌&&◌, Option, Some, None, option_map}
 use Rattle.js_heap.specs.declared.value.Addr.{Addr}
 use Rattle.js_heap.specs.declared.value.Addr.TheVariants.{Scratch}
 use Rattle.js_heap.specs.declared.value.Value.{Value}
@@ -15,8 +15,9 @@ use Rattle.js_semantics.specs.Evaluation.{Answer, a_result, a_throw, an_effect, 
 use Rattle.js_semantics.specs.Literals.{expression_literals}
 use Rattle.js_semantics.specs.Makers.{Made as Source}
 use Rattle.js_numbered.specs.Numbered.{numbered_made}
-use Rattle.js_world.specs.Overlays.{space_after}
+use Rattle.js_world.specs.Overlays.{Over, over_world, space_after}
 use Rattle.js_parser.specs.Expressions.{expression_of}
+use Rattle.js_parser.specs.NodeTexts.{node_text}
 use Rattle.pure_eval.specs.declared.evaluated.Evaluated.{Evaluated}
 use Rattle.pure_eval.specs.declared.evaluated.Evaluated.TheVariants as ends
 use Rattle.pure_eval.specs.Workspaces.{with_evaluated}
@@ -31,11 +32,17 @@ use Rattle.cdp_json.specs.declared.refusal.Refusal.TheVariants as refusals
 use Rattle.cdp_json.specs.declared.refusal.ScratchLimit.TheVariants as limits
 use Rattle.remote_objects.specs.Ids.{frame_id}
 use Rattle.remote_objects.specs.Making.{Made}
-use Rattle.remote_objects.specs.Remote.{remote}
+use Rattle.remote_objects.specs.ByValue.{remote_by_value}
+use Rattle.remote_objects.specs.Remote.{remote_with}
+use Rattle.remote_objects.specs.declared.detail.Detail.{Detail}
+use Rattle.remote_objects.specs.declared.detail.Detail.TheVariants as previews
 use Rattle.remote_objects.specs.Sights.{Sight}
+use Rattle.remote_objects.specs.Views as views
+use Rattle.remote_objects.specs.declared.describer.Describer.{Describer}
 use Rattle.remote_objects.specs.Values.{object_pairs, subtyped, undefined_pairs}
 use Rattle.cdp_session.specs.Sessions.{Session, with_handles, with_workspace, with_exception}
 use Rattle.cdp_session.specs.Situations.{Situation}
+use Rattle.cdp_session.specs.declared.showing.Showing.{Showing}
 use Rattle.cdp_session.specs.declared.situation.Pause.{Pause}
 
 -- ---- results
@@ -53,6 +60,7 @@ details exception id shown = object_of (
     ∷ (codes "lineNumber", number (pos 0))
     ∷ (codes "text", text shown) ∷ [])
 
+-- the result that says what went wrong, beside the value that stands for it
 abbrev pub details_result : Json → Json → Json
 details_result says described = object_of ((codes "exceptionDetails", says) ∷ (codes "result", described) ∷ [])
 
@@ -69,6 +77,15 @@ abbrev pub syntax_result : ℕ → Json
 syntax_result id = details_result (details [] id (codes "Uncaught SyntaxError: Unexpected token")) (object_of undefined_pairs)
 
 -- ---- what is kept
+
+-- whether objects are described with previews
+abbrev pub detail_of : Bool → Detail
+detail_of true = previews.Previewed
+detail_of false = previews.Plain
+
+-- how the value of an evaluation is to be described
+abbrev pub showing_of : Evaluation → Showing
+showing_of ev = record { group = ev.object_group; by_value = ev.return_by_value; detail = detail_of ev.generate_preview }
 
 -- whether a reply that describes a value makes a handle on a cell of the session's: on an object there, unless as many handles
 -- are held as may be
@@ -93,31 +110,58 @@ pub data Evaluates : Type 0 where
   Stops : Refusal → Evaluates
   Answers : Json → Session → Evaluates
 
--- what values are described to the session by: the program's cells, and these of its evaluations
+-- what values are described to the session by: the program's cells, and these of its evaluations, whose functions are parts of
+-- the texts that were evaluated
 abbrev pub sight_with : Situation → Session → ScratchSpace → Sight
-sight_with s x scratch = record { world = copied_world s.standing.world scratch; scripts = s.scripts; session = x.number }
+sight_with s x scratch = record { node_text = node_text; world = copied_world s.standing.world scratch; scripts = s.scripts; session = x.number }
 
--- a value to which an evaluation came in a world, as it is described; its handle is in this group or in none
-abbrev pub described : Situation → Session → Option (List ℕ) → Value → World → Made Json
-described s x group v w = remote (sight_with s x (space_after w)) group v x.handles
+-- the same as it is lent
+abbrev pub described_over : {S : Type 0} → Describer Over S → Sight
+described_over d = views.sight_of node_text (over_world d.names.now d.world.now) d.scripts.now d.session
 
--- the session behind that description
-abbrev pub behind_described : Situation → Session → Option (List ℕ) → Source → Value → World → Session
-behind_described s x group e v w = with_handles (described s x group v w).handles (kept_by (holds_on v x.handles) e w x)
+-- by value it has no handle
+abbrev pub without_handle : handles.State → Json → Made Json
+without_handle h j = record { made = j; handles = h }
+
+-- A value as it is described: by value, where it may be too long, or else with a handle in a group or in none.
+abbrev pub described_as : Sight → Showing → Value → handles.State → Option (Made Json)
+described_as sight how v h =
+    if how.by_value then option_map (without_handle h) (remote_by_value sight v) else Some (remote_with sight how.detail how.group v h)
+
+-- a value to which an evaluation came in a world
+abbrev pub described : Situation → Session → Showing → Value → World → Option (Made Json)
+described s x how v w = described_as (sight_with s x (space_after w)) how v x.handles
+
+-- whether a description that is asked for so makes a handle on a cell of the session's
+abbrev pub keeps : Showing → Value → handles.State → Bool
+keeps how v h = not how.by_value && holds_on v h
+
+-- the session behind an evaluation to this value, but for its handles
+abbrev pub behind_value : Session → Showing → Source → Value → World → Session
+behind_value x how e v w = kept_by (keeps how v x.handles) e w x
+
+-- the answer that has what was described; what is too long is refused
+abbrev pub answered_by : (Json → Json) → (Session → Session) → Session → Option (Made Json) → Evaluates
+answered_by result leaves x None = Stops refusals.ReferenceChainTooLong
+answered_by result leaves x (Some m) = Answers (result m.made) (leaves (with_handles m.handles x))
 
 -- the limit that a full scratch names
 abbrev pub limit_of : Counted → Refusal
 limit_of counted.Cells = refusals.ScratchFull scratch_room.cells limits.Cells
 limit_of counted.Units = refusals.ScratchFull scratch_room.units limits.Units
 
+-- the session is as it is
+abbrev pub as_it_is : Session → Session
+as_it_is x = x
+
 -- by what an evaluation answered
-abbrev pub outcome_of_answer : Situation → Session → Option (List ℕ) → Source → Answer → Evaluates
-outcome_of_answer s x group e (a_result v w) = Answers (value_result (described s x group v w).made) (behind_described s x group e v w)
-outcome_of_answer s x group e (a_throw v w) =
-    Answers (thrown_result (with_exception x).exceptions (described s x group v w).made) (with_exception (behind_described s x group e v w))
-outcome_of_answer s x group e an_effect = Answers (thrown_result (with_exception x).exceptions effect_object) (with_exception x)
-outcome_of_answer s x group e (is_full_of what) = Stops (limit_of what)
-outcome_of_answer s x group e spent = Stops refusals.BudgetSpent
+abbrev pub outcome_of_answer : Situation → Session → Showing → Source → Answer → Evaluates
+outcome_of_answer s x how e (a_result v w) = answered_by value_result as_it_is (behind_value x how e v w) (described s x how v w)
+outcome_of_answer s x how e (a_throw v w) =
+    answered_by (thrown_result (with_exception x).exceptions) with_exception (behind_value x how e v w) (described s x how v w)
+outcome_of_answer s x how e an_effect = Answers (thrown_result (with_exception x).exceptions effect_object) (with_exception x)
+outcome_of_answer s x how e (is_full_of what) = Stops (limit_of what)
+outcome_of_answer s x how e spent = Stops refusals.BudgetSpent
 
 -- the answer of the evaluation of a text, which is an expression of this tree, in a scope with a `this`
 abbrev pub answer_in : Situation → Session → Addr → Value → List ℕ → Expression → Answer
@@ -129,14 +173,14 @@ abbrev pub no_expression : Session → Evaluates
 no_expression x = Answers (syntax_result (with_exception x).exceptions) (with_exception x)
 
 -- of a text, by its tree, if it has one
-abbrev pub outcome_of_tree : Situation → Session → Addr → Value → Option (List ℕ) → List ℕ → Option Expression → Evaluates
-outcome_of_tree s x scope receiver group source None = no_expression x
-outcome_of_tree s x scope receiver group source (Some e) = outcome_of_answer s x group (numbered_made e) (answer_in s x scope receiver source e)
+abbrev pub outcome_of_tree : Situation → Session → Addr → Value → Showing → List ℕ → Option Expression → Evaluates
+outcome_of_tree s x scope receiver how source None = no_expression x
+outcome_of_tree s x scope receiver how source (Some e) = outcome_of_answer s x how (numbered_made e) (answer_in s x scope receiver source e)
 
 -- an evaluation is asked to have no effect, or it is refused
 abbrev pub evaluates_in : Situation → Session → Addr → Value → Evaluation → Evaluates
 evaluates_in s x scope receiver ev =
-    if ev.throw_on_side_effect then outcome_of_tree s x scope receiver ev.object_group ev.expression (expression_of ev.expression)
+    if ev.throw_on_side_effect then outcome_of_tree s x scope receiver (showing_of ev) ev.expression (expression_of ev.expression)
     else Stops refusals.NeedsNoSideEffect
 
 -- in the scope of the scripts
@@ -160,6 +204,7 @@ abbrev pub frame_of : Situation → Session → Option Pause → List ℕ → Op
 frame_of s x None id = None
 frame_of s x (Some p) id = frame_from x.number p.number id 0 s.standing.frames
 
+-- in a frame, if the session knows one by that id
 abbrev pub evaluates_at : Situation → Session → Option ShownFrame → Evaluation → Evaluates
 evaluates_at s x None ev = Stops refusals.UnknownFrame
 evaluates_at s x (Some f) ev = evaluates_in s x (innermost f.scopes) f.receiver ev

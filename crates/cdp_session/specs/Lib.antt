@@ -1,9 +1,11 @@
 pub mod Situations
 pub mod Sessions
 pub mod Results
+pub mod Scripts
 pub mod Pauses
 pub mod Objects
 pub mod Evaluations
+pub mod Calls
 pub mod Conditions
 pub mod Stops
 pub mod Rows

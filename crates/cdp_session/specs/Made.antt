@@ -1,22 +1,28 @@
 -- What the code makes of a command's method, as a row.
-use Rattle.std.specs.Prelude.{◌≡◌, ℕ, List, ◌∷◌, map, string_bytes, option_to_list, Result, Ok, Err}
+use Rattle.std.specs.Prelude.{◌≡◌, ℕ, List, ◌∷◌, ◌++◌, map, string_bytes, option_to_list, Option, Some, None, Result, Ok, Err}
 use Rattle.cdp_json.specs.Messages.{result_text}
 use Rattle.cdp_json.specs.Views.{json_view}
 use Rattle.cdp_session.specs.declared.done.Done.{Done as Held}
 use Rattle.cdp_session.specs.declared.done.Fault.{Fault}
 use Rattle.cdp_session.specs.declared.done.Fault.TheVariants as faults
-use Rattle.cdp_session.specs.Sessions.{Session}
+use Rattle.cdp_json.specs.Json.{Json}
+use Rattle.cdp_json.specs.declared.value.Json.{Json as HeldJson}
+use Rattle.cdp_json.specs.declared.refusal.Refusal.TheVariants as refusals
+use Rattle.remote_objects.specs.Making.{Made as Described}
+use Rattle.remote_objects.specs.declared.by_value.ByValueFault.{ByValueFault}
+use Rattle.remote_objects.specs.declared.by_value.ByValueFault.TheVariants as values
+use Rattle.cdp_session.specs.Sessions.{Session, with_handles}
 use Rattle.breakpoints.specs.declared.fault.AddFault.{AddFault}
 use Rattle.breakpoints.specs.declared.fault.AddFault.TheVariants as adds
 use Rattle.cdp_session.specs.Rows.{Done, Row, Refuses, Does, refusal_for}
 
 -- what is done, with the session that it leaves
 abbrev pub done_of : Held → Session → Done
-done_of d x = record { session = x; result = json_view d.answer; events = map string_bytes (option_to_list d.event); asks = d.asks }
+done_of d x = record { session = x; before = map string_bytes d.before.items; result = json_view d.answer; events = map string_bytes (option_to_list d.event); asks = d.asks }
 
--- the reply to a command of this id that is done, and its event
+-- the texts of a command of this id that is done
 abbrev pub done_texts : ℕ → Held → List (List ℕ)
-done_texts id d = result_text id (json_view d.answer) ∷ map string_bytes (option_to_list d.event)
+done_texts id d = map string_bytes d.before.items ++ result_text id (json_view d.answer) ∷ map string_bytes (option_to_list d.event)
 
 -- the row is this result, with the session that it leaves; want of memory says nothing
 abbrev pub Makes : Result Held Fault → Session → Row → Type 0
@@ -24,8 +30,8 @@ Makes (Ok d) new r = r ≡ Does (done_of d new)
 Makes (Err (faults.Refused q)) new r = r ≡ Refuses q
 Makes (Err faults.Memory) new r = Unit {0}
 
--- a refused method leaves what it acts on as it was
-abbrev pub KeepsIfRefused : {S : Type 0} → Result Held Fault → S → S → Type 0
+-- what is refused leaves what it acts on as it was
+abbrev pub KeepsIfRefused : {A S : Type 0} → Result A Fault → S → S → Type 0
 KeepsIfRefused (Ok d) old new = Unit {0}
 KeepsIfRefused (Err (faults.Refused q)) old new = new ≡ old
 KeepsIfRefused (Err faults.Memory) old new = Unit {0}
@@ -34,3 +40,20 @@ KeepsIfRefused (Err faults.Memory) old new = Unit {0}
 abbrev pub made_fault : AddFault → Fault
 made_fault adds.Memory = faults.Memory
 made_fault fault = faults.Refused (refusal_for fault)
+
+-- the fault of a command whose value isn't given by value
+abbrev pub fault_by_value : ByValueFault → Fault
+fault_by_value values.TooLong = faults.Refused refusals.ReferenceChainTooLong
+fault_by_value values.Memory = faults.Memory
+
+-- a value is given by value; what is too long is refused, and want of memory says nothing
+abbrev pub GivesValue : Result HeldJson Fault → Option Json → Type 0
+GivesValue (Ok j) o = o ≡ Some (json_view j)
+GivesValue (Err (faults.Refused q)) o = (o ≡ None) × (q ≡ refusals.ReferenceChainTooLong)
+GivesValue (Err faults.Memory) o = Unit {0}
+
+-- a value is described so, and this session has the handles behind it; what is too long is refused, and want of memory says nothing
+abbrev pub Describes : Result HeldJson Fault → Session → Session → Option (Described Json) → Type 0
+Describes (Ok j) new x o = (o ≡ Some (record { made = json_view j; handles = new.handles })) × (new ≡ with_handles new.handles x)
+Describes (Err (faults.Refused q)) new x o = (o ≡ None) × (q ≡ refusals.ReferenceChainTooLong)
+Describes (Err faults.Memory) new x o = Unit {0}

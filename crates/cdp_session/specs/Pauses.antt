@@ -13,6 +13,7 @@ use Rattle.remote_objects.specs.Sights.{Sight}
 use Rattle.remote_objects.specs.Views as views
 use Rattle.remote_objects.specs.declared.describer.Describer.{Describer}
 use Rattle.js_world.specs.Heaps.{Heap, heap_world}
+use Rattle.js_parser.specs.NodeTexts.{node_text}
 use Rattle.cdp_session.specs.Results.{paused_text}
 use Rattle.cdp_session.specs.Sessions.{Session}
 use Rattle.cdp_session.specs.Situations.{Situation}
@@ -20,12 +21,13 @@ use Rattle.cdp_session.specs.declared.situation.Pause.{Pause}
 
 -- what the values of the program are described to a session by
 abbrev pub sight_for : Situation → ℕ → Sight
-sight_for s number = record { world = s.standing.world; scripts = s.scripts; session = number }
+sight_for s number = record { node_text = node_text; world = s.standing.world; scripts = s.scripts; session = number }
 
 -- the same as it is lent
-abbrev pub described_by : Describer Heap → Sight
-described_by d = views.sight_of (heap_world d.names.now d.world.now) d.scripts.now d.session
+abbrev pub described_by : {S : Type 0} → Describer Heap S → Sight
+described_by d = views.sight_of node_text (heap_world d.names.now d.world.now) d.scripts.now d.session
 
+-- what they are described to this session by
 abbrev pub sight_of : Situation → Session → Sight
 sight_of s x = sight_for s x.number
 
@@ -48,6 +50,7 @@ data_made sight (Some v) h = record { made = (codes "data", (remote sight (Some 
 abbrev pub frames_told : Situation → ℕ → Session → Made (List Json)
 frames_told s number x = frames_made (sight_of s x) number s.standing.frames x.handles
 
+-- behind the frames, the member with the value that was thrown
 abbrev pub data_told : Situation → ℕ → Option Cause → Session → Made (List Pair)
 data_told s number cause x = data_made (sight_of s x) (value_told cause s.standing.thrown) (frames_told s number x).handles
 

@@ -1,5 +1,5 @@
 -- How a session answers a text (JSON-RPC 2.0, section 5).
-use Rattle.std.specs.Prelude.{ℕ, List, [], ◌∷◌, Bool, true, false, not, ◌&&◌, is_some, if◌then◌else◌, Option, Some, None}
+use Rattle.std.specs.Prelude.{ℕ, List, [], ◌∷◌, ◌++◌, Bool, true, false, not, ◌&&◌, is_some, if◌then◌else◌, Option, Some, None}
 use Rattle.std.specs.Option.{option_map_or}
 use Rattle.serde_json.specs.Read.{read}
 use Rattle.cdp_json.specs.Commands.{reading_of}
@@ -22,10 +22,15 @@ use Rattle.cdp_session.specs.declared.asks.Asks.TheVariants.{Nothing}
 abbrev pub wants_enabled : Params → Bool
 wants_enabled params.DebuggerEnable = false
 wants_enabled params.DebuggerDisable = false
-wants_enabled (params.GetProperties id) = false
+wants_enabled (params.GetProperties id own preview) = false
 wants_enabled (params.ReleaseObject id) = false
 wants_enabled (params.ReleaseObjectGroup group) = false
 wants_enabled (params.Evaluate evaluation) = false
+wants_enabled (params.CallFunctionOn call) = false
+wants_enabled params.RuntimeEnable = false
+wants_enabled params.RuntimeDisable = false
+wants_enabled params.GlobalLexicalScopeNames = false
+wants_enabled params.RunIfWaitingForDebugger = false
 wants_enabled other = true
 
 -- these want the program paused
@@ -55,6 +60,7 @@ pub data Outcome : Type 0 where
   IsRefused : Option ℕ → Refusal → Outcome
   IsDone : ℕ → Done → Outcome
 
+-- what becomes of a command of this id, by its row
 abbrev pub outcome_by : ℕ → Row → Outcome
 outcome_by id (Refuses refusal) = IsRefused (Some id) refusal
 outcome_by id (Does done) = IsDone id done
@@ -69,6 +75,10 @@ outcome_for s x readings.Memory = IsRefused None refusals.NotJson
 abbrev pub outcome_of : Situation → Session → List ℕ → Outcome
 outcome_of s x text = outcome_for s x (reading_of (read text))
 
+-- the texts of a command of this id that is done: its events before the reply, the reply, and those behind it
+abbrev pub texts_of : ℕ → Done → List (List ℕ)
+texts_of id done = done.before ++ result_text id done.result ∷ done.events
+
 -- a session behind a text, and what the text asks of the program
 pub record Answer : Type 0 where
   pub session : Session
@@ -77,12 +87,12 @@ pub record Answer : Type 0 where
 -- a refused command changes only the texts that wait
 abbrev pub answer_by : Session → Outcome → Answer
 answer_by x (IsRefused id refusal) = record { session = sent (refusal_text id refusal ∷ []) x; asks = Nothing }
-answer_by x (IsDone id done) = record { session = sent (result_text id done.result ∷ done.events) done.session; asks = done.asks }
+answer_by x (IsDone id done) = record { session = sent (texts_of id done) done.session; asks = done.asks }
 
 -- the texts of the answer: a refusal, or the reply with its events
 abbrev pub answer_texts : Outcome → List (List ℕ)
 answer_texts (IsRefused id refusal) = refusal_text id refusal ∷ []
-answer_texts (IsDone id done) = result_text id done.result ∷ done.events
+answer_texts (IsDone id done) = texts_of id done
 
 -- the answer to a text
 abbrev pub answer_of : Situation → Session → List ℕ → Answer

@@ -1,7 +1,7 @@
 -- The JSON values of results and events (Chrome DevTools Protocol 1.3, domains Debugger and Runtime).
-use Rattle.std.specs.Prelude.{ℕ, List, [], ◌∷◌, ◌++◌, map, codes, Option, Some, None}
+use Rattle.std.specs.Prelude.{ℕ, pos, List, [], ◌∷◌, ◌++◌, map, codes, Option, Some, None}
 use Rattle.cdp_text.specs.declared.position.Place.{Place}
-use Rattle.cdp_json.specs.Json.{Json, text}
+use Rattle.cdp_json.specs.Json.{Json, number, text}
 use Rattle.cdp_json.specs.Parts.{Pair, object_of, list_of, nothing, place_pairs, location}
 use Rattle.cdp_json.specs.Messages.{event_text}
 use Rattle.locations.specs.declared.spot.Spot.{Spot}
@@ -27,6 +27,7 @@ abbrev pub name_pairs : Option (List ℕ) → List Pair
 name_pairs None = []
 name_pairs (Some name) = (codes "type", text name) ∷ []
 
+-- the member `type` of a break location of this kind
 abbrev pub kind_pairs : SpotKind → List Pair
 kind_pairs kind = name_pairs (kind_name kind)
 
@@ -50,6 +51,7 @@ set_at id place = object_of ((codes "actualLocation", location place) ∷ (codes
 
 -- ---- sources
 
+-- the result that has the source of a script
 abbrev pub script_source : List ℕ → Json
 script_source source = object_of ((codes "scriptSource", text source) ∷ [])
 
@@ -59,7 +61,19 @@ script_source source = object_of ((codes "scriptSource", text source) ∷ [])
 abbrev pub properties : List Json → Json
 properties values = object_of ((codes "result", list_of values) ∷ [])
 
+-- the names that scripts have declared, in order
+abbrev pub declared_names : List (List ℕ) → Json
+declared_names names = object_of ((codes "names", list_of (map text names)) ∷ [])
+
 -- ---- events
+
+-- the only context, in which the scripts run
+abbrev pub context : Json
+context = object_of ((codes "id", number (pos 1)) ∷ (codes "name", text (codes "debug_host")) ∷ (codes "origin", text []) ∷ [])
+
+-- the event that tells of it
+abbrev pub context_created_text : List ℕ
+context_created_text = event_text (codes "Runtime.executionContextCreated") (object_of ((codes "context", context) ∷ []))
 
 -- The program stopped: its frames from the top one outward, the value that was thrown, where the session is told of one, the ids
 -- of the breakpoints that it hit, and why.
@@ -67,6 +81,7 @@ abbrev pub paused_params : List Json → List Pair → List (List ℕ) → List 
 paused_params frames thrown hits reason =
     object_of ((codes "callFrames", list_of frames) ∷ (thrown ++ ((codes "hitBreakpoints", list_of (map text hits)) ∷ (codes "reason", text reason) ∷ [])))
 
+-- the event that says so
 abbrev pub paused_text : List Json → List Pair → List (List ℕ) → List ℕ → List ℕ
 paused_text frames thrown hits reason = event_text (codes "Debugger.paused") (paused_params frames thrown hits reason)
 

@@ -1,5 +1,5 @@
 -- What a session keeps.
-use Rattle.std.specs.Prelude.{ℕ, ◌+◌, ◌^◌, nat_lt, List, [], ◌∷◌, ◌++◌, Bool, not, ◌||◌, if◌then◌else◌}
+use Rattle.std.specs.Prelude.{ℕ, ◌+◌, ◌^◌, nat_lt, List, [], ◌∷◌, ◌++◌, Bool, false, not, ◌||◌, if◌then◌else◌}
 use Rattle.std.specs.List.{list_any}
 use Rattle.stepping.specs.declared.rules.Rules.{Rules}
 use Rattle.stepping.specs.Rules.{no_rules}
@@ -10,11 +10,12 @@ use Rattle.object_groups.specs.Handles.{is_on_scratch, none_made, without_group}
 use Rattle.pure_eval.specs.Workspaces.{Workspace, begun, emptied_workspace}
 use Rattle.remote_objects.specs.CallFrames.{backtrace}
 
--- its number, what it asks for, its breakpoints, the objects that it holds, what its evaluations made and kept, how many
--- exceptions it was told of, and the texts that wait for it
+-- its number, what it asks for, whether it has the domain Runtime enabled, its breakpoints, the objects that it holds, what its
+-- evaluations made and kept, how many exceptions it was told of, and the texts that wait for it
 pub record Session : Type 0 where
   pub number : ℕ
   pub rules : Rules
+  pub runtime : Bool
   pub breakpoints : breakpoints.State
   pub handles : handles.State
   pub workspace : Workspace
@@ -23,7 +24,7 @@ pub record Session : Type 0 where
 
 -- one of this number that was attached just now, whose evaluations begin with this
 abbrev pub fresh : ℕ → Workspace → Session
-fresh number workspace = record { number = number; rules = no_rules; breakpoints = none_set; handles = none_made; workspace = workspace; exceptions = 0; outbox = [] }
+fresh number workspace = record { number = number; rules = no_rules; runtime = false; breakpoints = none_set; handles = none_made; workspace = workspace; exceptions = 0; outbox = [] }
 
 -- with texts behind those that wait
 abbrev pub sent : List (List ℕ) → Session → Session
@@ -37,6 +38,11 @@ emptied x = record x { outbox = [] }
 abbrev pub with_rules : Rules → Session → Session
 with_rules r x = record x { rules = r }
 
+-- with the domain Runtime enabled, or not
+abbrev pub with_runtime : Bool → Session → Session
+with_runtime b x = record x { runtime = b }
+
+-- with other breakpoints
 abbrev pub with_breakpoints : breakpoints.State → Session → Session
 with_breakpoints b x = record x { breakpoints = b }
 

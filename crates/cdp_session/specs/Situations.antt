@@ -1,5 +1,5 @@
 -- What a session sees of the program.
-use Rattle.std.specs.Prelude.{◌≡◌, ℕ, List, [], ◌∷◌, map, Option, Some, None, bytes_eq, decimal, if◌then◌else◌}
+use Rattle.std.specs.Prelude.{◌≡◌, ℕ, Bool, List, [], ◌∷◌, map, Option, Some, None, bytes_eq, decimal, if◌then◌else◌}
 use Rattle.js_heap.specs.World.{World}
 use Rattle.js_heap.specs.declared.value.Value.{Value}
 use Rattle.js_tree.specs.declared.script.Script.{Script}
@@ -8,11 +8,13 @@ use Rattle.call_frames.specs.Frames.{ShownFrame}
 use Rattle.cdp_session.specs.declared.situation.Pause.{Pause}
 use Rattle.cdp_session.specs.declared.situation.Situation.{Situation as Held}
 
--- how it stands: its cells, its active frames from the top one outward, and the value of a throw that stands, if one does
+-- how it stands: its cells, its active frames from the top one outward, the value of a throw that stands, if one does, and
+-- whether its run has ended
 pub record Standing : Type 0 where
   pub world : World
   pub frames : List ShownFrame
   pub thrown : Option Value
+  pub over : Bool
 
 -- its scripts, where it is paused, if it is, and how it stands
 pub record Situation : Type 0 where

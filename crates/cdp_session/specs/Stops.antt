@@ -51,6 +51,7 @@ stop_told s number a x = pause_told s number (hit_ids s.standing a x) (cause_of 
 abbrev pub stop_texts : Situation → ℕ → Arrival → Session → List (List ℕ)
 stop_texts s number a x = if_enabled x (stop_told s number a x).made
 
+-- the objects that it holds behind that
 abbrev pub stop_handles : Situation → ℕ → Arrival → Session → handles.State
 stop_handles s number a x = if x.rules.enabled then (stop_told s number a x).handles else x.handles
 

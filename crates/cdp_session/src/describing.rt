@@ -2,63 +2,96 @@
 
 ghost use Rattle.std.specs.Prelude.{◌≡◌, map, option_copied, IfOk, OnOk};
 ghost use Rattle.js_heap.specs.ScratchSpaces.{copied_world};
+ghost use Rattle.js_parser.specs.NodeTexts.{node_text};
 ghost use Rattle.cdp_json.specs.Views.{json_view};
-ghost use Rattle.remote_objects.specs.Descriptors.{descriptors};
-ghost use Rattle.remote_objects.specs.Remote.{remote};
+ghost use Rattle.remote_objects.specs.ByValue.{remote_by_value, Gives};
+ghost use Rattle.remote_objects.specs.Descriptors.{descriptors_with};
+ghost use Rattle.remote_objects.specs.Remote.{remote_with};
 ghost use Rattle.remote_objects.specs.Views.{sight_of};
+ghost use Rattle.cdp_session.specs.Evaluations.{described_over};
 
 use crate::objects::group_of;
+use crate::sources::EvaluatedTexts;
 use cdp_json::value::Json;
 use js_heap::value::Value;
 use js_tree::script::Script;
+use js_world::overlay::Overlay;
 use object_groups::{Handle, Handles};
 use pure_eval::workspace::Opened;
-use remote_objects::Describer;
+use remote_objects::{ByValueFault, Describer, Detail};
 use std::alloc::{AllocError, Global};
 
-/// The properties of an object that the session of this number holds. New handles are in its group, if it is in one.
+/// What values are described to the session of this number by: the program's cells, and those of its evaluations.
+fn describer_of<'o, 'b>(
+    alloc: Global,
+    opened: &'o Opened<'b>,
+    scripts: &'o [Script],
+    session: u64,
+    sources: &'o EvaluatedTexts,
+) -> Describer<'o, Overlay<'b>, EvaluatedTexts>
+    ensures { described_over result ≡ sight_of node_text (copied_world opened.now.world opened.now.behind.scratch) scripts.now session }
+{
+    let seen = opened.seen();
+    Describer {
+        alloc,
+        world: seen.world,
+        names: seen.names,
+        scripts,
+        session,
+        sources,
+    }
+}
+
+/// The properties of an object that the session of this number holds, with or without previews of their values. New handles
+/// are in its group, if it is in one.
 pub(crate) fn properties_of(
     alloc: Global,
     opened: &Opened<'_>,
     scripts: &[Script],
     session: u64,
     object: &Handle,
+    detail: Detail,
     handles: &mut Handles,
 ) -> Result<Vec<Json>, AllocError>
-    ensures made { IfOk result (λ values. map json_view values.items ≡ (descriptors (sight_of (copied_world opened.now.world opened.now.behind.scratch) scripts.now session) object.now.group object.now.target handles.old).made) }
-    ensures handles { OnOk result (handles.new ≡ (descriptors (sight_of (copied_world opened.now.world opened.now.behind.scratch) scripts.now session) object.now.group object.now.target handles.old).handles) }
+    ensures made { IfOk result (λ values. map json_view values.items ≡ (descriptors_with (sight_of node_text (copied_world opened.now.world opened.now.behind.scratch) scripts.now session) detail object.now.group object.now.target handles.old).made) }
+    ensures handles { OnOk result (handles.new ≡ (descriptors_with (sight_of node_text (copied_world opened.now.world opened.now.behind.scratch) scripts.now session) detail object.now.group object.now.target handles.old).handles) }
 {
-    let seen = opened.seen();
-    let describer = Describer {
-        alloc,
-        world: seen.world,
-        names: seen.names,
-        scripts,
-        session,
-    };
-    describer.descriptors(object.target, group_of(object), handles)
+    let sources = EvaluatedTexts;
+    let describer = describer_of(alloc, opened, scripts, session, &sources);
+    describer.descriptors_with(object.target, detail, group_of(object), handles)
 }
 
-/// A value to which an evaluation came, described to the session of this number. Its handle is in this group or in none.
+/// A value to which an evaluation came, described to the session of this number with or without a preview. Its handle is in
+/// this group or in none.
 pub(crate) fn value_of(
     alloc: Global,
     opened: &Opened<'_>,
     scripts: &[Script],
     session: u64,
     value: Value,
+    detail: Detail,
     group: Option<&[u16]>,
     handles: &mut Handles,
 ) -> Result<Json, AllocError>
-    ensures made { IfOk result (λ j. json_view j ≡ (remote (sight_of (copied_world opened.now.world opened.now.behind.scratch) scripts.now session) (option_copied group.entry) value handles.old).made) }
-    ensures handles { OnOk result (handles.new ≡ (remote (sight_of (copied_world opened.now.world opened.now.behind.scratch) scripts.now session) (option_copied group.entry) value handles.old).handles) }
+    ensures made { IfOk result (λ j. json_view j ≡ (remote_with (sight_of node_text (copied_world opened.now.world opened.now.behind.scratch) scripts.now session) detail (option_copied group.entry) value handles.old).made) }
+    ensures handles { OnOk result (handles.new ≡ (remote_with (sight_of node_text (copied_world opened.now.world opened.now.behind.scratch) scripts.now session) detail (option_copied group.entry) value handles.old).handles) }
 {
-    let seen = opened.seen();
-    let describer = Describer {
-        alloc,
-        world: seen.world,
-        names: seen.names,
-        scripts,
-        session,
-    };
-    describer.remote(value, handles, group)
+    let sources = EvaluatedTexts;
+    let describer = describer_of(alloc, opened, scripts, session, &sources);
+    describer.remote_with(value, detail, handles, group)
+}
+
+/// The same by value, without a handle.
+pub(crate) fn given_of(
+    alloc: Global,
+    opened: &Opened<'_>,
+    scripts: &[Script],
+    session: u64,
+    value: Value,
+) -> Result<Json, ByValueFault>
+    ensures { Gives json_view result (remote_by_value (sight_of node_text (copied_world opened.now.world opened.now.behind.scratch) scripts.now session) value) }
+{
+    let sources = EvaluatedTexts;
+    let describer = describer_of(alloc, opened, scripts, session, &sources);
+    describer.remote_by_value(value)
 }

@@ -1,16 +1,20 @@
 //! What comes of a command's method.
 
 ghost use Rattle.std.specs.Prelude.{◌≡◌};
+ghost use Rattle.cdp_session.specs.Made.{fault_by_value};
 ghost use Rattle.cdp_session.specs.declared.done.Fault.TheVariants.{Memory};
 
 use crate::asks::Asks;
 use cdp_json::refusal::Refusal;
 use cdp_json::value::Json;
+use remote_objects::ByValueFault;
 use std::alloc::AllocError;
 
 /// What a method that is done leaves beside its session.
 #[derive(Drop)]
 pub(crate) struct Done {
+    /// The events before the reply, in order.
+    pub(crate) before: Vec<String>,
     pub(crate) answer: Json,
     /// The event behind the reply, if there is one.
     pub(crate) event: Option<String>,
@@ -29,5 +33,16 @@ impl From<AllocError> for Fault {
 
     fn from(_e: AllocError) -> Fault {
         Fault::Memory
+    }
+}
+
+impl From<ByValueFault> for Fault {
+    ghost from_gives = { λ fault e. e ≡ fault_by_value fault };
+
+    fn from(fault: ByValueFault) -> Fault {
+        match fault {
+            ByValueFault::TooLong => Fault::Refused(Refusal::ReferenceChainTooLong),
+            ByValueFault::Memory => Fault::Memory,
+        }
     }
 }

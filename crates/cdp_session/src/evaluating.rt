@@ -12,20 +12,23 @@ ghost use Rattle.js_heap.specs.ScratchSpaces.{copied_world};
 ghost use Rattle.pure_eval.specs.Workspaces.{opened as just_opened, EvaluatesTo};
 ghost use Rattle.remote_objects.specs.Views.{sight_of};
 ghost use Rattle.remote_objects.specs.Ids as ids;
-ghost use Rattle.remote_objects.specs.Remote.{remote};
+ghost use Rattle.js_parser.specs.Expressions.{expression_of};
+ghost use Rattle.js_parser.specs.NodeTexts.{node_text};
+ghost use Rattle.remote_objects.specs.ByValue.{remote_by_value};
 ghost use Rattle.cdp_session.specs.Sessions.{no_workspace, with_handles, with_workspace};
 ghost use Rattle.cdp_json.specs.Views.{json_view};
 ghost use Rattle.cdp_session.specs.Evaluations as evaluations;
-ghost use Rattle.cdp_session.specs.Made.{KeepsIfRefused, Makes};
+ghost use Rattle.cdp_session.specs.Made.{Describes, GivesValue, KeepsIfRefused, Makes};
 ghost use Rattle.cdp_session.specs.Rows.{row_of};
 ghost use Rattle.cdp_session.specs.Situations.{seen, Situation as Seen};
 
-use crate::describing::value_of;
+use crate::describing::{given_of, value_of};
 use crate::done::{Done, Fault};
 use crate::exceptions::{effect_object, syntax_result, thrown_result, value_result};
 use crate::program::Program;
 use crate::rows::answering;
 use crate::session::Session;
+use crate::showing::{Showing, detail_of};
 use crate::situation::Situation;
 use call_frames::{CallFrame, Scope};
 use cdp_json::params::Evaluation as Asked;
@@ -94,7 +97,7 @@ fn kept_or_forgotten(keeps: bool, opened: Opened<'_>) -> Workspace
 }
 
 /// Whether there was no memory for an evaluation.
-fn is_memory(end: Evaluated) -> bool
+pub(crate) fn is_memory(end: Evaluated) -> bool
     ensures { result ≡ evaluations.is_memory end }
 {
     match end {
@@ -225,20 +228,43 @@ impl Session {
         if !asked.throw_on_side_effect {
             return Err(Fault::Refused(Refusal::NeedsNoSideEffect));
         }
-        match parse_expression(self.alloc, asked.expression.as_slice()) {
-            Ok(expression) => self.evaluate_expression(
-                situation,
-                scope,
-                receiver,
-                &asked.object_group,
-                &expression,
-            ),
+        let Asked {
+            expression,
+            object_group,
+            return_by_value,
+            generate_preview,
+            ..
+        } = asked;
+        let showing = Showing {
+            group: object_group,
+            by_value: return_by_value,
+            detail: detail_of(generate_preview),
+        };
+        self.evaluate_text(situation, scope, receiver, &showing, &expression)
+    }
+
+    /// The evaluation of a text without effects.
+    fn evaluate_text<P: Program>(
+        &mut self,
+        situation: &Situation<'_, P>,
+        scope: Addr,
+        receiver: Value,
+        showing: &Showing,
+        source: &Units,
+    ) -> Result<Done, Fault>
+        ensures made { Makes result self.new (row_of (evaluations.outcome_of_tree (seen P.standing situation.now) self.old scope receiver showing.now source.now (expression_of source.now))) }
+        ensures kept { KeepsIfRefused result self.old self.new }
+    {
+        match parse_expression(self.alloc, source.as_slice()) {
+            Ok(expression) => {
+                self.evaluate_expression(situation, scope, receiver, showing, &expression)
+            }
             Err(fault) => self.refuse_text(fault),
         }
     }
 
     /// The answer to a text that the parser refuses.
-    fn refuse_text(&mut self, fault: ParseFault) -> Result<Done, Fault>
+    pub(crate) fn refuse_text(&mut self, fault: ParseFault) -> Result<Done, Fault>
         ensures made { Makes result self.new (row_of (evaluations.no_expression self.old)) }
         ensures memory { fault ≡ parse_faults.Memory → result ≡ Err faults.Memory }
         ensures kept { KeepsIfRefused result self.old self.new }
@@ -255,7 +281,8 @@ impl Session {
         ensures kept { KeepsIfRefused result self.old self.new }
     {
         let id = self.count_exception();
-        Ok(answering(syntax_result(self.alloc, id)?))
+        let answer = syntax_result(self.alloc, id)?;
+        Ok(answering(self.alloc, answer))
     }
 
     /// The evaluation of an expression in a scope with a `this`.
@@ -264,10 +291,10 @@ impl Session {
         situation: &Situation<'_, P>,
         scope: Addr,
         receiver: Value,
-        group: &Option<Units>,
+        showing: &Showing,
         expression: &Expression,
     ) -> Result<Done, Fault>
-        ensures made { Makes result self.new (row_of (evaluations.outcome_of_answer (seen P.standing situation.now) self.old group.now (expression_source expression.now.tree) (definition self.old.workspace.program (seen P.standing situation.now).standing.world self.old.workspace.scratch scope receiver expression.now))) }
+        ensures made { Makes result self.new (row_of (evaluations.outcome_of_answer (seen P.standing situation.now) self.old showing.now (expression_source expression.now.tree) (definition self.old.workspace.program (seen P.standing situation.now).standing.world self.old.workspace.scratch scope receiver expression.now))) }
         ensures kept { KeepsIfRefused result self.old self.new }
     {
         let mut opened = self.opened(situation)?;
@@ -277,7 +304,7 @@ impl Session {
         if is_memory(end) {
             return Err(Fault::Memory);
         }
-        self.answer_evaluation(situation.scripts, name_of(group), end, opened)
+        self.answer_evaluation(situation.scripts, showing, end, opened)
     }
 
     /// What the session's evaluations go on from, open over the cells of the program. Until it is put back the session has none.
@@ -292,31 +319,34 @@ impl Session {
     }
 
     /// The answer to an evaluation that ended so.
-    fn answer_evaluation(
+    pub(crate) fn answer_evaluation(
         &mut self,
         scripts: &[Script],
-        group: Option<&[u16]>,
+        showing: &Showing,
         end: Evaluated,
         opened: Opened<'_>,
     ) -> Result<Done, Fault>
-        ensures made { (s : Seen) (e : Source) (a : Answer) → s.scripts ≡ scripts.now → s.standing.world ≡ opened.entry.world → EvaluatesTo a e end (just_opened opened.entry.world opened.entry.before) opened.entry → Makes result self.new (row_of (evaluations.outcome_of_answer s (with_workspace opened.entry.before self.old) (option_copied group.entry) e a)) }
+        ensures made { (s : Seen) (e : Source) (a : Answer) → s.scripts ≡ scripts.now → s.standing.world ≡ opened.entry.world → EvaluatesTo a e end (just_opened opened.entry.world opened.entry.before) opened.entry → Makes result self.new (row_of (evaluations.outcome_of_answer s (with_workspace opened.entry.before self.old) showing.now e a)) }
         ensures kept { KeepsIfRefused result (with_workspace opened.entry.before self.old) self.new }
     {
         match end {
             Evaluated::Value(value) => {
-                let described = self.describe(scripts, value, group, opened)?;
-                Ok(answering(value_result(self.alloc, described)?))
+                let described = self.describe(scripts, value, showing, opened)?;
+                let answer = value_result(self.alloc, described)?;
+                Ok(answering(self.alloc, answer))
             }
             Evaluated::Thrown(value) => {
-                let described = self.describe(scripts, value, group, opened)?;
+                let described = self.describe(scripts, value, showing, opened)?;
                 let id = self.count_exception();
-                Ok(answering(thrown_result(self.alloc, id, described)?))
+                let answer = thrown_result(self.alloc, id, described)?;
+                Ok(answering(self.alloc, answer))
             }
             Evaluated::Effect => {
                 self.workspace = Some(opened.forget());
                 let id = self.count_exception();
                 let described = effect_object(self.alloc)?;
-                Ok(answering(thrown_result(self.alloc, id, described)?))
+                let answer = thrown_result(self.alloc, id, described)?;
+                Ok(answering(self.alloc, answer))
             }
             Evaluated::Full(what) => {
                 self.workspace = Some(opened.forget());
@@ -335,12 +365,15 @@ impl Session {
         &mut self,
         scripts: &[Script],
         value: Value,
-        group: Option<&[u16]>,
+        showing: &Showing,
         opened: Opened<'_>,
-    ) -> Result<Json, AllocError>
-        ensures described { IfOk result (λ j. json_view j ≡ (remote (sight_of (copied_world opened.entry.world opened.entry.behind.scratch) scripts.now self.old.number) (option_copied group.entry) value self.old.handles).made) }
-        ensures session { OnOk result (self.new ≡ with_handles (remote (sight_of (copied_world opened.entry.world opened.entry.behind.scratch) scripts.now self.old.number) (option_copied group.entry) value self.old.handles).handles (with_workspace (if evaluations.holds_on value self.old.handles then opened.entry.behind else opened.entry.before) self.old)) }
+    ) -> Result<Json, Fault>
+        ensures described { Describes result self.new (with_workspace (if evaluations.keeps showing.now value self.old.handles then opened.entry.behind else opened.entry.before) self.old) (evaluations.described_as (sight_of node_text (copied_world opened.entry.world opened.entry.behind.scratch) scripts.now self.old.number) showing.now value self.old.handles) }
+        ensures kept { KeepsIfRefused result (with_workspace opened.entry.before self.old) self.new }
     {
+        if showing.by_value {
+            return self.describe_by_value(scripts, value, opened);
+        }
         let holds = holds_on(value, &self.handles);
         let described = value_of(
             self.alloc,
@@ -348,10 +381,26 @@ impl Session {
             scripts,
             self.number,
             value,
-            group,
+            showing.detail,
+            name_of(&showing.group),
             &mut self.handles,
         )?;
         self.workspace = Some(kept_or_forgotten(holds, opened));
         Ok(described)
+    }
+
+    /// Describes the value to which an evaluation came by value, and keeps nothing of what the evaluation made.
+    fn describe_by_value(
+        &mut self,
+        scripts: &[Script],
+        value: Value,
+        opened: Opened<'_>,
+    ) -> Result<Json, Fault>
+        ensures given { GivesValue result (remote_by_value (sight_of node_text (copied_world opened.entry.world opened.entry.behind.scratch) scripts.now self.old.number) value) }
+        ensures session { self.new ≡ with_workspace opened.entry.before self.old }
+    {
+        let given = given_of(self.alloc, &opened, scripts, self.number, value);
+        self.workspace = Some(opened.forget());
+        Ok(given?)
     }
 }

@@ -1,4 +1,4 @@
-//! The events that a session is sent (Chrome DevTools Protocol 1.3, domain Debugger).
+//! The events that a session is sent (Chrome DevTools Protocol 1.3, domains Debugger and Runtime).
 
 ghost use Rattle.std.specs.Prelude.{◌≡◌, ◌++◌, ◌∷◌, [], map, IfOk, string_bytes, option_to_list};
 ghost use Rattle.cdp_json.specs.Json as json;
@@ -7,8 +7,8 @@ ghost use Rattle.cdp_json.specs.Views.{json_view, member_view};
 ghost use Rattle.cdp_session.specs.Results as results;
 
 use cdp_json::event_text;
-use cdp_json::parts::{ascii_text, member, nothing};
-use cdp_json::value::{Json, Member, list, object, text};
+use cdp_json::parts::{ascii_text, member, nothing, object_of_one};
+use cdp_json::value::{Json, Member, list, number, object, text};
 use cdp_text::units::Units;
 use std::alloc::{AllocError, Global};
 
@@ -78,4 +78,25 @@ pub(crate) fn resumed_text(alloc: Global) -> Result<String, AllocError>
     ensures { IfOk result (λ t. string_bytes t ≡ results.resumed_text) }
 {
     event_text(alloc, "Debugger.resumed", &nothing(alloc))
+}
+
+/// The only context, in which the scripts run (Chrome DevTools Protocol 1.3, `Runtime.ExecutionContextDescription`).
+fn context(alloc: Global) -> Result<Json, AllocError>
+    ensures { IfOk result (λ j. json_view j ≡ results.context) }
+{
+    let id = member(alloc, b"id", number(1))?;
+    let shown = ascii_text(alloc, b"debug_host")?;
+    let name = member(alloc, b"name", shown)?;
+    let nowhere = ascii_text(alloc, b"")?;
+    let origin = member(alloc, b"origin", nowhere)?;
+    Ok(object(vec![in alloc; id, name, origin]?))
+}
+
+/// The event `Runtime.executionContextCreated`.
+pub(crate) fn context_created_text(alloc: Global) -> Result<String, AllocError>
+    ensures { IfOk result (λ t. string_bytes t ≡ results.context_created_text) }
+{
+    let context = context(alloc)?;
+    let params = object_of_one(alloc, member(alloc, b"context", context)?)?;
+    event_text(alloc, "Runtime.executionContextCreated", &params)
 }

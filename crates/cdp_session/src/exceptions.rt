@@ -1,13 +1,13 @@
 //! The results of evaluations as JSON values (Chrome DevTools Protocol 1.3, `Runtime.ExceptionDetails`).
 
-ghost use Rattle.std.specs.Prelude.{◌≡◌, ◌≤◌, ◌^◌, ◌++◌, ◌∷◌, [], map, pos, IfOk, OnOk, option_to_list};
-ghost use Rattle.cdp_json.specs.Json as json;
+ghost use Rattle.std.specs.Prelude.{◌≡◌, ◌≤◌, ◌^◌, ◌++◌, ◌∷◌, [], map, IfOk, option_to_list};
 ghost use Rattle.cdp_json.specs.Views.{json_view, member_view};
 ghost use Rattle.cdp_session.specs.Evaluations as evaluations;
 
+use crate::members::{named, numbered};
 use cdp_json::copied;
-use cdp_json::parts::{ascii_text, member, object_of_one};
-use cdp_json::value::{Json, Member, number, object};
+use cdp_json::parts::{member, object_of_one};
+use cdp_json::value::{Json, Member, object};
 use std::alloc::{AllocError, Global};
 
 /// The result that has a value.
@@ -15,22 +15,6 @@ pub(crate) fn value_result(alloc: Global, described: Json) -> Result<Json, Alloc
     ensures { IfOk result (λ j. json_view j ≡ evaluations.value_result (json_view described)) }
 {
     object_of_one(alloc, member(alloc, b"result", described)?)
-}
-
-/// A member whose value is a number up to 2^62.
-fn numbered(alloc: Global, key: &[u8], value: u64) -> Result<Member, AllocError>
-    requires { value ≤ 2 ^ 62 }
-    ensures { IfOk result (λ m. member_view m ≡ (key.now, json.number (pos value))) }
-{
-    member(alloc, key, number(value as i64))
-}
-
-/// A member whose value is a text of ASCII.
-fn named(alloc: Global, key: &[u8], value: &[u8]) -> Result<Member, AllocError>
-    ensures { IfOk result (λ m. member_view m ≡ (key.now, json.text value.now)) }
-{
-    let value = ascii_text(alloc, value)?;
-    member(alloc, key, value)
 }
 
 /// The members of what went wrong: the exception that was described, if one was, stands behind the column.

@@ -5,6 +5,7 @@
 #![tactic(auto)]
 
 pub mod asks;
+mod calling;
 mod conditions;
 mod describing;
 mod done;
@@ -13,11 +14,15 @@ mod events;
 mod exceptions;
 mod finding;
 mod found;
+mod members;
 mod objects;
 mod pausing;
 pub mod program;
 mod refusing;
 mod results;
 mod rows;
+mod scripts;
 pub mod session;
+mod showing;
 pub mod situation;
+mod sources;

@@ -10,6 +10,7 @@ use crate::events::paused_text;
 use crate::program::Program;
 use crate::session::Session;
 use crate::situation::{Pause, Situation};
+use crate::sources::EvaluatedTexts;
 use cdp_json::parts::member;
 use cdp_json::value::{Json, Member};
 use cdp_text::units::Units;
@@ -42,7 +43,7 @@ fn value_told(cause: Option<Cause>, thrown: Option<Value>) -> Option<Value>
 
 /// The member that has a value that was thrown, if there is one.
 fn data_member(
-    describer: &Describer<'_, BaseHeap>,
+    describer: &Describer<'_, BaseHeap, EvaluatedTexts>,
     value: Option<Value>,
     handles: &mut Handles,
 ) -> Result<Option<Member>, AllocError>
@@ -59,11 +60,12 @@ fn data_member(
 }
 
 /// What values of the program are described to the session of this number by.
-pub(crate) fn describer<'p, P: Program>(
+pub(crate) fn describer<'d, P: Program>(
     alloc: Global,
-    situation: &Situation<'p, P>,
+    situation: &'d Situation<'_, P>,
     session: u64,
-) -> Describer<'p, BaseHeap>
+    sources: &'d EvaluatedTexts,
+) -> Describer<'d, BaseHeap, EvaluatedTexts>
     ensures { described_by result ≡ sight_for (seen P.standing situation.now) session }
 {
     let cells = situation.program.cells();
@@ -73,6 +75,7 @@ pub(crate) fn describer<'p, P: Program>(
         names: cells.names,
         scripts: situation.scripts,
         session,
+        sources,
     }
 }
 
@@ -87,7 +90,8 @@ impl Session {
         ensures held { OnOk result (self.new ≡ with_handles (frames_told (seen P.standing situation.now) number self.old).handles self.old) }
     {
         let frames = situation.program.call_frames(self.alloc)?;
-        let describer = describer(self.alloc, situation, self.number);
+        let sources = EvaluatedTexts;
+        let describer = describer(self.alloc, situation, self.number, &sources);
         describer.call_frames(number, frames.as_slice(), &mut self.handles)
     }
 
@@ -100,7 +104,8 @@ impl Session {
         ensures made { IfOk result (λ m. map member_view (option_to_list m) ≡ (data_made (sight_of (seen P.standing situation.now) self.old) (value_told cause (seen P.standing situation.now).standing.thrown) self.old.handles).made) }
         ensures held { OnOk result (self.new ≡ with_handles (data_made (sight_of (seen P.standing situation.now) self.old) (value_told cause (seen P.standing situation.now).standing.thrown) self.old.handles).handles self.old) }
     {
-        let describer = describer(self.alloc, situation, self.number);
+        let sources = EvaluatedTexts;
+        let describer = describer(self.alloc, situation, self.number, &sources);
         let value = value_told(cause, situation.program.thrown());
         data_member(&describer, value, &mut self.handles)
     }

@@ -2,7 +2,7 @@
 
 use call_frames::CallFrame;
 use js_heap::value::{Addr, Value};
-use js_tree::script::Expression;
+use js_tree::script::{Expression, FunctionCode};
 use js_world::heap::BaseHeap;
 use js_world::names::Names;
 use pure_eval::prepared::Prepared;
@@ -21,7 +21,7 @@ pub trait Program {
     ghost use Rattle.call_frames.specs.Views.{frame_of};
     ghost use Rattle.cdp_session.specs.Situations.{Standing};
     ghost use Rattle.js_world.specs.Heaps.{heap_world};
-    ghost use Rattle.pure_eval.specs.Preparing.{IsPrepared};
+    ghost use Rattle.pure_eval.specs.Preparing.{IsPrepared, IsPreparedFunction};
 
     ghost standing: { Self → Standing };
 
@@ -41,6 +41,10 @@ pub trait Program {
     fn thrown(&self) -> Option<Value>
         ensures { result ≡ (standing self.now).thrown };
 
+    /// Whether its run has ended. Takes no memory.
+    fn is_over(&self) -> bool
+        ensures { result ≡ (standing self.now).over };
+
     /// An expression that is ready to be evaluated, its source to be kept at an address.
     ///
     /// # Errors
@@ -53,4 +57,17 @@ pub trait Program {
         expression: &Expression,
     ) -> Result<Prepared, AllocError>
         ensures { IfOk result (λ p. IsPrepared at expression.now p) };
+
+    /// A function that is ready to be called, its source to be kept at an address.
+    ///
+    /// # Errors
+    ///
+    /// There is no memory for it.
+    fn prepared_function(
+        &self,
+        alloc: Global,
+        at: Addr,
+        function: &FunctionCode,
+    ) -> Result<Prepared, AllocError>
+        ensures { IfOk result (λ p. IsPreparedFunction at function.now p) };
 }

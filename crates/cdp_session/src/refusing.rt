@@ -16,6 +16,11 @@ pub(crate) fn wants_enabled(params: &Params) -> bool
         Params::ReleaseObject { .. } => false,
         Params::ReleaseObjectGroup { .. } => false,
         Params::Evaluate { .. } => false,
+        Params::CallFunctionOn { .. } => false,
+        Params::RuntimeEnable => false,
+        Params::RuntimeDisable => false,
+        Params::GlobalLexicalScopeNames => false,
+        Params::RunIfWaitingForDebugger => false,
         _ => true,
     }
 }

@@ -1,7 +1,8 @@
 //! The JSON values of results (Chrome DevTools Protocol 1.3, domains Debugger and Runtime).
 
-ghost use Rattle.std.specs.Prelude.{◌≡◌, ◌++◌, map, IfOk, OnOk, option_map};
+ghost use Rattle.std.specs.Prelude.{◌≡◌, List, ℕ, ◌++◌, map, IfOk, OnOk, option_map};
 ghost use Rattle.cdp_json.specs.Views.{json_view, member_view};
+ghost use Rattle.cdp_json.specs.Json as json;
 ghost use Rattle.cdp_json.specs.Parts as parts;
 ghost use Rattle.cdp_session.specs.Results as results;
 
@@ -125,4 +126,11 @@ pub(crate) fn properties(alloc: Global, values: Vec<Json>) -> Result<Json, Alloc
     ensures { IfOk result (λ j. json_view j ≡ results.properties (map json_view values.items)) }
 {
     object_of_one(alloc, member(alloc, b"result", list(values))?)
+}
+
+/// The result that lists the names that scripts have declared.
+pub(crate) fn declared_names(alloc: Global, names: Vec<Json>) -> Result<Json, AllocError>
+    ensures { IfOk result (λ j. (texts : List (List ℕ)) → map json_view names.items ≡ map json.text texts → json_view j ≡ results.declared_names texts) }
+{
+    object_of_one(alloc, member(alloc, b"names", list(names))?)
 }

@@ -1,11 +1,11 @@
 //! What each method does (Chrome DevTools Protocol 1.3, domain Debugger).
 
-ghost use Rattle.std.specs.Prelude.{◌≡◌};
+ghost use Rattle.std.specs.Prelude.{◌≡◌, [], map, string_bytes, IfOk};
 ghost use Rattle.cdp_session.specs.Situations.{HasSpots, seen};
 ghost use Rattle.breakpoints.specs.Resolving.{resolved_at};
 ghost use Rattle.cdp_json.specs.Views.{json_view};
 ghost use Rattle.cdp_json.specs.Parts as parts;
-ghost use Rattle.remote_objects.specs.Descriptors.{descriptors};
+ghost use Rattle.remote_objects.specs.Descriptors.{descriptors_with};
 ghost use Rattle.cdp_session.specs.Evaluations.{sight_with};
 ghost use Rattle.cdp_session.specs.Made.{made_fault, KeepsIfRefused, Makes};
 ghost use Rattle.cdp_session.specs.Rows as rows;
@@ -14,11 +14,19 @@ ghost use Rattle.cdp_session.specs.Rows.{end_of, throws_of};
 use crate::asks::Asks;
 use crate::describing::properties_of;
 use crate::done::{Done, Fault};
+use crate::evaluating::script_scope;
+use crate::events::context_created_text;
 use crate::finding::find_script;
+use crate::pausing::describer;
 use crate::program::Program;
-use crate::results::{debugger_id, properties, script_source, set_at, set_by_url, spot_locations};
+use crate::results::{
+    debugger_id, declared_names, properties, script_source, set_at, set_by_url, spot_locations,
+};
+use crate::scripts::scripts_told;
 use crate::session::Session;
+use crate::showing::detail_of;
 use crate::situation::{Pause, Situation};
+use crate::sources::EvaluatedTexts;
 use breakpoints::breakpoints::Breakpoints;
 use breakpoints::fault::AddFault;
 use breakpoints::ids::{place_id, url_id};
@@ -30,7 +38,7 @@ use cdp_text::position::{Place, Pos};
 use cdp_text::units::Units;
 use locations::spot::{between, first_at_or_after};
 use object_groups::Handle;
-use remote_objects::backtrace;
+use remote_objects::{Detail, backtrace};
 use std::alloc::{AllocError, Global};
 use stepping::rules::{Exceptions, Rules, StepKind, StepRequest};
 
@@ -68,10 +76,14 @@ fn fault_of(fault: AddFault) -> Fault
 }
 
 /// Done, with this to answer.
-pub(crate) fn answering(answer: Json) -> Done
-    ensures { result ≡ record { answer = answer; event = None; asks = Asks.Nothing } }
+pub(crate) fn answering(alloc: Global, answer: Json) -> Done
+    ensures before { result.before.items ≡ [] }
+    ensures answer { result.answer ≡ answer }
+    ensures event { result.event ≡ None }
+    ensures asks { result.asks ≡ Asks.Nothing }
 {
     Done {
+        before: Vec::new(alloc),
         answer,
         event: None,
         asks: Asks::Nothing,
@@ -80,20 +92,23 @@ pub(crate) fn answering(answer: Json) -> Done
 
 /// Done, with nothing to answer.
 fn done(alloc: Global) -> Done
+    ensures before { result.before.items ≡ [] }
     ensures answer { json_view result.answer ≡ parts.nothing }
     ensures event { result.event ≡ None }
     ensures asks { result.asks ≡ Asks.Nothing }
 {
-    answering(nothing(alloc))
+    answering(alloc, nothing(alloc))
 }
 
 /// Done, with nothing to answer, and this is asked of the program.
 fn asking(alloc: Global, asks: Asks) -> Done
+    ensures before { result.before.items ≡ [] }
     ensures answer { json_view result.answer ≡ parts.nothing }
     ensures event { result.event ≡ None }
     ensures asks { result.asks ≡ asks }
 {
     Done {
+        before: Vec::new(alloc),
         answer: nothing(alloc),
         event: None,
         asks,
@@ -136,7 +151,11 @@ impl Session {
             Params::SetAsyncCallStackDepth => Ok(done(self.alloc)),
             Params::GetPossibleBreakpoints { start, end } => self.possible(situation, start, end),
             Params::GetScriptSource { script_id } => self.source(situation, script_id),
-            Params::GetProperties { object_id } => self.get_properties(situation, &object_id),
+            Params::GetProperties {
+                object_id,
+                generate_preview,
+                ..
+            } => self.get_properties(situation, &object_id, generate_preview),
             Params::ReleaseObject { object_id } => self.release(&object_id),
             Params::ReleaseObjectGroup { object_group } => self.release_group(&object_group),
             Params::Evaluate { evaluation } => self.evaluate(situation, evaluation),
@@ -144,6 +163,11 @@ impl Session {
                 call_frame_id,
                 evaluation,
             } => self.evaluate_on_call_frame(situation, &call_frame_id, evaluation),
+            Params::CallFunctionOn { call } => self.call_function(situation, call),
+            Params::RuntimeEnable => self.enable_runtime(situation),
+            Params::RuntimeDisable => self.disable_runtime(),
+            Params::GlobalLexicalScopeNames => self.lexical_names(situation),
+            Params::RunIfWaitingForDebugger => Ok(done(self.alloc)),
         }
     }
 
@@ -152,10 +176,12 @@ impl Session {
         ensures made { Makes result self.new (rows.enable (seen P.standing situation.now) self.old) }
         ensures kept { KeepsIfRefused result self.old self.new }
     {
+        let before = scripts_told(self.alloc, situation.scripts, self.rules.enabled)?;
         let event = self.enabling_told(situation, situation.paused, self.rules.enabled)?;
         let answer = debugger_id(self.alloc)?;
         self.rules.enabled = true;
         Ok(Done {
+            before,
             answer,
             event,
             asks: Asks::Nothing,
@@ -250,7 +276,10 @@ impl Session {
             position,
             condition,
         ) {
-            Ok(places) => Ok(answering(set_by_url(self.alloc, id, &places)?)),
+            Ok(places) => {
+                let answer = set_by_url(self.alloc, id, &places)?;
+                Ok(answering(self.alloc, answer))
+            }
             Err(fault) => Err(fault_of(fault)),
         }
     }
@@ -294,7 +323,10 @@ impl Session {
             .breakpoints
             .add_at(situation.scripts, situation.spots, place, condition)
         {
-            Ok(resolved) => Ok(answering(set_at(self.alloc, id, resolved)?)),
+            Ok(resolved) => {
+                let answer = set_at(self.alloc, id, resolved)?;
+                Ok(answering(self.alloc, answer))
+            }
             Err(fault) => Err(fault_of(fault)),
         }
     }
@@ -354,7 +386,8 @@ impl Session {
         } = start;
         let found = find_script(self.alloc, situation, script_id)?;
         let spots = between(found.spots, position, end_of(end));
-        Ok(answering(spot_locations(self.alloc, found.script.number, spots)?))
+        let answer = spot_locations(self.alloc, found.script.number, spots)?;
+        Ok(answering(self.alloc, answer))
     }
 
     /// `Debugger.getScriptSource`
@@ -368,7 +401,8 @@ impl Session {
         ensures kept { KeepsIfRefused result self.old self.new }
     {
         let found = find_script(self.alloc, situation, script_id)?;
-        Ok(answering(script_source(self.alloc, found.script.source.as_slice())?))
+        let answer = script_source(self.alloc, found.script.source.as_slice())?;
+        Ok(answering(self.alloc, answer))
     }
 
     /// `Runtime.getProperties`
@@ -376,12 +410,13 @@ impl Session {
         &mut self,
         situation: &Situation<'_, P>,
         object_id: &Units,
+        preview: bool,
     ) -> Result<Done, Fault>
-        ensures made { Makes result self.new (rows.get_properties (seen P.standing situation.now) self.old object_id.now) }
+        ensures made { Makes result self.new (rows.get_properties (seen P.standing situation.now) self.old object_id.now preview) }
         ensures kept { KeepsIfRefused result self.old self.new }
     {
         match self.handle_of(object_id)? {
-            Some(object) => self.list(situation, &object),
+            Some(object) => self.list(situation, &object, detail_of(preview)),
             None => Err(Fault::Refused(Refusal::UnknownObject)),
         }
     }
@@ -391,8 +426,9 @@ impl Session {
         &mut self,
         situation: &Situation<'_, P>,
         object: &Handle,
+        detail: Detail,
     ) -> Result<Done, Fault>
-        ensures made { Makes result self.new (rows.lists self.old (descriptors (sight_with (seen P.standing situation.now) self.old self.old.workspace.scratch) object.now.group object.now.target self.old.handles)) }
+        ensures made { Makes result self.new (rows.lists self.old (descriptors_with (sight_with (seen P.standing situation.now) self.old self.old.workspace.scratch) detail object.now.group object.now.target self.old.handles)) }
         ensures kept { KeepsIfRefused result self.old self.new }
     {
         let opened = self.opened(situation)?;
@@ -402,10 +438,12 @@ impl Session {
             situation.scripts,
             self.number,
             object,
+            detail,
             &mut self.handles,
         )?;
         self.workspace = Some(opened.keep());
-        Ok(answering(properties(self.alloc, values)?))
+        let answer = properties(self.alloc, values)?;
+        Ok(answering(self.alloc, answer))
     }
 
     /// `Runtime.releaseObject`
@@ -431,5 +469,57 @@ impl Session {
         self.handles.release_group(group.as_slice());
         self.give_up_unheld();
         Ok(done(self.alloc))
+    }
+
+    // ---- the domain Runtime
+
+    /// The events of enabling the domain Runtime: the only context, where it wasn't enabled, unless the run has ended.
+    fn contexts_told<P: Program>(
+        &self,
+        situation: &Situation<'_, P>,
+    ) -> Result<Vec<String>, AllocError>
+        ensures { IfOk result (λ texts. map string_bytes texts.items ≡ rows.contexts_told (seen P.standing situation.now) self.now) }
+    {
+        if situation.program.is_over() || self.runtime {
+            return Ok(Vec::new(self.alloc));
+        }
+        let text = context_created_text(self.alloc)?;
+        Ok(vec![in self.alloc; text]?)
+    }
+
+    /// `Runtime.enable`
+    fn enable_runtime<P: Program>(&mut self, situation: &Situation<'_, P>) -> Result<Done, Fault>
+        ensures made { Makes result self.new (rows.enable_runtime (seen P.standing situation.now) self.old) }
+        ensures kept { KeepsIfRefused result self.old self.new }
+    {
+        let before = self.contexts_told(situation)?;
+        self.runtime = true;
+        Ok(Done {
+            before,
+            answer: nothing(self.alloc),
+            event: None,
+            asks: Asks::Nothing,
+        })
+    }
+
+    /// `Runtime.disable`
+    fn disable_runtime(&mut self) -> Result<Done, Fault>
+        ensures made { Makes result self.new (rows.disable_runtime self.old) }
+        ensures kept { KeepsIfRefused result self.old self.new }
+    {
+        self.runtime = false;
+        Ok(done(self.alloc))
+    }
+
+    /// `Runtime.globalLexicalScopeNames`
+    fn lexical_names<P: Program>(&mut self, situation: &Situation<'_, P>) -> Result<Done, Fault>
+        ensures made { Makes result self.new (rows.lexical_names (seen P.standing situation.now) self.old) }
+        ensures kept { KeepsIfRefused result self.old self.new }
+    {
+        let sources = EvaluatedTexts;
+        let describer = describer(self.alloc, situation, self.number, &sources);
+        let names = describer.declared_names(script_scope())?;
+        let answer = declared_names(self.alloc, names)?;
+        Ok(answering(self.alloc, answer))
     }
 }

@@ -41,6 +41,8 @@ pub struct Session {
     pub(crate) alloc: Global,
     pub(crate) number: u64,
     pub(crate) rules: Rules,
+    // whether it has the domain Runtime enabled
+    pub(crate) runtime: bool,
     pub(crate) breakpoints: Breakpoints,
     pub(crate) handles: Handles,
     // those of its breakpoints that were used, parsed
@@ -61,7 +63,7 @@ impl Model for Session {
 
     ghost coded = { Prim.hlevel (codes, term_coded) };
 
-    ghost view = { λ x. record { number = x.number; rules = x.rules; breakpoints = x.breakpoints; handles = x.handles; workspace = unwrap_or x.workspace no_workspace; exceptions = x.exceptions; outbox = map string_bytes x.outbox.items } };
+    ghost view = { λ x. record { number = x.number; rules = x.rules; runtime = x.runtime; breakpoints = x.breakpoints; handles = x.handles; workspace = unwrap_or x.workspace no_workspace; exceptions = x.exceptions; outbox = map string_bytes x.outbox.items } };
 
     ghost invariant = { λ x. x.exceptions ≤ 2 ^ 62 };
 }
@@ -88,6 +90,7 @@ impl Session {
             alloc,
             number,
             rules: Rules::new(),
+            runtime: false,
             breakpoints: Breakpoints::new(alloc),
             handles: Handles::new(alloc),
             conditions: Vec::new(alloc),
@@ -181,6 +184,16 @@ impl Session {
         ensures { OnOk result (self.new ≡ sent (string_bytes text ∷ []) self.old) }
     {
         self.outbox.push(text)?;
+        Ok(())
+    }
+
+    /// Puts texts behind those that wait, in order.
+    fn send_all(&mut self, texts: Vec<String>) -> Result<(), AllocError>
+        ensures { OnOk result (self.new ≡ sent (map string_bytes texts.items) self.old) }
+    {
+        for text in texts {
+            self.send(text)?;
+        }
         Ok(())
     }
 
@@ -327,16 +340,18 @@ impl Session {
         }
     }
 
-    /// Sends the reply to a command that was done, and its event.
+    /// Sends the events before the reply to a command that was done, the reply, and the event behind it.
     fn reply(&mut self, id: u64, done: Done) -> Result<Asks, AllocError>
         ensures session { OnOk result (self.new ≡ sent (done_texts id done) self.old) }
         ensures asks { IfOk result (λ asks. asks ≡ done.asks) }
     {
         let Done {
+            before,
             answer,
             event,
             asks,
         } = done;
+        self.send_all(before)?;
         let text = result_text(self.alloc, id, &answer)?;
         self.send(text)?;
         self.send_event(event)?;

@@ -1,0 +1,42 @@
+use Rattle.std.proofs.Common.{subst, sym, refl, ◌∙◌}
+use Rattle.js_semantics.specs.Evaluation.{evaluate_function as definition}
+use Rattle.js_semantics.specs.Sources.{expression_source}
+use Rattle.pure_eval.specs.Arguments.{arguments_of}
+use Rattle.cdp_session.specs.Evaluations.{outcome_of_answer}
+use Rattle.cdp_session.specs.Made.{Makes, KeepsIfRefused}
+use Rattle.cdp_session.specs.Rows.{row_of}
+use Rattle.cdp_session.specs.Sessions.{with_workspace}
+use Rattle.cdp_session.specs.Situations.{seen}
+use Rattle.cdp_session.proofs.CallLemmas.{called-from}
+use Rattle.cdp_session.proofs.EvaluationLemmas.{made-answer, kept-answer}
+use Rattle.cdp_session.proofs.session.Session.call_code.Goals as goal
+
+pub returns-clause-made : goal.returns-clause-made
+returns-clause-made g c =
+    let s = seen g.P.Program.standing c.args.situation.now in
+    let x = c.args.self.now in
+    let f = c.args.function.now in
+    let e = expression_source f.tree in
+    let arguments = arguments_of c.args.arguments.now in
+    let a = definition x.workspace.program s.standing.world x.workspace.scratch f c.args.receiver arguments in
+    let n = c.call-end.new.self in
+    let result = c.answer_evaluation.result in
+    let new = c.answer_evaluation.new.self in
+    let to = called-from s.standing.world x.workspace c.args.receiver arguments f c.next_address-at.result c.in_ok-prepared.prepared c.call-end.result c.in_ok-opened.opened n c.in_ok-opened.ensures.opened c.next_address-at.ensures c.in_ok-prepared.ensures c.call-end.ensures in
+    made-answer s x c.args.showing.now e a c.call-end.result c.in_ok-opened.opened n result new c.in_ok-opened.ensures.opened (sym c.is_memory.ensures ∙ c.if-is_memory.false) to
+    (λ world from.
+    subst (λ u. Makes result new (row_of (outcome_of_answer s (with_workspace n.before u) c.args.showing.now e a))) c.in_ok-opened.ensures.rest
+    (c.answer_evaluation.ensures.made s e a refl world from))
+
+pub returns-clause-kept : goal.returns-clause-kept
+returns-clause-kept g c =
+    let s = seen g.P.Program.standing c.args.situation.now in
+    let x = c.args.self.now in
+    let f = c.args.function.now in
+    let e = expression_source f.tree in
+    let arguments = arguments_of c.args.arguments.now in
+    let a = definition x.workspace.program s.standing.world x.workspace.scratch f c.args.receiver arguments in
+    let n = c.call-end.new.self in
+    let to = called-from s.standing.world x.workspace c.args.receiver arguments f c.next_address-at.result c.in_ok-prepared.prepared c.call-end.result c.in_ok-opened.opened n c.in_ok-opened.ensures.opened c.next_address-at.ensures c.in_ok-prepared.ensures c.call-end.ensures in
+    kept-answer x s.standing.world e a c.call-end.result c.in_ok-opened.opened n c.answer_evaluation.result c.answer_evaluation.new.self c.in_ok-opened.ensures.opened (sym c.is_memory.ensures ∙ c.if-is_memory.false) to
+    (subst (λ u. KeepsIfRefused c.answer_evaluation.result (with_workspace n.before u) c.answer_evaluation.new.self) c.in_ok-opened.ensures.rest c.answer_evaluation.ensures.kept)
