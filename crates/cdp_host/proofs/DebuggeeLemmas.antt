@@ -23,6 +23,7 @@ use Rattle.js_machine.specs.declared.end.End.TheVariants as ends
 use Rattle.js_machine.specs.Machines.{Machine, term_of, state_of, run_by, IsKept}
 use Rattle.js_machine.specs.Standing.{until_end}
 use Rattle.frames_scopes.specs.Frames.{walk}
+use Rattle.cdp_host.specs.Programs.{is_over}
 use Rattle.cdp_host.specs.Standings.{frames_of, value_of, thrown_of, standing_of}
 use Rattle.cdp_host.specs.Hosts.{machine_run, machine_standing}
 
@@ -38,6 +39,12 @@ world_by (Some ends.Lost) t s = ap (λ u. u.world) (run_of-state t s)
 pub standing-world : (scripts : List Script) (m : Machine) (h : Heap) → (machine_standing scripts m h).world ≡ heap_world m.names h
 unfolding standing_of
 standing-world scripts m h = world_by m.ended (term_of m) (state_of m (heap_world m.names h) [])
+
+-- ---- the end
+
+pub standing-end : (scripts : List Script) (m : Machine) (h : Heap) → (machine_standing scripts m h).over ≡ is_over (machine_run m h [])
+unfolding standing_of
+standing-end scripts m h = refl
 
 -- ---- throws
 

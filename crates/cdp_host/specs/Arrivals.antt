@@ -35,6 +35,7 @@ place_at scripts source (Some mark) = place_of scripts source mark
 
 -- ---- arrivals
 
+-- no `try` with a `catch` takes the throw, in any frame
 abbrev pub is_uncaught : StandingThrow → Bool
 is_uncaught thrown = thrown.uncaught
 

@@ -46,6 +46,7 @@ session_told stop answer = if lets_go stop answer then resumed answer.session el
 abbrev pub stop_told : Option Pause → Answer → Option Pause
 stop_told stop answer = if lets_go stop answer then None else stop
 
+-- behind an answer: the session with its texts, and where the program is paused
 abbrev pub with_answer : {A : Type 0} → Meaning A → Answer → Meaning A
 with_answer m answer = record m { stop = stop_told m.stop answer; session = Some (session_told m.stop answer) }
 

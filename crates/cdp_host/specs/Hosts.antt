@@ -33,6 +33,7 @@ pub record Parts : Type 0 where
 abbrev pub machine_run : Machine → Heap → List (List ℕ) → Run
 machine_run m h taken = run_at m (heap_world m.names h) taken
 
+-- the run that the parts of a machine mean, behind these printed texts
 abbrev pub run_with : List (List ℕ) → Parts → Run
 run_with taken p = machine_run p.machine p.heap taken
 
@@ -49,6 +50,7 @@ machine_arrival scripts m = record {
 abbrev pub machine_standing : List Script → Machine → Heap → Standing
 machine_standing scripts m h = standing_of scripts (machine_run m h [])
 
+-- the same of the parts that a meaning holds
 abbrev pub parts_standing : List Script → Parts → Standing
 parts_standing scripts p = machine_standing scripts p.machine p.heap
 
@@ -61,6 +63,7 @@ abbrev pub pause_from : ℕ → Option ℕ → Option Pause
 pause_from stops None = None
 pause_from stops (Some depth) = Some (record { number = next_number stops; depth = depth })
 
+-- how many stops there are then
 abbrev pub stops_from : ℕ → Option ℕ → ℕ
 stops_from stops None = stops
 stops_from stops (Some depth) = next_number stops

@@ -18,6 +18,7 @@ use Rattle.cdp_host.specs.Programs.{arrival_of}
 abbrev pub IsBreakLocation : List Script → Place → Type 0
 IsBreakLocation scripts place = (script : Script) × Contains scripts script × (script.number ≡ place.script) × IsAt (break_locations script) place.pos
 
+-- where a run arrives is a break location of one of its scripts
 pub record ArrivesAtLocations (scripts : List Script) (r : Run) : Type 0 where
   -- the place of an arrival is a break location
   pub at_a_location : (place : Place) → (arrival_of scripts r).place ≡ Some place → IsBreakLocation scripts place

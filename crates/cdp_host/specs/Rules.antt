@@ -117,6 +117,7 @@ FitsEntry scripts m (Take s) = Unit {0}
 FitsEntry scripts m (Detach s) = ⊥
 FitsEntry scripts m (Ran n) = (most : ℕ) × (n ≡ longest scripts most m)
 
+-- each entry of a history fits where it comes
 abbrev pub FitsAll : List Script → Meaning Run → List Entry → Type 0
 FitsAll scripts m [] = Unit {0}
 FitsAll scripts m (entry ∷ history) = FitsEntry scripts m entry × FitsAll scripts (apply scripts m entry) history

@@ -13,6 +13,7 @@ use Rattle.js_machine.specs.declared.end.End.TheVariants as ends
 use Rattle.js_machine.specs.Machines.{IsKept}
 use Rattle.call_frames.specs.Frames.{ShownFrame}
 use Rattle.frames_scopes.specs.Frames.{walk}
+use Rattle.cdp_host.specs.Programs.{is_over}
 use Rattle.cdp_session.specs.Situations.{Standing}
 
 -- the active frames from the top one outward; a program that is over has none
@@ -29,9 +30,9 @@ abbrev pub thrown_of : Run → Option Value
 thrown_of (running t s) = option_map value_of (thrown t)
 thrown_of (over f s) = None
 
--- how a program stands: its cells, its frames, and the throw that stands
+-- how a program stands: its cells, its frames, the throw that stands, and whether its run has ended
 unfoldable pub standing_of : List Script → Run → Standing
-standing_of scripts r = record { world = (runs.state_of r).world; frames = frames_of scripts r; thrown = thrown_of r }
+standing_of scripts r = record { world = (runs.state_of r).world; frames = frames_of scripts r; thrown = thrown_of r; over = is_over r }
 
 -- that a machine wasn't given up has one proof at most
 pub IsKept-prop : (o : Option End) → IsProp (IsKept o)

@@ -13,12 +13,12 @@ ghost use Rattle.cdp_host.specs.Standings.{value_of, IsKept-prop};
 use call_frames::CallFrame;
 use cdp_session::program::{Program, ProgramCells};
 use cdp_text::line_table::LineTable;
-use expressions::preparing::prepare;
+use expressions::preparing::{prepare, prepare_function};
 use frames_scopes::standing::Standing;
 use js_frames::standing::Thrown;
 use js_heap::value::{Addr, Value};
 use js_machine::machine::{Machine, script_scope};
-use js_tree::script::{Expression, Script};
+use js_tree::script::{Expression, FunctionCode, Script};
 use js_world::heap::BaseHeap;
 use pure_eval::prepared::Prepared;
 use std::alloc::{AllocError, Global};
@@ -91,6 +91,13 @@ impl Program for Debuggee<'_> {
         value_of(self.machine.thrown())
     }
 
+    fn is_over(&self) -> bool {
+        match self.machine.finished() {
+            Some(_) => true,
+            None => self.machine.end().is_some(),
+        }
+    }
+
     fn prepared(
         &self,
         alloc: Global,
@@ -98,5 +105,14 @@ impl Program for Debuggee<'_> {
         expression: &Expression,
     ) -> Result<Prepared, AllocError> {
         prepare(alloc, at, expression)
+    }
+
+    fn prepared_function(
+        &self,
+        alloc: Global,
+        at: Addr,
+        function: &FunctionCode,
+    ) -> Result<Prepared, AllocError> {
+        prepare_function(alloc, at, function)
     }
 }
