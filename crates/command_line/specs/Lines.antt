@@ -49,6 +49,7 @@ tell_text s text = if nat_le (length text) most_told then Some (Tell s text) els
 abbrev pub tell_at : List ℕ → ℕ → Option Line
 tell_at written s = option_and_then (tell_text s) (unescaped written)
 
+-- a `tell` whose two halves are a session and a text
 abbrev pub tell_in : Halves → Option Line
 tell_in parts = option_and_then (tell_at parts.back) (decimal_value parts.front)
 
@@ -64,9 +65,11 @@ run_in parts = option_and_then (λ most. option_and_then (run_at most) (decimal_
 abbrev pub tell_rest : List ℕ → Option Line
 tell_rest rest = option_and_then tell_in (halves 32 rest)
 
+-- a `take`, by what stands behind the word
 abbrev pub take_rest : List ℕ → Option Line
 take_rest rest = option_map (λ s. Take s) (decimal_value rest)
 
+-- a `run`, by what stands behind the word
 abbrev pub run_rest : List ℕ → Option Line
 run_rest rest = option_and_then run_in (halves 32 rest)
 

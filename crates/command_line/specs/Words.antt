@@ -54,6 +54,7 @@ run_names input [] = None
 run_names input (script ∷ scripts) =
     if list_any is_option (script ∷ scripts) then None else Some (Run record { input = input; scripts = script ∷ scripts })
 
+-- the command `run`, by the words behind it
 abbrev pub run_of : Names → Option Command
 run_of n = run_names n.input n.names
 
@@ -65,6 +66,7 @@ replay_names input (journal ∷ script ∷ scripts) =
     if list_any is_option (journal ∷ script ∷ scripts) then None
     else Some (Replay record { journal = journal; sources = record { input = input; scripts = script ∷ scripts } })
 
+-- the command `replay`, by the words behind it
 abbrev pub replay_of : Names → Option Command
 replay_of n = replay_names n.input n.names
 
