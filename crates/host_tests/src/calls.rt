@@ -29,6 +29,7 @@ ran 1 paused
 out 7
 out 8
 ran 8 ended
+to 1 {"method":"Debugger.scriptParsed","params":{"endColumn":0,"endLine":2,"executionContextId":1,"hash":"3db94df2fa011ed1c7921df6a05bd013e2de3c9edd018c88a18b749cd656e3cc","scriptId":"1","startColumn":0,"startLine":0,"url":"two.js"}}
 to 1 {"id":1,"result":{"debuggerId":"1"}}
 to 1 {"id":2,"result":{}}
 to 1 {"method":"Debugger.paused","params":{"callFrames":[{"callFrameId":"1.1.0","functionName":"","location":{"columnNumber":0,"lineNumber":0,"scriptId":"1"},"scopeChain":[{"object":{"className":"Object","description":"Object","objectId":"1.1","type":"object"},"type":"script"},{"object":{"className":"Object","description":"Object","objectId":"1.2","type":"object"},"type":"global"}],"this":{"type":"undefined"},"url":"two.js"}],"hitBreakpoints":[],"reason":"other"}}
@@ -54,6 +55,7 @@ take 1"#;
 
 const TWO_PAUSES_OUTPUT: &str = r#"attached 1
 ran 1 paused
+to 1 {"method":"Debugger.scriptParsed","params":{"endColumn":0,"endLine":2,"executionContextId":1,"hash":"3db94df2fa011ed1c7921df6a05bd013e2de3c9edd018c88a18b749cd656e3cc","scriptId":"1","startColumn":0,"startLine":0,"url":"two.js"}}
 to 1 {"id":1,"result":{"debuggerId":"1"}}
 to 1 {"id":2,"result":{}}
 to 1 {"method":"Debugger.paused","params":{"callFrames":[{"callFrameId":"1.1.0","functionName":"","location":{"columnNumber":0,"lineNumber":0,"scriptId":"1"},"scopeChain":[{"object":{"className":"Object","description":"Object","objectId":"1.1","type":"object"},"type":"script"},{"object":{"className":"Object","description":"Object","objectId":"1.2","type":"object"},"type":"global"}],"this":{"type":"undefined"},"url":"two.js"}],"hitBreakpoints":[],"reason":"other"}}
@@ -97,6 +99,7 @@ const REFUSALS_OUTPUT: &str = r#"attached 1
 to 1 {"error":{"code":-32601,"message":"'X.y' wasn't found"},"id":0}
 to 1 {"error":{"code":-32000,"message":"Debugger agent is not enabled"},"id":2}
 to 1 {"error":{"code":-32000,"message":"Debugger agent is not enabled"},"id":3}
+to 1 {"method":"Debugger.scriptParsed","params":{"endColumn":0,"endLine":2,"executionContextId":1,"hash":"3db94df2fa011ed1c7921df6a05bd013e2de3c9edd018c88a18b749cd656e3cc","scriptId":"1","startColumn":0,"startLine":0,"url":"two.js"}}
 to 1 {"id":4,"result":{"debuggerId":"1"}}
 to 1 {"error":{"code":-32000,"message":"Can only perform operation while paused."},"id":5}
 to 1 {"error":{"code":-32601,"message":"'debugger.enable' wasn't found"},"id":9007199254740991}
@@ -783,7 +786,7 @@ impl Sink for PieceSink {
 fn a_line_is_offered_in_one_write(rt: HostRuntime) -> Result<(), Fail> {
     let words = words_of(rt.alloc(), "replay pause two.js")?;
     let bytes = PAUSE_OUTPUT.len() as u64;
-    for (most, writes) in [(1000, 10), (1, bytes)] {
+    for (most, writes) in [(1000, 11), (1, bytes)] {
         let mut shelf = shelf_of(rt.alloc(), &FILES, b"", "")?;
         let mut err = MemSink::new(Vec::new(rt.alloc()));
         let mut out = PieceSink {

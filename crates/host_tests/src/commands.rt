@@ -10,7 +10,7 @@ use std::test::Fail;
 // What was done before, as letters (enable, pause, resume, and `.` a run), a command by its letter (`x` has no method),
 // the texts that it makes, with `|` behind each, and the steps of the run behind it.
 const ROWS: [(&str, &str, &str, u64); 24] = [
-    ("", "e", ENABLED, 9),
+    ("", "e", ENABLED_ANEW, 9),
     ("", "p", NO_AGENT_TO_PAUSE, 9),
     ("", "r", NO_AGENT_TO_RESUME, 9),
     ("", "x", NO_METHOD, 9),
@@ -35,6 +35,9 @@ const ROWS: [(&str, &str, &str, u64); 24] = [
     ("ep.r.", "r", NOT_PAUSED, 0),
     ("ep.r.", "x", NO_METHOD, 0),
 ];
+
+const ENABLED_ANEW: &str =
+    r#"{"method":"Debugger.scriptParsed","params":{"endColumn":0,"endLine":2,"executionContextId":1,"hash":"3db94df2fa011ed1c7921df6a05bd013e2de3c9edd018c88a18b749cd656e3cc","scriptId":"1","startColumn":0,"startLine":0,"url":"a.js"}}|{"id":0,"result":{"debuggerId":"1"}}|"#;
 
 const ENABLED: &str = r#"{"id":0,"result":{"debuggerId":"1"}}|"#;
 

@@ -42,6 +42,7 @@ ran 8 paused
 ran 8 paused
 out 4
 ran 12 ended
+to 1 {"method":"Debugger.scriptParsed","params":{"endColumn":0,"endLine":5,"executionContextId":1,"hash":"70e9c64d64b5520aedaf5d0a77340c8eff8e46fe4826db5df38be9792a944c3e","scriptId":"1","startColumn":0,"startLine":0,"url":"loop.js"}}
 to 1 {"id":1,"result":{"debuggerId":"1"}}
 to 1 {"id":2,"result":{"breakpointId":"1:2:0:loop.js","locations":[{"columnNumber":2,"lineNumber":2,"scriptId":"1"}]}}
 to 1 {"id":3,"result":{"actualLocation":{"columnNumber":2,"lineNumber":2,"scriptId":"1"},"breakpointId":"4:2:0:1"}}
@@ -88,6 +89,7 @@ out 4
 ran 12 ended
 to 1 {"error":{"code":-32000,"message":"Debugger agent is not enabled"},"id":1}
 to 1 {"error":{"code":-32602,"message":"Invalid parameters"},"id":2}
+to 1 {"method":"Debugger.scriptParsed","params":{"endColumn":0,"endLine":5,"executionContextId":1,"hash":"70e9c64d64b5520aedaf5d0a77340c8eff8e46fe4826db5df38be9792a944c3e","scriptId":"1","startColumn":0,"startLine":0,"url":"loop.js"}}
 to 1 {"id":3,"result":{"debuggerId":"1"}}
 to 1 {"error":{"code":-32602,"message":"Invalid parameters"},"id":4}
 to 1 {"error":{"code":-32602,"message":"Invalid parameters"},"id":5}
@@ -117,6 +119,7 @@ const EMPTY_OUTPUT: &str = r#"attached 1
 ran 8 paused
 out 4
 ran 36 ended
+to 1 {"method":"Debugger.scriptParsed","params":{"endColumn":0,"endLine":5,"executionContextId":1,"hash":"70e9c64d64b5520aedaf5d0a77340c8eff8e46fe4826db5df38be9792a944c3e","scriptId":"1","startColumn":0,"startLine":0,"url":"loop.js"}}
 to 1 {"id":1,"result":{"debuggerId":"1"}}
 to 1 {"id":2,"result":{"breakpointId":"1:2:0:loop.js","locations":[{"columnNumber":2,"lineNumber":2,"scriptId":"1"}]}}
 to 1 {"method":"Debugger.paused","params":{"callFrames":[{"callFrameId":"1.1.0","functionName":"","location":{"columnNumber":2,"lineNumber":2,"scriptId":"1"},"scopeChain":[{"object":{"className":"Object","description":"Object","objectId":"1.1","type":"object"},"type":"script"},{"object":{"className":"Object","description":"Object","objectId":"1.2","type":"object"},"type":"global"}],"this":{"type":"undefined"},"url":"loop.js"}],"hitBreakpoints":["1:2:0:loop.js"],"reason":"other"}}
@@ -168,6 +171,7 @@ ran 8 paused
 ran 8 paused
 out 4
 ran 12 ended
+to 1 {"method":"Debugger.scriptParsed","params":{"endColumn":0,"endLine":5,"executionContextId":1,"hash":"70e9c64d64b5520aedaf5d0a77340c8eff8e46fe4826db5df38be9792a944c3e","scriptId":"1","startColumn":0,"startLine":0,"url":"loop.js"}}
 to 1 {"id":1,"result":{"debuggerId":"1"}}
 to 1 {"id":2,"result":{"breakpointId":"1:2:0:loop.js","locations":[{"columnNumber":2,"lineNumber":2,"scriptId":"1"}]}}
 to 1 {"id":3,"result":{"breakpointId":"1:2:1:loop.js","locations":[{"columnNumber":2,"lineNumber":2,"scriptId":"1"}]}}
@@ -204,6 +208,7 @@ const DEBUGGED_OUTPUT: &str = r#"attached 1
 ran 3 paused
 ran 1 paused
 ran 1 ended
+to 1 {"method":"Debugger.scriptParsed","params":{"endColumn":0,"endLine":3,"executionContextId":1,"hash":"f6481781db17a086858082894c7bb7a3451a5650a718227aefa759eb0e71aa5e","scriptId":"1","startColumn":0,"startLine":0,"url":"two.js"}}
 to 1 {"id":1,"result":{"debuggerId":"1"}}
 to 1 {"id":2,"result":{"breakpointId":"1:1:0:two.js","locations":[{"columnNumber":0,"lineNumber":1,"scriptId":"1"}]}}
 to 1 {"id":3,"result":{"breakpointId":"1:2:0:two.js","locations":[{"columnNumber":0,"lineNumber":2,"scriptId":"1"}]}}
@@ -237,6 +242,7 @@ ran 8 ready
 ran 4 paused
 out 4
 ran 12 ended
+to 1 {"method":"Debugger.scriptParsed","params":{"endColumn":0,"endLine":5,"executionContextId":1,"hash":"70e9c64d64b5520aedaf5d0a77340c8eff8e46fe4826db5df38be9792a944c3e","scriptId":"1","startColumn":0,"startLine":0,"url":"loop.js"}}
 to 1 {"id":1,"result":{"debuggerId":"1"}}
 to 1 {"id":2,"result":{"breakpointId":"1:2:0:loop.js","locations":[{"columnNumber":2,"lineNumber":2,"scriptId":"1"}]}}
 to 1 {"id":3,"result":{}}
@@ -280,6 +286,7 @@ ran 24 paused
 ran 8 paused
 out 4
 ran 12 ended
+to 1 {"method":"Debugger.scriptParsed","params":{"endColumn":0,"endLine":5,"executionContextId":1,"hash":"70e9c64d64b5520aedaf5d0a77340c8eff8e46fe4826db5df38be9792a944c3e","scriptId":"1","startColumn":0,"startLine":0,"url":"loop.js"}}
 to 1 {"id":1,"result":{"debuggerId":"1"}}
 to 1 {"id":2,"result":{"result":{"className":"Array","description":"Array(8190)","objectId":"1.1","subtype":"array","type":"object"}}}
 to 1 {"id":3,"result":{"result":{"className":"Array","description":"Array(8190)","objectId":"1.2","subtype":"array","type":"object"}}}
@@ -501,6 +508,7 @@ ran 33 paused
 ran 32 paused
 out 0
 ran 11 ended
+to 1 {"method":"Debugger.scriptParsed","params":{"endColumn":0,"endLine":12,"executionContextId":1,"hash":"f81d250317239bbb8965ba45b0553e516affd24ac5a653c276f894cc77cc365b","scriptId":"1","startColumn":0,"startLine":0,"url":"visit.js"}}
 to 1 {"id":1,"result":{"debuggerId":"1"}}
 to 1 {"id":2,"result":{"breakpointId":"1:3:0:visit.js","locations":[{"columnNumber":2,"lineNumber":3,"scriptId":"1"}]}}
 to 1 {"id":3,"result":{"breakpointId":"1:4:0:visit.js","locations":[{"columnNumber":2,"lineNumber":4,"scriptId":"1"}]}}
@@ -539,6 +547,7 @@ const WITHIN_OUTPUT: &str = r#"attached 1
 ran 20 paused
 out 1 3 7
 ran 20 ended
+to 1 {"method":"Debugger.scriptParsed","params":{"endColumn":0,"endLine":3,"executionContextId":1,"hash":"a803872f8a4e3db8def5e362faffbfbd24e8a8b3d16cf7f92b22008ad9e66eeb","scriptId":"1","startColumn":0,"startLine":0,"url":"calls.js"}}
 to 1 {"id":1,"result":{"debuggerId":"1"}}
 to 1 {"id":2,"result":{"breakpointId":"1:2:10:calls.js","locations":[{"columnNumber":12,"lineNumber":2,"scriptId":"1"}]}}
 to 1 {"id":3,"result":{"breakpointId":"1:2:20:calls.js","locations":[{"columnNumber":20,"lineNumber":2,"scriptId":"1"}]}}

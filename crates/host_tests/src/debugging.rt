@@ -15,6 +15,7 @@ take 1
 "#;
 
 const SET_OUTPUT: &str = r#"attached 1
+to 1 {"method":"Debugger.scriptParsed","params":{"endColumn":0,"endLine":3,"executionContextId":1,"hash":"06361624c77938f46dbce9cf1e9d2a29fe80123723f66ab39387630379169438","scriptId":"1","startColumn":0,"startLine":0,"url":"empty.js"}}
 to 1 {"id":1,"result":{"debuggerId":"1"}}
 to 1 {"id":2,"result":{"locations":[{"columnNumber":0,"lineNumber":1,"scriptId":"1","type":"return"},{"columnNumber":0,"lineNumber":2,"scriptId":"1","type":"call"}]}}
 to 1 {"id":3,"result":{"breakpointId":"1:1:0:empty.js","locations":[{"columnNumber":0,"lineNumber":1,"scriptId":"1"}]}}
@@ -41,6 +42,7 @@ ran 1 paused
 ran 3 paused
 out 2
 ran 6 ended
+to 1 {"method":"Debugger.scriptParsed","params":{"endColumn":0,"endLine":5,"executionContextId":1,"hash":"989f3ce24d3c4b9c39bd5c36cb3649291ef596677ebe146d5e0b6a3b1e5eee48","scriptId":"1","startColumn":0,"startLine":0,"url":"one.js"}}
 to 1 {"id":1,"result":{"debuggerId":"1"}}
 to 1 {"id":2,"result":{"breakpointId":"1:3:0:one.js","locations":[{"columnNumber":0,"lineNumber":3,"scriptId":"1"}]}}
 to 1 {"id":3,"result":{"breakpointId":"1:1:0:one.js","locations":[{"columnNumber":2,"lineNumber":1,"scriptId":"1"}]}}
@@ -68,6 +70,8 @@ const TWO_OF_A_URL_OUTPUT: &str = r#"attached 1
 ran 1 paused
 ran 2 paused
 ran 1 ended
+to 1 {"method":"Debugger.scriptParsed","params":{"endColumn":0,"endLine":1,"executionContextId":1,"hash":"97a18ae8e28c3a8e24dc4a46fbb47a8106f7ca3e9e7a2015212caa44bf64db43","scriptId":"1","startColumn":0,"startLine":0,"url":"b.js"}}
+to 1 {"method":"Debugger.scriptParsed","params":{"endColumn":0,"endLine":1,"executionContextId":1,"hash":"97a18ae8e28c3a8e24dc4a46fbb47a8106f7ca3e9e7a2015212caa44bf64db43","scriptId":"2","startColumn":0,"startLine":0,"url":"b.js"}}
 to 1 {"id":1,"result":{"debuggerId":"1"}}
 to 1 {"id":2,"result":{"breakpointId":"1:0:0:b.js","locations":[{"columnNumber":0,"lineNumber":0,"scriptId":"1"},{"columnNumber":0,"lineNumber":0,"scriptId":"2"}]}}
 to 1 {"method":"Debugger.paused","params":{"callFrames":[{"callFrameId":"1.1.0","functionName":"","location":{"columnNumber":0,"lineNumber":0,"scriptId":"1"},"scopeChain":[{"object":{"className":"Object","description":"Object","objectId":"1.1","type":"object"},"type":"script"},{"object":{"className":"Object","description":"Object","objectId":"1.2","type":"object"},"type":"global"}],"this":{"type":"undefined"},"url":"b.js"}],"hitBreakpoints":["1:0:0:b.js"],"reason":"other"}}
@@ -97,6 +101,7 @@ take 1
 const REMOVED_OUTPUT: &str = r#"attached 1
 ran 1 paused
 ran 6 ended
+to 1 {"method":"Debugger.scriptParsed","params":{"endColumn":0,"endLine":3,"executionContextId":1,"hash":"1fa039744ec7930b4fcef8292ff5b82c75dd23bf868f645fbf774c6e92fb3157","scriptId":"1","startColumn":0,"startLine":0,"url":"lets.js"}}
 to 1 {"id":1,"result":{"debuggerId":"1"}}
 to 1 {"id":2,"result":{"actualLocation":{"columnNumber":0,"lineNumber":0,"scriptId":"1"},"breakpointId":"4:0:0:1"}}
 to 1 {"id":3,"result":{"breakpointId":"1:0:0:lets.js","locations":[{"columnNumber":0,"lineNumber":0,"scriptId":"1"}]}}
@@ -191,6 +196,7 @@ const TO_A_PLACE_OUTPUT: &str = r#"attached 1
 ran 1 paused
 ran 4 paused
 ran 2 ended
+to 1 {"method":"Debugger.scriptParsed","params":{"endColumn":0,"endLine":3,"executionContextId":1,"hash":"1fa039744ec7930b4fcef8292ff5b82c75dd23bf868f645fbf774c6e92fb3157","scriptId":"1","startColumn":0,"startLine":0,"url":"lets.js"}}
 to 1 {"id":1,"result":{"debuggerId":"1"}}
 to 1 {"id":2,"result":{}}
 to 1 {"method":"Debugger.paused","params":{"callFrames":[{"callFrameId":"1.1.0","functionName":"","location":{"columnNumber":0,"lineNumber":0,"scriptId":"1"},"scopeChain":[{"object":{"className":"Object","description":"Object","objectId":"1.1","type":"object"},"type":"script"},{"object":{"className":"Object","description":"Object","objectId":"1.2","type":"object"},"type":"global"}],"this":{"type":"undefined"},"url":"lets.js"}],"hitBreakpoints":[],"reason":"other"}}
@@ -217,6 +223,7 @@ take 1
 const DEBUGGER_OUTPUT: &str = r#"attached 1
 ran 2 paused
 ran 1 ended
+to 1 {"method":"Debugger.scriptParsed","params":{"endColumn":15,"endLine":0,"executionContextId":1,"hash":"96f3a6a5767994aa7b7baab66f058b6552e593697a0ac27f703c81ca2bccddbb","scriptId":"1","startColumn":0,"startLine":0,"url":"smile.js"}}
 to 1 {"id":1,"result":{"debuggerId":"1"}}
 to 1 {"method":"Debugger.paused","params":{"callFrames":[{"callFrameId":"1.1.0","functionName":"","location":{"columnNumber":6,"lineNumber":0,"scriptId":"1"},"scopeChain":[{"object":{"className":"Object","description":"Object","objectId":"1.1","type":"object"},"type":"script"},{"object":{"className":"Object","description":"Object","objectId":"1.2","type":"object"},"type":"global"}],"this":{"type":"undefined"},"url":"smile.js"}],"hitBreakpoints":[],"reason":"other"}}
 to 1 {"id":2,"result":{}}
@@ -246,6 +253,7 @@ take 1
 const UNCAUGHT_OUTPUT: &str = r#"attached 1
 ran 8 paused
 ran 3 threw
+to 1 {"method":"Debugger.scriptParsed","params":{"endColumn":0,"endLine":4,"executionContextId":1,"hash":"3cdc10018ff177b3076cadffe326ca16fea60e7386ea7790a5291f8cee61bcc7","scriptId":"1","startColumn":0,"startLine":0,"url":"last.js"}}
 to 1 {"id":1,"result":{"debuggerId":"1"}}
 to 1 {"id":2,"result":{}}
 to 1 {"method":"Debugger.paused","params":{"callFrames":[{"callFrameId":"1.1.0","functionLocation":{"columnNumber":0,"lineNumber":0,"scriptId":"1"},"functionName":"f","location":{"columnNumber":8,"lineNumber":1,"scriptId":"1"},"scopeChain":[{"name":"f","object":{"className":"Object","description":"Object","objectId":"1.1","type":"object"},"type":"local"},{"object":{"className":"Object","description":"Object","objectId":"1.2","type":"object"},"type":"script"},{"object":{"className":"Object","description":"Object","objectId":"1.3","type":"object"},"type":"global"}],"this":{"type":"undefined"},"url":"last.js"},{"callFrameId":"1.1.1","functionName":"","location":{"columnNumber":0,"lineNumber":3,"scriptId":"1"},"scopeChain":[{"object":{"className":"Object","description":"Object","objectId":"1.4","type":"object"},"type":"script"},{"object":{"className":"Object","description":"Object","objectId":"1.5","type":"object"},"type":"global"}],"this":{"type":"undefined"},"url":"last.js"}],"data":{"description":"1","type":"number","value":1},"hitBreakpoints":[],"reason":"exception"}}
@@ -256,6 +264,7 @@ to 1 {"method":"Debugger.resumed","params":{}}
 const CAUGHT_OUTPUT: &str = r#"attached 1
 ran 14 ended
 ran 0 ended
+to 1 {"method":"Debugger.scriptParsed","params":{"endColumn":0,"endLine":4,"executionContextId":1,"hash":"5a13ab3710c3d34cd61d24d499762f0e2f3b6546ec6d8c39162b78de2d55cc5f","scriptId":"1","startColumn":0,"startLine":0,"url":"finally.js"}}
 to 1 {"id":1,"result":{"debuggerId":"1"}}
 to 1 {"id":2,"result":{}}
 to 1 {"error":{"code":-32000,"message":"Can only perform operation while paused."},"id":3}
@@ -301,6 +310,7 @@ to 1 {"error":{"code":-32600,"message":"Message must have integer 'id' property"
 to 1 {"error":{"code":-32600,"message":"Message must have string 'method' property"},"id":1}
 to 1 {"error":{"code":-32600,"message":"Message must have string 'method' property"},"id":1}
 to 1 {"error":{"code":-32700,"message":"Message must be a valid JSON"}}
+to 1 {"method":"Debugger.scriptParsed","params":{"endColumn":0,"endLine":1,"executionContextId":1,"hash":"97a18ae8e28c3a8e24dc4a46fbb47a8106f7ca3e9e7a2015212caa44bf64db43","scriptId":"1","startColumn":0,"startLine":0,"url":"b.js"}}
 to 1 {"id":2,"result":{"debuggerId":"1"}}
 to 1 {"error":{"code":-32602,"message":"Invalid parameters"},"id":3}
 to 1 {"error":{"code":-32602,"message":"Invalid parameters"},"id":4}
@@ -317,7 +327,27 @@ to 1 {"error":{"code":-32601,"message":"'Runtime.evaluates' wasn't found"},"id":
 to 1 {"error":{"code":-32000,"message":"Can only perform operation while paused."},"id":15}
 "#;
 
-const FILES: [(&str, &[u8]); 24] = [
+// Of two scripts each has its own places and source; a range lies in one of them.
+const TWO_IDS: &[u8] = br#"attach
+tell 1 {"id":1,"method":"Debugger.enable"}
+tell 1 {"id":2,"method":"Debugger.getPossibleBreakpoints","params":{"start":{"scriptId":"1","lineNumber":0},"end":{"scriptId":"2","lineNumber":0}}}
+tell 1 {"id":3,"method":"Debugger.getPossibleBreakpoints","params":{"start":{"scriptId":"2","lineNumber":0},"end":{"scriptId":"2","lineNumber":1}}}
+tell 1 {"id":4,"method":"Debugger.getPossibleBreakpoints","params":{"start":{"scriptId":"02","lineNumber":0}}}
+tell 1 {"id":5,"method":"Debugger.getScriptSource","params":{"scriptId":"2"}}
+take 1
+"#;
+
+const TWO_IDS_OUTPUT: &str = r#"attached 1
+to 1 {"method":"Debugger.scriptParsed","params":{"endColumn":0,"endLine":1,"executionContextId":1,"hash":"97a18ae8e28c3a8e24dc4a46fbb47a8106f7ca3e9e7a2015212caa44bf64db43","scriptId":"1","startColumn":0,"startLine":0,"url":"b.js"}}
+to 1 {"method":"Debugger.scriptParsed","params":{"endColumn":0,"endLine":1,"executionContextId":1,"hash":"97a18ae8e28c3a8e24dc4a46fbb47a8106f7ca3e9e7a2015212caa44bf64db43","scriptId":"2","startColumn":0,"startLine":0,"url":"b.js"}}
+to 1 {"id":1,"result":{"debuggerId":"1"}}
+to 1 {"error":{"code":-32602,"message":"Invalid parameters"},"id":2}
+to 1 {"id":3,"result":{"locations":[{"columnNumber":0,"lineNumber":0,"scriptId":"2"}]}}
+to 1 {"error":{"code":-32000,"message":"No script for id: 02"},"id":4}
+to 1 {"id":5,"result":{"scriptSource":"1;\n"}}
+"#;
+
+const FILES: [(&str, &[u8]); 25] = [
     ("set", SET),
     ("over", OVER_A_BREAKPOINT),
     ("urls", TWO_OF_A_URL),
@@ -330,6 +360,7 @@ const FILES: [(&str, &[u8]); 24] = [
     ("all", ALL_THROWS),
     ("uncaught", UNCAUGHT_THROWS),
     ("texts", TEXTS),
+    ("ids", TWO_IDS),
     ("empty.js", b"function f() {\n}\nf();\n"),
     (
         "one.js",
@@ -459,7 +490,7 @@ const CALLS: [(&str, &str, &str, &str, u8, &str, &str); 16] = [
         "",
     ),
     ("replay texts b.js", "", "", "", 0, TEXTS_OUTPUT, ""),
-    ("replay texts b.js b.js", "", "", "", 0, TEXTS_OUTPUT, ""),
+    ("replay ids b.js b.js", "", "", "", 0, TWO_IDS_OUTPUT, ""),
 ];
 
 #[test]

@@ -314,7 +314,7 @@ fn effects_and_throws_are_exceptions(rt: HostRuntime) -> Result<(), Fail> {
 
 // ---- parameters
 
-// What is missing or of another kind, and the order of refusals. The flags for values and previews are only read.
+// What is missing or of another kind, and the order of refusals; and flags that are of their kinds.
 const PARAMETERS: &[u8] = br#"attach
 tell 1 {"id":1,"method":"Runtime.evaluate"}
 tell 1 {"id":2,"method":"Runtime.evaluate","params":{}}
@@ -348,7 +348,7 @@ tell 1 {"id":29,"method":"Runtime.evaluate","params":{"expression":"({a: [1]})",
 tell 1 {"id":30,"method":"Runtime.evaluate","params":{"expression":"1 +","silent":true}}
 tell 1 {"id":31,"method":"Runtime.evaluate","params":{"expression":"({})","objectGroup":""}}
 tell 1 {"id":32,"method":"Runtime.releaseObjectGroup","params":{"objectGroup":""}}
-tell 1 {"id":33,"method":"Runtime.getProperties","params":{"objectId":"1.3"}}
+tell 1 {"id":33,"method":"Runtime.getProperties","params":{"objectId":"1.2"}}
 tell 1 {"id":34,"method":"Runtime.getProperties","params":{"objectId":"1.1"}}
 tell 1 {"id":35,"method":"Debugger.evaluateOnCallFrame","params":{"callFrameId":"1.1.0"}}
 tell 1 {"id":36,"method":"Debugger.evaluateOnCallFrame","params":{"expression":"1"}}
@@ -389,18 +389,19 @@ to 1 {"error":{"code":-32602,"message":"Invalid parameters"},"id":24}
 to 1 {"id":25,"result":{"result":{"description":"1","type":"number","value":1}}}
 to 1 {"id":26,"result":{"result":{"description":"1","type":"number","value":1}}}
 to 1 {"id":27,"result":{"result":{"description":"1","type":"number","value":1}}}
-to 1 {"id":28,"result":{"result":{"className":"Object","description":"Object","objectId":"1.1","type":"object"}}}
-to 1 {"id":29,"result":{"result":{"className":"Object","description":"Object","objectId":"1.2","type":"object"}}}
+to 1 {"id":28,"result":{"result":{"className":"Object","description":"Object","type":"object","value":{"a":[1]}}}}
+to 1 {"id":29,"result":{"result":{"className":"Object","description":"Object","objectId":"1.1","preview":{"description":"Object","overflow":false,"properties":[{"name":"a","subtype":"array","type":"object","value":"Array(1)"}],"type":"object"},"type":"object"}}}
 to 1 {"id":30,"result":{"exceptionDetails":{"columnNumber":0,"exceptionId":1,"lineNumber":0,"text":"Uncaught SyntaxError: Unexpected token"},"result":{"type":"undefined"}}}
-to 1 {"id":31,"result":{"result":{"className":"Object","description":"Object","objectId":"1.3","type":"object"}}}
+to 1 {"id":31,"result":{"result":{"className":"Object","description":"Object","objectId":"1.2","type":"object"}}}
 to 1 {"id":32,"result":{}}
 to 1 {"error":{"code":-32000,"message":"Could not find object with given id"},"id":33}
-to 1 {"id":34,"result":{"result":[{"configurable":true,"enumerable":true,"isOwn":true,"name":"a","value":{"className":"Array","description":"Array(1)","objectId":"1.4","subtype":"array","type":"object"},"writable":true}]}}
+to 1 {"id":34,"result":{"result":[{"configurable":true,"enumerable":true,"isOwn":true,"name":"a","value":{"className":"Array","description":"Array(1)","objectId":"1.3","subtype":"array","type":"object"},"writable":true}]}}
 to 1 {"error":{"code":-32602,"message":"Invalid parameters"},"id":35}
 to 1 {"error":{"code":-32602,"message":"Invalid parameters"},"id":36}
 to 1 {"error":{"code":-32602,"message":"Invalid parameters"},"id":37}
 to 1 {"error":{"code":-32602,"message":"Invalid parameters"},"id":38}
 to 1 {"error":{"code":-32000,"message":"Debugger agent is not enabled"},"id":39}
+to 1 {"method":"Debugger.scriptParsed","params":{"endColumn":0,"endLine":1,"executionContextId":1,"hash":"d3ae90dcd74a8d609f3c89b786f0b9c5f1d3170ffa4b908b81d6ed405c136d11","scriptId":"1","startColumn":0,"startLine":0,"url":"one.js"}}
 to 1 {"id":40,"result":{"debuggerId":"1"}}
 to 1 {"error":{"code":-32000,"message":"Can only perform operation while paused."},"id":41}
 to 1 {"error":{"code":-32602,"message":"Invalid parameters"},"id":42}

@@ -75,6 +75,7 @@ to 1 {"id":18,"result":{}}
 to 1 {"error":{"code":-32000,"message":"Could not find object with given id"},"id":19}
 to 1 {"id":20,"result":{}}
 to 1 {"id":21,"result":{"exceptionDetails":{"columnNumber":0,"exception":{"className":"ReferenceError","description":"ReferenceError: base is not defined","objectId":"1.7","subtype":"error","type":"object"},"exceptionId":3,"lineNumber":0,"text":"Uncaught"},"result":{"className":"ReferenceError","description":"ReferenceError: base is not defined","objectId":"1.7","subtype":"error","type":"object"}}}
+to 1 {"method":"Debugger.scriptParsed","params":{"endColumn":0,"endLine":3,"executionContextId":1,"hash":"a328f54eaf47963eb89503ea4c130c133bc892f8868e56bfa5329c1cc146a6ac","scriptId":"1","startColumn":0,"startLine":0,"url":"keep.js"}}
 to 1 {"id":22,"result":{"debuggerId":"1"}}
 to 1 {"method":"Debugger.paused","params":{"callFrames":[{"callFrameId":"1.1.0","functionName":"","location":{"columnNumber":0,"lineNumber":1,"scriptId":"1"},"scopeChain":[{"object":{"className":"Object","description":"Object","objectId":"1.8","type":"object"},"type":"script"},{"object":{"className":"Object","description":"Object","objectId":"1.9","type":"object"},"type":"global"}],"this":{"type":"undefined"},"url":"keep.js"}],"hitBreakpoints":[],"reason":"other"}}
 to 1 {"id":23,"result":{"result":{"className":"Array","description":"Array(1)","objectId":"1.10","subtype":"array","type":"object"}}}
@@ -110,9 +111,59 @@ fn what_evaluations_make_is_held(rt: HostRuntime) -> Result<(), Fail> {
     each_call(&rt, &OBJECTS_FILES, b"", &OBJECTS_CALLS)
 }
 
+// ---- functions
+
 const BASE_SCRIPT: &[u8] = br#"let n = 0;
 const base = {p: 1};
 "#;
+
+// Functions that evaluations made are described by the texts of their evaluations.
+const FUNCTIONS: &[u8] = br#"attach
+tell 1 {"id":1,"method":"Runtime.evaluate","params":{"expression":"(k) => k + n"}}
+tell 1 {"id":2,"method":"Runtime.evaluate","params":{"expression":" function later(x) { return x * 2; } // kept","objectGroup":"watch"}}
+tell 1 {"id":3,"method":"Runtime.getProperties","params":{"objectId":"1.2"}}
+tell 1 {"id":4,"method":"Runtime.evaluate","params":{"expression":"({m(k) { return k; }, n: (k) => \"\u00e9\"})","objectGroup":"watch"}}
+tell 1 {"id":5,"method":"Runtime.getProperties","params":{"objectId":"1.3"}}
+tell 1 {"id":6,"method":"Runtime.evaluate","params":{"expression":"later(2)"}}
+tell 1 {"id":7,"method":"Runtime.evaluate","params":{"expression":"(() => { throw () => 1; })()"}}
+tell 1 {"id":8,"method":"Runtime.releaseObjectGroup","params":{"objectGroup":"watch"}}
+tell 1 {"id":9,"method":"Runtime.getProperties","params":{"objectId":"1.4"}}
+tell 1 {"id":10,"method":"Runtime.releaseObject","params":{"objectId":"1.2"}}
+tell 1 {"id":11,"method":"Runtime.getProperties","params":{"objectId":"1.1"}}
+take 1
+"#;
+
+const FUNCTIONS_OUTPUT: &str = r#"attached 1
+to 1 {"id":1,"result":{"result":{"className":"Function","description":"(k) => k + n","objectId":"1.1","type":"function"}}}
+to 1 {"id":2,"result":{"result":{"className":"Function","description":"function later(x) { return x * 2; }","objectId":"1.2","type":"function"}}}
+to 1 {"id":3,"result":{"result":[{"configurable":true,"enumerable":false,"isOwn":true,"name":"length","value":{"description":"1","type":"number","value":1},"writable":false},{"configurable":true,"enumerable":false,"isOwn":true,"name":"name","value":{"type":"string","value":"later"},"writable":false}]}}
+to 1 {"id":4,"result":{"result":{"className":"Object","description":"Object","objectId":"1.3","type":"object"}}}
+to 1 {"id":5,"result":{"result":[{"configurable":true,"enumerable":true,"isOwn":true,"name":"m","value":{"className":"Function","description":"m(k) { return k; }","objectId":"1.4","type":"function"},"writable":true},{"configurable":true,"enumerable":true,"isOwn":true,"name":"n","value":{"className":"Function","description":"(k) => \"é\"","objectId":"1.5","type":"function"},"writable":true}]}}
+to 1 {"id":6,"result":{"exceptionDetails":{"columnNumber":0,"exception":{"className":"ReferenceError","description":"ReferenceError: later is not defined","objectId":"1.6","subtype":"error","type":"object"},"exceptionId":1,"lineNumber":0,"text":"Uncaught"},"result":{"className":"ReferenceError","description":"ReferenceError: later is not defined","objectId":"1.6","subtype":"error","type":"object"}}}
+to 1 {"id":7,"result":{"exceptionDetails":{"columnNumber":0,"exception":{"className":"Function","description":"() => 1","objectId":"1.7","type":"function"},"exceptionId":2,"lineNumber":0,"text":"Uncaught"},"result":{"className":"Function","description":"() => 1","objectId":"1.7","type":"function"}}}
+to 1 {"id":8,"result":{}}
+to 1 {"error":{"code":-32000,"message":"Could not find object with given id"},"id":9}
+to 1 {"error":{"code":-32000,"message":"Could not find object with given id"},"id":10}
+to 1 {"id":11,"result":{"result":[{"configurable":true,"enumerable":false,"isOwn":true,"name":"length","value":{"description":"1","type":"number","value":1},"writable":false},{"configurable":true,"enumerable":false,"isOwn":true,"name":"name","value":{"type":"string","value":""},"writable":false}]}}
+"#;
+
+const FUNCTIONS_FILES: [(&str, &[u8]); 2] = [("base.js", BASE_SCRIPT), ("functions", FUNCTIONS)];
+
+// The words, nothing that fails, the status, the output and what is said of errors.
+const FUNCTIONS_CALLS: [(&str, &str, &str, &str, u8, &str, &str); 1] = [(
+    "replay functions base.js",
+    "",
+    "",
+    "",
+    0,
+    FUNCTIONS_OUTPUT,
+    "",
+)];
+
+#[test]
+fn functions_of_evaluations_are_described(rt: HostRuntime) -> Result<(), Fail> {
+    each_call(&rt, &FUNCTIONS_FILES, b"", &FUNCTIONS_CALLS)
+}
 
 // ---- units
 
@@ -204,6 +255,7 @@ take 1
 const RESUMED_OUTPUT: &str = r#"attached 1
 ran 1 paused
 ran 1 ended
+to 1 {"method":"Debugger.scriptParsed","params":{"endColumn":0,"endLine":1,"executionContextId":1,"hash":"2242ca78ff9aff3dab9c00c6dfa5dafb0b61daa31a9ea7845fd0dcfb6a9f76f8","scriptId":"1","startColumn":0,"startLine":0,"url":"stop.js"}}
 to 1 {"id":1,"result":{"debuggerId":"1"}}
 to 1 {"method":"Debugger.paused","params":{"callFrames":[{"callFrameId":"1.1.0","functionName":"","location":{"columnNumber":0,"lineNumber":0,"scriptId":"1"},"scopeChain":[{"object":{"className":"Object","description":"Object","objectId":"1.1","type":"object"},"type":"script"},{"object":{"className":"Object","description":"Object","objectId":"1.2","type":"object"},"type":"global"}],"this":{"type":"undefined"},"url":"stop.js"}],"hitBreakpoints":[],"reason":"other"}}
 to 1 {"id":2,"result":{"result":{"className":"Object","description":"Object","objectId":"1.3","type":"object"}}}

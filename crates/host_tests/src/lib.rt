@@ -14,6 +14,8 @@ mod edges;
 #[cfg(test)]
 mod evaluations;
 #[cfg(test)]
+mod inspecting;
+#[cfg(test)]
 mod kept;
 #[cfg(test)]
 mod objects;
