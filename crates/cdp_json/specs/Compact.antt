@@ -32,6 +32,7 @@ member_text m = string_text m.0 ++ 58 ∷ m.1
 abbrev pub ordered_text : List (List ℕ × List ℕ) → List ℕ
 ordered_text ms = with_commas (map member_text (in_order (λ m. m.0) ms))
 
+-- the text of a value, and those of the values of a list and of an object
 abbrev mutual
   pub compact_text : Json → List ℕ
   compact_text null = codes "null"

@@ -1,6 +1,7 @@
 -- JSON values (RFC 8259): texts and keys are lists of UTF-16 code units, and numbers are integers.
 use Rattle.std.specs.Prelude.{ℕ, ℤ, List, [], ◌∷◌, Bool}
 
+-- a value: null, a boolean, an integer, a text, a list or an object
 mutual
   pub data Json : Type 0 where
     null : Json

@@ -17,6 +17,7 @@ pub data Word : Type 0 where
   end_of_members : Word
   a_member : List ℕ → Word
 
+-- the words of a value, of the values of a list and of the members of an object
 abbrev mutual
   -- the words of a value, behind which others come
   pub json_words : Json → List Word → List Word

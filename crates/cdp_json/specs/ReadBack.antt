@@ -13,6 +13,7 @@ use Rattle.cdp_json.specs.Compact.{compact_text}
 
 -- ---- the value that serde_json reads
 
+-- what is read of a value, of the values of a list and of the members of an object
 abbrev mutual
   -- texts and keys in UTF-8 (a surrogate without a partner is U+FFFD), numbers as unsigned or negative integers, and of the members of one key the last
   pub data_of : Json → Data
@@ -35,6 +36,7 @@ abbrev mutual
 
 -- ---- the order in which members are written
 
+-- a value, the values of a list and the members of an object, each object in the order of its keys
 abbrev mutual
   -- the value with the members of each object in the order in which they are written
   pub ordered : Json → Json
@@ -57,6 +59,7 @@ abbrev mutual
 
 -- ---- what can be read back
 
+-- the depth of a value, of the values of a list and of the members of an object
 abbrev mutual
   -- how many lists and objects are inside one another
   pub depth : Json → ℕ
@@ -81,6 +84,7 @@ abbrev mutual
 abbrev pub FitsSixtyFourBits : ℤ → Type 0
 FitsSixtyFourBits z = (neg_ℤ (pos (2 ^ 63)) ≤ℤ z) × (z <ℤ pos (2 ^ 64))
 
+-- the numbers in a value, in the values of a list and in the members of an object fit in 64 bits
 abbrev mutual
   -- each number is a value of i64 or of u64
   pub NumbersFit : Json → Type 0
@@ -111,6 +115,7 @@ abbrev pub StandsApart : List ℕ → Members → Type 0
 StandsApart k no_members = ⊤
 StandsApart k (member l j ms) = (utf8_of k ≡ utf8_of l → k ≡ l) × StandsApart k ms
 
+-- the keys of each object stand apart, in a value, in the values of a list and in the members of an object
 abbrev mutual
   -- in each object, keys of one text are the same units
   pub KeysStandApart : Json → Type 0

@@ -20,6 +20,7 @@ both f None b = None
 both f (Some a) None = None
 both f (Some a) (Some b) = Some (f a b)
 
+-- a value, the values of a list and the members of an object, where all their numbers are safe integers
 abbrev mutual
   -- the value, where each of its numbers is a safe integer
   pub safe_value_of : Data → Option Json

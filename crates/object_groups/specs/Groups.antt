@@ -22,6 +22,7 @@ set_of g sets = get_by (λ name. slice_cmp nat_cmp g name.items) sets
 abbrev pub numbers_in : List ℕ → Groups → List ℕ
 numbers_in g groups = numbers_of (set_of g groups.sets)
 
+-- the number of a handle
 abbrev pub number_of : Handle → ℕ
 number_of h = h.number
 

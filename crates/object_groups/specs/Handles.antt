@@ -13,6 +13,7 @@ pub record State : Type 0 where
   pub held : List Handle
   pub made : ℕ
 
+-- before the first handle is made
 abbrev pub none_made : State
 none_made = record { held = []; made = 0 }
 
@@ -37,9 +38,11 @@ with_handle target group s = record { held = s.held ++ record { number = next_nu
 
 -- ---- finding and releasing
 
+-- whether a number is that of a handle
 abbrev pub has_number : ℕ → Handle → Bool
 has_number n h = nat_eq n h.number
 
+-- whether a number isn't that of a handle
 abbrev pub has_another_number : ℕ → Handle → Bool
 has_another_number n h = not (has_number n h)
 
@@ -52,9 +55,11 @@ abbrev pub is_named : List ℕ → Option (List ℕ) → Bool
 is_named g None = false
 is_named g (Some name) = bytes_eq name g
 
+-- whether a handle is in a group
 abbrev pub is_in : List ℕ → Handle → Bool
 is_in g h = is_named g h.group
 
+-- whether a handle is in another group or in none
 abbrev pub is_outside : List ℕ → Handle → Bool
 is_outside g h = not (is_in g h)
 
@@ -64,11 +69,13 @@ without_group g s = record s { held = filter (is_outside g) s.held }
 
 -- ---- cells that evaluations made
 
+-- whether an evaluation made the object or the scope
 abbrev pub is_in_scratch : Target → Bool
 is_in_scratch (Object (Base i)) = false
 is_in_scratch (Object (Scratch i)) = true
 is_in_scratch (Scope (Base i)) = false
 is_in_scratch (Scope (Scratch i)) = true
 
+-- whether an evaluation made the target of a handle
 abbrev pub is_on_scratch : Handle → Bool
 is_on_scratch h = is_in_scratch h.target

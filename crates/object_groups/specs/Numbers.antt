@@ -12,6 +12,7 @@ abbrev pub AllAbove : ℕ → List Handle → Type 0
 AllAbove n [] = Unit {0}
 AllAbove n (h ∷ hs) = (n < h.number) × AllAbove n hs
 
+-- each number is below those behind it
 abbrev pub IsAscending : List Handle → Type 0
 IsAscending [] = Unit {0}
 IsAscending (h ∷ hs) = AllAbove h.number hs × IsAscending hs

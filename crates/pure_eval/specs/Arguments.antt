@@ -6,6 +6,7 @@ use Rattle.js_semantics.specs.Evaluation.{Json, json_null, json_bool, json_numbe
 use Rattle.pure_eval.specs.declared.arguments.Argument.{Argument}
 use Rattle.pure_eval.specs.declared.arguments.Argument.TheVariants as arguments
 
+-- a JSON value, the values of a list and the members of an object, as the definition has them
 abbrev mutual
   -- a JSON value as the definition has it
   pub json_of : AnyJson → Json
@@ -29,12 +30,14 @@ abbrev pub argument_of : Argument → AnyArgument
 argument_of (arguments.Given v) = given v
 argument_of (arguments.Json j) = made_of (json_of (json_view j))
 
+-- arguments as the definition has them, in order
 abbrev pub arguments_of : List Argument → List AnyArgument
 arguments_of [] = []
 arguments_of (a ∷ rest) = argument_of a ∷ arguments_of rest
 
 -- ---- how many values a JSON value is made of, itself included
 
+-- the number of values in a JSON value, in the values of a list and in the members of an object
 abbrev mutual
   pub json_size : AnyJson → ℕ
   json_size null = 1

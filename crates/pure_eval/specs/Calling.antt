@@ -53,6 +53,7 @@ KeepsTo end w v = Keeps w v
 
 -- ---- the entry of a call that stands in no statement
 
+-- the call of this number stands in no statement
 abbrev pub HasCall : NodeTable → ℕ → Type 0
 HasCall t n = call_form (slice_get t.calls.items n) ≡ call beginning 0
 

@@ -25,6 +25,7 @@ IsBelow n (script_source number) = Unit {0}
 IsBelow n (kept_source (Base m)) = Unit {0}
 IsBelow n (kept_source (Scratch m)) = m < n
 
+-- each source is a script, or kept at an address below a number
 abbrev pub AreBelow : ℕ → Program → Type 0
 AreBelow n [] = Unit {0}
 AreBelow n (t ∷ ts) = IsBelow n t.source × AreBelow n ts

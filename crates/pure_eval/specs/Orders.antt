@@ -29,6 +29,7 @@ ends_as (fine a w) e = e
 ends_as effect e = ends.Effect
 ends_as (full what) e = ends.Full what
 
+-- how an evaluation ends behind what may be refused, if it ends so behind what isn't
 abbrev pub end_behind : Result (Unit {0}) Refused → Evaluated → Evaluated
 end_behind (Ok u) e = e
 end_behind (Err r) e = refused_end r

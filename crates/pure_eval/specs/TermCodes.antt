@@ -16,6 +16,7 @@ pub data Word : Type 0 where
   no_parts : Word
   a_part : Word
 
+-- the words of a term and of a list of terms
 abbrev mutual
   -- the words of a term, behind which others come
   pub term_words : Term → List Word → List Word
@@ -33,14 +34,17 @@ pub data Read : Type 0 where
   term_read : Term → Read → Read
   terms_read : Terms → Read → Read
 
+-- the lists that were read last are the parts of a form: those that are reduced, and those that are kept for later
 abbrev pub read_form : Form → Read → Read
 read_form f (terms_read later (terms_read now r)) = term_read (part f now later) r
 read_form f r = r
 
+-- the term that was read is a part in front of those
 abbrev pub read_part : Read → Read
 read_part (terms_read ts (term_read t r)) = terms_read (more t ts) r
 read_part r = r
 
+-- one word more is read
 abbrev pub read_word : Read → Word → Read
 read_word r (a_value v) = term_read (done v) r
 read_word r (a_throw v s) = term_read (standing v s) r
@@ -48,10 +52,12 @@ read_word r (a_form f) = read_form f r
 read_word r no_parts = terms_read end r
 read_word r a_part = read_part r
 
+-- words are read one after another
 abbrev pub read_words : Read → List Word → Read
 read_words r [] = r
 read_words r (w ∷ ws) = read_words (read_word r w) ws
 
+-- the term that was read last
 abbrev pub top_term : Read → Term
 top_term (term_read t r) = t
 top_term r = done values.Undefined
@@ -69,6 +75,7 @@ abbrev mutual
   terms_are_read (more t ts) ws r =
       term_is_read t (terms_words ts (a_part ∷ ws)) r ∙ terms_are_read ts (a_part ∷ ws) (term_read t r)
 
+-- words have codes
 pub word_coded : Coded Word
 word_coded = Prim.hlevel codes
 

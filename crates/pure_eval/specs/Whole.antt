@@ -39,6 +39,7 @@ pub record IsWithin (t : NodeTable) (e : SourceEntry) : Type 0 where
   pub root : e.root < length t.nodes.items
   pub numbers : (x m : ℕ) → slice_get e.functions.items x ≡ Some m → m ≤ length t.functions.items
 
+-- each source's node and the functions of its index are there
 abbrev pub AreWithin : NodeTable → Type 0
 AreWithin t = (i : ℕ) (e : SourceEntry) → slice_get t.sources.items i ≡ Some e → IsWithin t e
 

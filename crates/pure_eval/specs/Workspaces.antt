@@ -49,6 +49,7 @@ pub record Opened : Type 0 where
   pub before : Workspace
   pub behind : Workspace
 
+-- a workspace that was just opened over the cells of a program
 abbrev pub opened : World → Workspace → Opened
 opened w x = record { world = w; before = x; behind = x }
 

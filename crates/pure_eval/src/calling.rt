@@ -21,7 +21,7 @@ ghost use Rattle.pure_eval.specs.Calling.{called, KeepsTo, HasCall, IsCallAdded,
 
 use crate::arguments::{Argument, make_arguments};
 use crate::evaluated::{Evaluated, finish_of};
-use crate::reducing::run_on;
+use crate::reducing::{MOST_STEPS, run_on};
 use crate::session::refused_end;
 use js_code::node::CallEntry;
 use js_code::op::Op;
@@ -236,7 +236,7 @@ fn call_node<T: Rows, W: World>(
         world,
         &mut stack,
         &mut point,
-        100_000,
+        MOST_STEPS,
     );
     match callee {
         Callee::Reduced { value, left } => run_call::<T, W>(

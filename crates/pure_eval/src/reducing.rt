@@ -24,6 +24,9 @@ use js_world::names::Names;
 use js_world::world::World;
 use std::alloc::Global;
 
+/// As many steps as an evaluation may take.
+pub(crate) const MOST_STEPS: u64 = 100_000;
+
 /// Nobody asks an evaluation to stop.
 #[derive(Clone, Copy, Debug)]
 struct Nobody;
@@ -102,7 +105,7 @@ pub fn evaluate_node<T: Rows, W: World>(
             world,
             &mut stack,
             &mut point,
-            100_000,
+            MOST_STEPS,
         ),
         Err(_) => Evaluated::Memory,
     }
