@@ -1,6 +1,6 @@
 //! The machine of a run.
 
-ghost use Rattle.std.specs.Prelude.{◌≡◌, ◌≤◌, ℕ, List, [], None, IfOk, IfSome, IfNone};
+ghost use Rattle.std.specs.Prelude.{◌≡◌, ◌-◌, ◌≤◌, ℕ, List, [], None, IfOk, IfSome, IfNone};
 ghost use Rattle.js_heap.specs.BuiltIns.{script_scope};
 ghost use Rattle.js_heap.specs.World.{World as AnyWorld};
 ghost use Rattle.js_semantics.specs.Next.{next};
@@ -10,6 +10,7 @@ ghost use Rattle.js_code.specs.Trees.{IsTable};
 ghost use Rattle.js_terms.specs.Views.{terms_view};
 ghost use Rattle.js_steps.specs.Running.{IsRunning, RunsFor, CountsAs, IsAsked, HasPassed, passed_steps};
 ghost use Rattle.js_steps.specs.Stepping.{StandsIn, Tells, finish_of};
+ghost use Rattle.js_steps.specs.Prints.{PrintsAs, IsSilent, last_printed};
 ghost use Rattle.js_machine.specs.Machines.{program_of, term_of, state_of, run_at, IsGoing, IsKept, finish_at, end_of, end_of_run, HasSameCode};
 ghost use Rattle.js_machine.specs.Starts.{IsStarted};
 
@@ -186,6 +187,9 @@ impl Machine {
         // The host asked for a stop behind the last step, if that is the reason, and behind none before.
         ensures asked { (taken : List (List ℕ)) → IsAsked (H.stops host.now) result.why (steps_in result.steps (program_of self.old) script_scope (run_at self.old (W.world self.old.names world.old) taken)) }
         ensures passed { (taken : List (List ℕ)) → HasPassed (H.stops host.now) (passed_steps result.why result.steps) (program_of self.old) script_scope (run_at self.old (W.world self.old.names world.old) taken) }
+        // The last step printed these values, if they are the reason, and nothing otherwise; no step before it printed.
+        ensures values { (taken : List (List ℕ)) → PrintsAs result.why (last_printed result.steps (program_of self.old) script_scope (run_at self.old (W.world self.old.names world.old) taken)) }
+        ensures silent { (taken : List (List ℕ)) → IsSilent (result.steps - 1) (program_of self.old) script_scope (run_at self.old (W.world self.old.names world.old) taken) }
         ensures end { self.new.ended ≡ end_of_run result.why }
         ensures code { HasSameCode self.old self.new }
     {

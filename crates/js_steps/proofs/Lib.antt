@@ -15,3 +15,5 @@ pub mod ConcludeLemmas
 pub mod TravelLemmas
 pub mod StepLemmas
 pub mod RunLemmas
+pub mod PrintLemmas
+pub mod TextLemmas

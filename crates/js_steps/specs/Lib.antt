@@ -10,3 +10,4 @@ pub mod Settling
 pub mod Stepping
 pub mod Passing
 pub mod Running
+pub mod Prints

@@ -6,6 +6,7 @@ pub mod closing;
 pub mod concluding;
 pub mod finish;
 pub mod following;
+pub mod laws;
 pub mod leaf;
 pub mod parts;
 pub mod passing;

@@ -1,6 +1,6 @@
 //! Steps one after another.
 
-ghost use Rattle.std.specs.Prelude.{◌≡◌, ◌≤◌, ℕ, List, true, Some, is_some};
+ghost use Rattle.std.specs.Prelude.{◌≡◌, ◌-◌, ◌≤◌, ℕ, List, true, Some, is_some};
 ghost use Rattle.js_semantics.specs.Run.{steps_in, run_of};
 ghost use Rattle.js_operations.specs.Contexts.{state_of};
 ghost use Rattle.js_code.specs.Codes.{HasFunctions};
@@ -9,6 +9,7 @@ ghost use Rattle.js_heap.specs.World.{World as AnyWorld};
 ghost use Rattle.js_steps.specs.Points.{term_at, IsAt};
 ghost use Rattle.js_steps.specs.Running.{why_of, RunsTo, RunsFor, CountsAs, IsAsked, HasPassed, passed_steps, asks_at, IfGoes};
 ghost use Rattle.js_steps.specs.Stepping.{StandsIn};
+ghost use Rattle.js_steps.specs.Prints.{PrintsAs, IsSilent, last_printed};
 
 use crate::rows::Rows;
 use crate::stack::Stack;
@@ -141,6 +142,9 @@ pub fn run<T: Rows, W: World, H: Asks>(
     // The host asked for a stop behind the last step, if that is the reason, and behind none before.
     ensures asked { (taken : List (List ℕ)) → IsAsked (H.stops host.now) result.why (steps_in result.steps (program_of names.now table.now) root (run_of (term_at names.now table.now stack.old point.old) (state_of (W.world names.now world.old) context.old taken))) }
     ensures passed { (taken : List (List ℕ)) → HasPassed (H.stops host.now) (passed_steps result.why result.steps) (program_of names.now table.now) root (run_of (term_at names.now table.now stack.old point.old) (state_of (W.world names.now world.old) context.old taken)) }
+    // The last step printed these values, if they are the reason, and nothing otherwise; no step before it printed.
+    ensures values { (taken : List (List ℕ)) → PrintsAs result.why (last_printed result.steps (program_of names.now table.now) root (run_of (term_at names.now table.now stack.old point.old) (state_of (W.world names.now world.old) context.old taken))) }
+    ensures silent { (taken : List (List ℕ)) → IsSilent (result.steps - 1) (program_of names.now table.now) root (run_of (term_at names.now table.now stack.old point.old) (state_of (W.world names.now world.old) context.old taken)) }
 {
     for steps in 0..most {
         if let Point::Done(value) = *point {
