@@ -5,3 +5,4 @@ pub mod PauseLemmas
 pub mod StopLemmas
 pub mod ConditionLemmas
 pub mod CallLemmas
+pub mod OutboxSizes

@@ -1,8 +1,11 @@
+pub mod Outboxes
 pub mod Situations
 pub mod Sessions
 pub mod Results
 pub mod Scripts
 pub mod Pauses
+pub mod Consoles
+pub mod Endings
 pub mod Objects
 pub mod Evaluations
 pub mod Calls

@@ -41,7 +41,7 @@ use Rattle.cdp_session.specs.Results.{context_created_text, debugger_id, declare
 use Rattle.cdp_session.specs.Scripts.{scripts_told}
 use Rattle.cdp_session.specs.declared.situation.Pause.{Pause}
 use Rattle.cdp_session.specs.declared.asks.Asks.{Asks}
-use Rattle.cdp_session.specs.declared.asks.Asks.TheVariants.{Nothing, Resume, Leave}
+use Rattle.cdp_session.specs.declared.asks.Asks.TheVariants.{Nothing, Wake, Resume, Leave}
 
 -- what a method that is done leaves: its session, the events before the reply, its result, the events behind the reply, and what
 -- it asks of the program
@@ -279,4 +279,4 @@ row s x (params.CallFunctionOn call) = row_of (calls s x call)
 row s x params.RuntimeEnable = enable_runtime s x
 row s x params.RuntimeDisable = disable_runtime x
 row s x params.GlobalLexicalScopeNames = lexical_names s x
-row s x params.RunIfWaitingForDebugger = does x
+row s x params.RunIfWaitingForDebugger = asking Wake x

@@ -5,6 +5,8 @@
 pub enum Asks {
     /// Nothing.
     Nothing,
+    /// To begin, where it waits for a client.
+    Wake,
     /// To go on, from where it is paused.
     Resume,
     /// The session doesn't debug it any more: to go on, where no other session has the debugger enabled.

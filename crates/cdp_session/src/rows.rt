@@ -167,7 +167,7 @@ impl Session {
             Params::RuntimeEnable => self.enable_runtime(situation),
             Params::RuntimeDisable => self.disable_runtime(),
             Params::GlobalLexicalScopeNames => self.lexical_names(situation),
-            Params::RunIfWaitingForDebugger => Ok(done(self.alloc)),
+            Params::RunIfWaitingForDebugger => Ok(asking(self.alloc, Asks::Wake)),
         }
     }
 

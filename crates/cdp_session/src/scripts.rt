@@ -37,7 +37,7 @@ fn end_of(source: &[u16]) -> Result<Pos, AllocError>
 }
 
 /// The id of a script: its number as a decimal.
-fn script_id(alloc: Global, number: u32) -> Result<Json, AllocError>
+pub(crate) fn script_id(alloc: Global, number: u32) -> Result<Json, AllocError>
     ensures { IfOk result (λ j. json_view j ≡ json.text (parsed.script_id number)) }
 {
     let digits = format!(in alloc; "{number}")?;

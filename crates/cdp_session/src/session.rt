@@ -1,22 +1,29 @@
 //! A session: what it keeps, by which rule it names a stop, and how it answers a text.
 
-ghost use Rattle.std.specs.Prelude.{◌≡◌, ◌≤◌, ◌^◌, ◌∷◌, [], ◌++◌, List, map, IfOk, OnOk, option_to_list, string_bytes, if◌then◌else◌};
+ghost use Rattle.std.specs.Prelude.{◌≡◌, ◌<◌, ◌≤◌, ◌^◌, ◌∷◌, [], ◌++◌, List, true, false, map, IfOk, OnOk, IsErrOf, option_to_list, string_bytes, if◌then◌else◌};
 ghost use Rattle.cdp_session.specs.Situations.{HasSpots, seen};
 ghost use Rattle.cdp_session.specs.Sessions.{emptied, fresh, holding, is_silent, sent, with_exception, with_handles, without_backtrace};
+ghost use Rattle.cdp_session.specs.Outboxes.{fits};
 ghost use Rattle.breakpoints.specs.Breakpoints.{id_of};
 ghost use Rattle.breakpoints.specs.declared.breakpoint.Breakpoint.{Breakpoint};
 ghost use Rattle.stepping.specs.Causes.{first_cause};
 ghost use Rattle.cdp_session.specs.Conditions.{is_some_hit};
 ghost use Rattle.cdp_session.specs.Stops.{cause_of, hits_of, may_be_hit, may_name, resumed, stop_told, stopped};
+ghost use Rattle.cdp_session.specs.Consoles.{printed};
+ghost use Rattle.cdp_session.specs.Endings.{ended, ending_told};
 ghost use Rattle.cdp_session.specs.Replies.{answer_by, answer_of, comes_to, outcome_by, refusal_of, IsRefused};
 ghost use Rattle.cdp_session.specs.Made.{done_texts, KeepsIfRefused, Makes};
 
 use crate::asks::Asks;
 use crate::conditions::{Condition, ids_hit};
 use crate::done::{Done, Fault};
+use crate::ending::Ending;
+use crate::ends::context_destroyed_text;
 use crate::events::resumed_text;
+use crate::outbox::Outbox;
 use crate::program::Program;
 use crate::refusing::{wants_enabled, wants_pause};
+use crate::session_end::SessionEnd;
 use crate::situation::Situation;
 use breakpoints::breakpoints::Breakpoints;
 use cdp_json::command::Reading;
@@ -25,6 +32,7 @@ use cdp_json::refusal::Refusal;
 use cdp_json::{read_command, refusal_text, result_text};
 use cdp_text::position::Place;
 use cdp_text::units::Units;
+use js_heap::value::Value;
 use object_groups::Handles;
 use pure_eval::workspace::Workspace;
 use remote_objects::backtrace;
@@ -50,11 +58,11 @@ pub struct Session {
     // none once there was no memory for an evaluation
     pub(crate) workspace: Option<Workspace>,
     exceptions: u64,
-    outbox: Vec<String>,
+    outbox: Outbox,
 }
 
 impl Model for Session {
-    ghost use Rattle.std.specs.Prelude.{◌≤◌, ◌^◌, map, string_bytes, unwrap_or};
+    ghost use Rattle.std.specs.Prelude.{◌≤◌, ◌^◌, unwrap_or};
     ghost use Rattle.std.specs.Coded.{codes};
     ghost use Rattle.pure_eval.specs.TermCodes.{term_coded};
     ghost use Rattle.cdp_session.specs.Sessions.{Session as Kept, no_workspace};
@@ -63,7 +71,7 @@ impl Model for Session {
 
     ghost coded = { Prim.hlevel (codes, term_coded) };
 
-    ghost view = { λ x. record { number = x.number; rules = x.rules; runtime = x.runtime; breakpoints = x.breakpoints; handles = x.handles; workspace = unwrap_or x.workspace no_workspace; exceptions = x.exceptions; outbox = map string_bytes x.outbox.items } };
+    ghost view = { λ x. record { number = x.number; rules = x.rules; runtime = x.runtime; breakpoints = x.breakpoints; handles = x.handles; workspace = unwrap_or x.workspace no_workspace; exceptions = x.exceptions; outbox = x.outbox } };
 
     ghost invariant = { λ x. x.exceptions ≤ 2 ^ 62 };
 }
@@ -96,7 +104,7 @@ impl Session {
             conditions: Vec::new(alloc),
             workspace: Some(workspace),
             exceptions: 0,
-            outbox: Vec::new(alloc),
+            outbox: Outbox::new(alloc),
         }
     }
 
@@ -175,21 +183,22 @@ impl Session {
         ensures texts { map string_bytes result.items ≡ self.old.outbox }
         ensures rest { self.new ≡ emptied self.old }
     {
-        let empty = Vec::new(self.alloc);
-        std::mem::replace(&mut self.outbox, empty)
+        self.outbox.take(self.alloc)
     }
 
     /// Puts a text behind those that wait.
-    fn send(&mut self, text: String) -> Result<(), AllocError>
-        ensures { OnOk result (self.new ≡ sent (string_bytes text ∷ []) self.old) }
+    fn send(&mut self, text: String) -> Result<(), SessionEnd>
+        ensures sent { OnOk result (self.new ≡ sent (string_bytes text ∷ []) self.old) }
+        ensures fits { OnOk result (fits (self.old.outbox ++ string_bytes text ∷ []) ≡ true) }
+        ensures over { IsErrOf result SessionEnd.Overrun → fits (self.old.outbox ++ string_bytes text ∷ []) ≡ false }
     {
-        self.outbox.push(text)?;
-        Ok(())
+        self.outbox.push(text)
     }
 
     /// Puts texts behind those that wait, in order.
-    fn send_all(&mut self, texts: Vec<String>) -> Result<(), AllocError>
-        ensures { OnOk result (self.new ≡ sent (map string_bytes texts.items) self.old) }
+    fn send_all(&mut self, texts: Vec<String>) -> Result<(), SessionEnd>
+        ensures sent { OnOk result (self.new ≡ sent (map string_bytes texts.items) self.old) }
+        ensures over { IsErrOf result SessionEnd.Overrun → fits (self.old.outbox ++ map string_bytes texts.items) ≡ false }
     {
         for text in texts {
             self.send(text)?;
@@ -229,14 +238,16 @@ impl Session {
     ///
     /// # Errors
     ///
-    /// There is no memory for the text. The session is to be dropped.
+    /// The text doesn't fit behind those that wait, or there is no memory for it. The session is to be dropped.
     pub fn stopped<P: Program>(
         &mut self,
         situation: &Situation<'_, P>,
         number: u64,
         arrival: &Arrival,
-    ) -> Result<(), AllocError>
-        ensures { OnOk result (self.new ≡ stopped (seen P.standing situation.now) number arrival.now self.old) }
+    ) -> Result<(), SessionEnd>
+        ensures session { OnOk result (self.new ≡ stopped (seen P.standing situation.now) number arrival.now self.old) }
+        ensures fits { fits self.old.outbox ≡ true → OnOk result (fits (stopped (seen P.standing situation.now) number arrival.now self.old).outbox ≡ true) }
+        ensures over { IsErrOf result SessionEnd.Overrun → fits (stopped (seen P.standing situation.now) number arrival.now self.old).outbox ≡ false }
     {
         if !self.rules.enabled {
             self.rules.clear_requests();
@@ -251,9 +262,11 @@ impl Session {
     ///
     /// # Errors
     ///
-    /// There is no memory for the text. The session is to be dropped.
-    pub fn resumed(&mut self) -> Result<(), AllocError>
-        ensures { OnOk result (self.new ≡ resumed self.old) }
+    /// The text doesn't fit behind those that wait, or there is no memory for it. The session is to be dropped.
+    pub fn resumed(&mut self) -> Result<(), SessionEnd>
+        ensures session { OnOk result (self.new ≡ resumed self.old) }
+        ensures fits { fits self.old.outbox ≡ true → OnOk result (fits (resumed self.old).outbox ≡ true) }
+        ensures over { IsErrOf result SessionEnd.Overrun → fits (resumed self.old).outbox ≡ false }
     {
         self.handles.release_group(backtrace());
         self.give_up_unheld();
@@ -262,6 +275,75 @@ impl Session {
         }
         let text = resumed_text(self.alloc)?;
         self.send(text)
+    }
+
+    /// The program printed these values at this moment: where the session has the domain Runtime enabled it is told
+    /// (`Runtime.consoleAPICalled`), and the objects among them are held in the group `console`.
+    ///
+    /// # Errors
+    ///
+    /// The text doesn't fit behind those that wait, or there is no memory for it. The session is to be dropped.
+    pub fn printed<P: Program>(
+        &mut self,
+        situation: &Situation<'_, P>,
+        values: &[Value],
+        moment: u64,
+    ) -> Result<(), SessionEnd>
+        requires { moment < 2 ^ 53 }
+        ensures session { OnOk result (self.new ≡ printed (seen P.standing situation.now) values.now moment self.old) }
+        ensures fits { fits self.old.outbox ≡ true → OnOk result (fits (printed (seen P.standing situation.now) values.now moment self.old).outbox ≡ true) }
+        ensures over { IsErrOf result SessionEnd.Overrun → fits (printed (seen P.standing situation.now) values.now moment self.old).outbox ≡ false }
+    {
+        if !self.runtime {
+            return Ok(());
+        }
+        let text = self.print_told(situation, values, moment)?;
+        self.send(text)
+    }
+
+    /// The run ended so at this moment: where the session has the domain Runtime enabled it is told of the throw, if one
+    /// ended the run (`Runtime.exceptionThrown`), and then that the context is no more (`Runtime.executionContextDestroyed`).
+    ///
+    /// # Errors
+    ///
+    /// The texts don't fit behind those that wait, or there is no memory for them. The session is to be dropped.
+    pub fn ended<P: Program>(
+        &mut self,
+        situation: &Situation<'_, P>,
+        ending: Ending,
+        moment: u64,
+    ) -> Result<(), SessionEnd>
+        requires { moment < 2 ^ 53 }
+        ensures session { OnOk result (self.new ≡ ended (seen P.standing situation.now) ending moment self.old) }
+        ensures fits { fits self.old.outbox ≡ true → OnOk result (fits (ended (seen P.standing situation.now) ending moment self.old).outbox ≡ true) }
+        ensures over { IsErrOf result SessionEnd.Overrun → fits (ended (seen P.standing situation.now) ending moment self.old).outbox ≡ false }
+    {
+        if !self.runtime {
+            return Ok(());
+        }
+        self.tell_ending(situation, ending, moment)?;
+        let text = context_destroyed_text(self.alloc)?;
+        self.send(text)
+    }
+
+    /// Tells of the throw that ended the run, if one did.
+    fn tell_ending<P: Program>(
+        &mut self,
+        situation: &Situation<'_, P>,
+        ending: Ending,
+        moment: u64,
+    ) -> Result<(), SessionEnd>
+        requires { moment < 2 ^ 53 }
+        ensures session { OnOk result (self.new ≡ ending_told (seen P.standing situation.now) ending moment self.old) }
+        ensures over { IsErrOf result SessionEnd.Overrun → fits (ending_told (seen P.standing situation.now) ending moment self.old).outbox ≡ false }
+    {
+        match ending {
+            Ending::Finished => Ok(()),
+            Ending::Threw { value, place } => {
+                let text = self.throw_told(situation, value, place, moment)?;
+                self.send(text)
+            }
+        }
     }
 
     /// Gives up the cells of the session's evaluations, and their sources, where it holds no object in them.
@@ -295,26 +377,30 @@ impl Session {
     ///
     /// # Errors
     ///
-    /// There is no memory for the answer. The session is to be dropped.
+    /// The texts of the answer don't fit behind those that wait, or there is no memory for it. The session is to be dropped.
     pub fn tell<P: Program>(
         &mut self,
         situation: &Situation<'_, P>,
         text: &str,
-    ) -> Result<Asks, AllocError>
+    ) -> Result<Asks, SessionEnd>
         requires { HasSpots situation.now }
         ensures session { OnOk result (self.new ≡ (answer_of (seen P.standing situation.now) self.old text.now).session) }
+        ensures fits { OnOk result (fits (answer_of (seen P.standing situation.now) self.old text.now).session.outbox ≡ true) }
+        ensures over { IsErrOf result SessionEnd.Overrun → fits (answer_of (seen P.standing situation.now) self.old text.now).session.outbox ≡ false }
         ensures asks { IfOk result (λ asks. asks ≡ (answer_of (seen P.standing situation.now) self.old text.now).asks) }
     {
         match read_command(self.alloc, text) {
             Reading::Command { id, params, .. } => self.answer(situation, id, params),
             Reading::Refused { id, refusal } => self.refuse(id, &refusal),
-            Reading::Memory => Err(AllocError),
+            Reading::Memory => Err(SessionEnd::Memory),
         }
     }
 
     /// Answers a text that is refused.
-    fn refuse(&mut self, id: Option<u64>, refusal: &Refusal) -> Result<Asks, AllocError>
+    fn refuse(&mut self, id: Option<u64>, refusal: &Refusal) -> Result<Asks, SessionEnd>
         ensures session { OnOk result (self.new ≡ (answer_by self.old (IsRefused id refusal.now)).session) }
+        ensures fits { OnOk result (fits (answer_by self.old (IsRefused id refusal.now)).session.outbox ≡ true) }
+        ensures over { IsErrOf result SessionEnd.Overrun → fits (answer_by self.old (IsRefused id refusal.now)).session.outbox ≡ false }
         ensures asks { IfOk result (λ asks. asks ≡ (answer_by self.old (IsRefused id refusal.now)).asks) }
     {
         let text = refusal_text(self.alloc, id, refusal)?;
@@ -328,22 +414,26 @@ impl Session {
         situation: &Situation<'_, P>,
         id: u64,
         params: Params,
-    ) -> Result<Asks, AllocError>
+    ) -> Result<Asks, SessionEnd>
         requires { HasSpots situation.now }
         ensures session { OnOk result (self.new ≡ (answer_by self.old (outcome_by id (comes_to (seen P.standing situation.now) self.old params))).session) }
+        ensures fits { OnOk result (fits (answer_by self.old (outcome_by id (comes_to (seen P.standing situation.now) self.old params))).session.outbox ≡ true) }
+        ensures over { IsErrOf result SessionEnd.Overrun → fits (answer_by self.old (outcome_by id (comes_to (seen P.standing situation.now) self.old params))).session.outbox ≡ false }
         ensures asks { IfOk result (λ asks. asks ≡ (answer_by self.old (outcome_by id (comes_to (seen P.standing situation.now) self.old params))).asks) }
     {
         match self.perform(situation, params) {
             Ok(done) => self.reply(id, done),
             Err(Fault::Refused(refusal)) => self.refuse(Some(id), &refusal),
-            Err(Fault::Memory) => Err(AllocError),
+            Err(Fault::Memory) => Err(SessionEnd::Memory),
         }
     }
 
     /// Sends the events before the reply to a command that was done, the reply, and the event behind it.
-    fn reply(&mut self, id: u64, done: Done) -> Result<Asks, AllocError>
+    fn reply(&mut self, id: u64, done: Done) -> Result<Asks, SessionEnd>
         ensures session { OnOk result (self.new ≡ sent (done_texts id done) self.old) }
         ensures asks { IfOk result (λ asks. asks ≡ done.asks) }
+        ensures fits { OnOk result (fits (self.old.outbox ++ done_texts id done) ≡ true) }
+        ensures over { IsErrOf result SessionEnd.Overrun → fits (self.old.outbox ++ done_texts id done) ≡ false }
     {
         let Done {
             before,
@@ -351,16 +441,18 @@ impl Session {
             event,
             asks,
         } = done;
-        self.send_all(before)?;
         let text = result_text(self.alloc, id, &answer)?;
+        self.send_all(before)?;
         self.send(text)?;
         self.send_event(event)?;
         Ok(asks)
     }
 
     /// Puts an event behind the texts that wait, if there is one.
-    fn send_event(&mut self, event: Option<String>) -> Result<(), AllocError>
-        ensures { OnOk result (self.new ≡ sent (map string_bytes (option_to_list event)) self.old) }
+    fn send_event(&mut self, event: Option<String>) -> Result<(), SessionEnd>
+        ensures sent { OnOk result (self.new ≡ sent (map string_bytes (option_to_list event)) self.old) }
+        ensures fits { fits self.old.outbox ≡ true → OnOk result (fits (self.old.outbox ++ map string_bytes (option_to_list event)) ≡ true) }
+        ensures over { IsErrOf result SessionEnd.Overrun → fits (self.old.outbox ++ map string_bytes (option_to_list event)) ≡ false }
     {
         match event {
             Some(text) => self.send(text),
