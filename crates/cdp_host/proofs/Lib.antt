@@ -2,6 +2,8 @@ pub mod ProgramLemmas
 pub mod ArrivalLemmas
 pub mod PlaceLemmas
 pub mod PartLemmas
+pub mod EndingLemmas
+pub mod WatchLemmas
 pub mod StateLemmas
 pub mod StepLemmas
 pub mod RunLemmas

@@ -5,6 +5,7 @@ use Rattle.js_tree.specs.declared.script.Script.{Script}
 use Rattle.js_heap.specs.declared.value.Addr.{Addr}
 use Rattle.js_heap.specs.BuiltIns.{script_scope}
 use Rattle.js_heap.specs.World.{World}
+use Rattle.js_heap.specs.declared.value.Value.{Value}
 use Rattle.js_semantics.specs.Terms.{Term, done, standing, part}
 use Rattle.js_semantics.specs.State.{Frame, State, top_spot}
 use Rattle.js_semantics.specs.Functions.{Program}
@@ -17,6 +18,7 @@ use Rattle.js_code.specs.Trees as trees
 use Rattle.js_steps.specs.declared.run.Why.{Why}
 use Rattle.js_steps.specs.declared.run.Why.TheVariants as whys
 use Rattle.js_steps.specs.declared.stepped.Finish.{Finish}
+use Rattle.js_steps.specs.Prints.{IsSilent, PrintsAs, last_printed, values_printed}
 use Rattle.js_steps.specs.Running.{CountsAs, IsRunning, RunsFor, asks_at, HasPassed, passed_steps}
 use Rattle.js_steps.specs.Stepping.{finish_of}
 use Rattle.js_frames.specs.Sources.{spans_in}
@@ -34,10 +36,10 @@ use Rattle.cdp_session.specs.Situations.{Standing}
 use Rattle.cdp_session.proofs.StopLemmas.{never-causes}
 use Rattle.cdp_host.specs.Arrivals.{arrival_at, at_the_end, is_uncaught, place_at}
 use Rattle.cdp_host.specs.Standings.{standing_of}
-use Rattle.cdp_host.specs.Programs.{arrival_of, code_of, next, nexts, is_over, has_thrown, printed_of}
-use Rattle.cdp_host.specs.Meaning.{names, may_name}
+use Rattle.cdp_host.specs.Programs.{arrival_of, code_of, next, nexts, is_over, has_thrown, printed_of, prints_next}
 use Rattle.cdp_host.specs.Hosts.{Parts, machine_run, machine_arrival, run_with}
-use Rattle.cdp_host.specs.Ran.{Advances}
+use Rattle.cdp_host.specs.Ran.{Advances, may_stop, stops_at}
+use Rattle.cdp_host.specs.Watching.{prints_last}
 
 -- ---- arrivals
 
@@ -75,12 +77,12 @@ unraised false throws.Never = refl
 unraised false throws.Uncaught = refl
 unraised false throws.All = refl
 
-pub unnamed-end : (s : State) (o : Option Session) → may_name (at_the_end s) o ≡ false
+pub unnamed-end : (s : State) (o : Option Session) → may_stop (at_the_end s) o ≡ false
 unnamed-end s None = refl
 unnamed-end s (Some x) = unraised (not x.rules.enabled || x.rules.skip) x.rules.exceptions
 
 -- where it may name none, it names none, however the program stands
-never-named : (s : Standing) (a : Arrival) (o : Option Session) → may_name a o ≡ false → names s a o ≡ false
+never-named : (s : Standing) (a : Arrival) (o : Option Session) → may_stop a o ≡ false → stops_at s a o ≡ false
 never-named s a None never = refl
 never-named s a (Some x) never = never-causes s a x never
 
@@ -180,9 +182,9 @@ same-program m n same = ap (λ t. trees.program_of n.names t) same.table ∙ ap 
 
 -- the question whether a session may name a stop, as it is put behind a step
 abbrev pub asked : List Script → Option Session → Term → List Frame → Bool
-asked scripts session t frames = may_name (arrival_at scripts t frames) session
+asked scripts session t frames = may_stop (arrival_at scripts t frames) session
 
-asked_there : (scripts : List Script) (session : Option Session) (r : Run) → asks_at (asked scripts session) r ≡ may_name (arrival_of scripts r) session
+asked_there : (scripts : List Script) (session : Option Session) (r : Run) → asks_at (asked scripts session) r ≡ may_stop (arrival_of scripts r) session
 unfolding arrival_of
 asked_there scripts session (running t s) = refl
 asked_there scripts session (over f s) = sym (unnamed-end s session)
@@ -227,6 +229,21 @@ pub record HasRun (scripts : List Script) (session : Option Session) (most : ℕ
   pub counted : CountsAs why k most
   pub passed : (taken : List (List ℕ)) → HasPassed (asked scripts session) (passed_steps why k) (program_of m) script_scope (machine_run m h taken)
   pub end : n.ended ≡ end_of_run why
+  pub values : (taken : List (List ℕ)) → PrintsAs why (last_printed k (program_of m) script_scope (machine_run m h taken))
+  pub silent : (taken : List (List ℕ)) → IsSilent (k - 1) (program_of m) script_scope (machine_run m h taken)
+
+-- the values that a step of it prints, in the words of the host's program
+prints_there : (j : ℕ) (scripts : List Script) (p : Program) (r : Run) → p ≡ code_of scripts → values_printed p script_scope (steps_in j p script_scope r) ≡ prints_next scripts (nexts scripts j r)
+unfolding prints_next
+prints_there j scripts p r code =
+    ap (λ q. values_printed q script_scope (steps_in j q script_scope r)) code
+    ∙ ap (values_printed (code_of scripts) script_scope) (nexts_are j scripts r)
+
+last_there : (k : ℕ) (scripts : List Script) (p : Program) (r : Run) → 0 < k → p ≡ code_of scripts → last_printed k p script_scope r ≡ prints_last scripts k r
+last_there zero scripts p r some code = absurd (omega arith)
+last_there (suc j) scripts p r some code =
+    let e : j ≡ suc j - 1 = omega arith in
+    prints_there j scripts p r code ∙ ap (λ i. prints_next scripts (nexts scripts i r)) e
 
 some_steps : (most k : ℕ) (n : Machine) (h i : Heap) (m : Machine) (why : Why) (taken : List (List ℕ)) → 0 < most → CountsAs why k most → n.ended ≡ end_of_run why → IsKept n.ended
     → machine_run n i taken ≡ steps_in k (program_of m) script_scope (machine_run m h taken) → is_over (machine_run m h taken) ≡ false → 0 < k
@@ -246,8 +263,18 @@ has-advanced scripts session most m h n i k why ran code some kept goes taken =
       counts = record { some = some_steps most k n h i m why taken some ran.counted ran.end kept (ran.runs kept taken) (goes taken); within = ran.within };
       reached = ran.runs kept taken ∙ there k;
       runs = λ j below. ap is_over (sym (there j)) ∙ left_over k j (program_of m) script_scope r (ran.left taken) below;
+      silent = λ j below. sym (prints_there j scripts (program_of m) r code) ∙ (ran.silent taken).none j (omega (arith, below));
       passes = λ j first below.
           let low = all_but_last why k in
           never-named (standing_of scripts (nexts scripts j r)) (arrival_of scripts (nexts scripts j r)) session
           (sym (asked_there scripts session (nexts scripts j r)) ∙ ap (asks_at (asked scripts session)) (sym (there j)) ∙ (ran.passed taken).none j first (omega (arith, low)));
     }
+
+-- the values that why it stopped tells are those of its last step
+pub has-printed : (scripts : List Script) (session : Option Session) (most : ℕ) (m : Machine) (h : Heap) (n : Machine) (i : Heap) (k : ℕ) (why : Why) (values : Option (List Value)) → HasRun scripts session most m h n i k why
+    → program_of m ≡ code_of scripts → 0 < most → IsKept n.ended → ((taken : List (List ℕ)) → is_over (machine_run m h taken) ≡ false) → ((o : Option (List Value)) → IsKept (end_of_run why) → PrintsAs why o → values ≡ o)
+    → (taken : List (List ℕ)) → values ≡ prints_last scripts k (machine_run m h taken)
+has-printed scripts session most m h n i k why values ran code some kept goes tells taken =
+    let r : Run = machine_run m h taken in
+    tells (last_printed k (program_of m) script_scope r) (subst IsKept ran.end kept) (ran.values taken)
+    ∙ last_there k scripts (program_of m) r (some_steps most k n h i m why taken some ran.counted ran.end kept (ran.runs kept taken) (goes taken)) code

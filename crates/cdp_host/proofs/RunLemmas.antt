@@ -1,97 +1,91 @@
 -- Runs: one step behind others, the longest run, and where it stops.
-use Rattle.std.proofs.Common.{◌≡◌, ◌⊎◌, ℕ, zero, suc, ◌+◌, ◌<◌, ◌≤◌, List, Bool, true, false, not, refl, ap, sym, subst, ◌∙◌, inl, inr, arith, add-one, is_some, if◌then◌else◌, Option, Some, None}
+use Rattle.std.proofs.Common.{◌≡◌, ◌⊎◌, ℕ, zero, suc, ◌+◌, ◌<◌, ◌≤◌, List, Bool, true, false, ◌&&◌, not, refl, ap, sym, subst, ◌∙◌, inl, inr, arith, add-one, is_some, if◌then◌else◌}
 use Rattle.std.proofs.lemmas.Bool.{and_parts, not-true}
 use Rattle.js_tree.specs.declared.script.Script.{Script}
 use Rattle.js_semantics.specs.Run.{Run}
-use Rattle.stepping.specs.declared.arrival.Arrival.{Arrival}
-use Rattle.cdp_session.specs.declared.situation.Pause.{Pause}
-use Rattle.cdp_session.specs.Sessions.{Session}
-use Rattle.cdp_session.specs.Situations.{Standing}
-use Rattle.cdp_host.specs.Programs.{arrival_of, plain, next, is_over}
-use Rattle.cdp_host.specs.Standings.{standing_of}
-use Rattle.cdp_host.specs.Meaning.{Meaning, at_program, behind, is_paused, step, after_steps, is_ready, is_named, longest, IsLongest}
+use Rattle.cdp_host.specs.Programs.{plain, next, is_over}
+use Rattle.cdp_host.specs.Steps.{Step, step_of}
+use Rattle.cdp_host.specs.Meaning.{Meaning, is_held, is_paused, is_ready, is_woken, kept_behind, named_by, next_number, step, after_steps, watched, longest, IsLongest}
 use Rattle.cdp_host.specs.Ran.{HasMade}
-use Rattle.cdp_host.specs.Rules.{StopsExactly}
+use Rattle.cdp_host.specs.Rules.{StopsExactly, is_first, is_named}
+use Rattle.cdp_host.specs.declared.watched.Watched.TheVariants.{Passed}
 use Rattle.cdp_host.proofs.ProgramLemmas.{plain-next}
+use Rattle.cdp_host.proofs.WatchLemmas.{AskSame, ask-refl, ask-some, ask-trans, named-same, passed-free, passed-same, watched-paused}
 
 -- ---- pauses
 
-pub unpaused : (o : Option Pause) → is_some o ≡ false → o ≡ None
-unpaused None is = refl
-unpaused (Some p) is = absurd cc
+-- the next step of a program, as its session sees it
+abbrev pub step_from : List Script → Meaning Run → Step
+step_from scripts m = step_of scripts (is_woken m.phase) m.program
 
--- behind an arrival a program is paused exactly where it stops
-paused-behind : (scripts : List Script) (d : Standing) (a : Arrival) (b : Bool) (m : Meaning Run) → is_paused (behind scripts d a b m) ≡ b
-paused-behind scripts d a true m = refl
-paused-behind scripts d a false m = refl
-
-pub step-paused : (scripts : List Script) (m : Meaning Run) → is_paused (step scripts m) ≡ is_named scripts m (next scripts m.program)
-step-paused scripts m = paused-behind scripts (standing_of scripts (next scripts m.program)) (arrival_of scripts (next scripts m.program)) (is_named scripts m (next scripts m.program)) (at_program (next scripts m.program) m)
+-- behind a step a program is paused exactly where its session names the step and isn't lost
+pub step-paused : (scripts : List Script) (moment : ℕ) (m : Meaning Run) → is_paused (step scripts moment m) ≡ (named_by (step_from scripts m) m.session && is_some (step scripts moment m).session)
+step-paused scripts moment m = watched-paused scripts (next_number m.stops) moment m.stops (step_from scripts m) m.session
 
 -- ---- steps behind others
 
 -- one more step comes behind the others
-pub after_steps-suc : (n : ℕ) (scripts : List Script) (m : Meaning Run) → after_steps scripts (suc n) m ≡ step scripts (after_steps scripts n m)
-after_steps-suc zero scripts m = refl
-after_steps-suc (suc n) scripts m = after_steps-suc n scripts (step scripts m)
+pub after_steps-suc : (n : ℕ) (scripts : List Script) (moment : ℕ) (m : Meaning Run) → after_steps scripts moment (suc n) m ≡ step scripts moment (after_steps scripts moment n m)
+after_steps-suc zero scripts moment m = refl
+after_steps-suc (suc n) scripts moment m = after_steps-suc n scripts moment (step scripts moment m)
 
-after_steps-more : (n : ℕ) (scripts : List Script) (m : Meaning Run) → after_steps scripts (n + 1) m ≡ step scripts (after_steps scripts n m)
-after_steps-more n scripts m = rw add-one (after_steps-suc n scripts m)
+after_steps-more : (n : ℕ) (scripts : List Script) (moment : ℕ) (m : Meaning Run) → after_steps scripts moment (n + 1) m ≡ step scripts moment (after_steps scripts moment n m)
+after_steps-more n scripts moment m = rw add-one (after_steps-suc n scripts moment m)
 
-after_steps-sum : (j k : ℕ) (scripts : List Script) (m : Meaning Run) → after_steps scripts (j + k) m ≡ after_steps scripts k (after_steps scripts j m)
-after_steps-sum zero k scripts m = let e : 0 + k ≡ k = omega arith in ap (λ n. after_steps scripts n m) e
-after_steps-sum (suc j) k scripts m = let e : suc j + k ≡ suc (j + k) = omega arith in ap (λ n. after_steps scripts n m) e ∙ after_steps-sum j k scripts (step scripts m)
+after_steps-sum : (j k : ℕ) (scripts : List Script) (moment : ℕ) (m : Meaning Run) → after_steps scripts moment (j + k) m ≡ after_steps scripts moment k (after_steps scripts moment j m)
+after_steps-sum zero k scripts moment m = let e : 0 + k ≡ k = omega arith in ap (λ n. after_steps scripts moment n m) e
+after_steps-sum (suc j) k scripts moment m = let e : suc j + k ≡ suc (j + k) = omega arith in ap (λ n. after_steps scripts moment n m) e ∙ after_steps-sum j k scripts moment (step scripts moment m)
 
 -- ---- what was made
 
-pub made-none : (scripts : List Script) (m : Meaning Run) → HasMade scripts m m 0
-made-none scripts m = record { reached = refl; ready = λ j below. absurd (omega arith) }
+pub made-none : (scripts : List Script) (moment : ℕ) (m : Meaning Run) → HasMade scripts moment m m 0
+made-none scripts moment m = record { reached = refl; ready = λ j below. absurd (omega arith) }
 
-ready-sum : (j k : ℕ) (scripts : List Script) (m : Meaning Run) → ((i : ℕ) → i < j → is_ready (after_steps scripts i m) ≡ true)
-    → ((i : ℕ) → i < k → is_ready (after_steps scripts i (after_steps scripts j m)) ≡ true) → (i : ℕ) → i < j + k → is_ready (after_steps scripts i m) ≡ true
-ready-sum zero k scripts m first others i below = others i (omega arith)
-ready-sum (suc j) k scripts m first others zero below = first 0 (omega arith)
-ready-sum (suc j) k scripts m first others (suc i) below =
-    ready-sum j k scripts (step scripts m) (λ h small. first (suc h) (omega arith)) others i (omega arith)
+ready-sum : (j k : ℕ) (scripts : List Script) (moment : ℕ) (m : Meaning Run) → ((i : ℕ) → i < j → is_ready (after_steps scripts moment i m) ≡ true)
+    → ((i : ℕ) → i < k → is_ready (after_steps scripts moment i (after_steps scripts moment j m)) ≡ true) → (i : ℕ) → i < j + k → is_ready (after_steps scripts moment i m) ≡ true
+ready-sum zero k scripts moment m first others i below = others i (omega arith)
+ready-sum (suc j) k scripts moment m first others zero below = first 0 (omega arith)
+ready-sum (suc j) k scripts moment m first others (suc i) below =
+    ready-sum j k scripts moment (step scripts moment m) (λ h small. first (suc h) (omega arith)) others i (omega arith)
 
 -- steps behind steps
-pub made-more : (scripts : List Script) (m n o : Meaning Run) (j k : ℕ) → HasMade scripts m n j → HasMade scripts n o k → HasMade scripts m o (j + k)
-made-more scripts m n o j k first others =
-    let P : Meaning Run → Type 0 = λ q. (i : ℕ) → i < k → is_ready (after_steps scripts i q) ≡ true in
+pub made-more : (scripts : List Script) (moment : ℕ) (m n o : Meaning Run) (j k : ℕ) → HasMade scripts moment m n j → HasMade scripts moment n o k → HasMade scripts moment m o (j + k)
+made-more scripts moment m n o j k first others =
+    let P : Meaning Run → Type 0 = λ q. (i : ℕ) → i < k → is_ready (after_steps scripts moment i q) ≡ true in
     record {
-      reached = others.reached ∙ ap (after_steps scripts k) first.reached ∙ sym (after_steps-sum j k scripts m);
-      ready = ready-sum j k scripts m first.ready (subst P first.reached others.ready);
+      reached = others.reached ∙ ap (after_steps scripts moment k) first.reached ∙ sym (after_steps-sum j k scripts moment m);
+      ready = ready-sum j k scripts moment m first.ready (subst P first.reached others.ready);
     }
 
 -- ---- the longest run
 
 -- a run after a step that may be made
-full_more : (scripts : List Script) (most k : ℕ) (m : Meaning Run) → (k ≡ most) ⊎ (is_ready (after_steps scripts k (step scripts m)) ≡ false)
-    → (k + 1 ≡ suc most) ⊎ (is_ready (after_steps scripts (k + 1) m) ≡ false)
-full_more scripts most k m (inl is) = inl (omega arith)
-full_more scripts most k m (inr stays) = inr (rw (add-one) stays)
+full_more : (scripts : List Script) (moment : ℕ) (most k : ℕ) (m : Meaning Run) → (k ≡ most) ⊎ (is_ready (after_steps scripts moment k (step scripts moment m)) ≡ false)
+    → (k + 1 ≡ suc most) ⊎ (is_ready (after_steps scripts moment (k + 1) m) ≡ false)
+full_more scripts moment most k m (inl is) = inl (omega arith)
+full_more scripts moment most k m (inr stays) = inr (rw (add-one) stays)
 
-ready_more : (scripts : List Script) (k : ℕ) (m : Meaning Run) → is_ready m ≡ true → ((j : ℕ) → j < k → is_ready (after_steps scripts j (step scripts m)) ≡ true)
-    → (j : ℕ) → j < k + 1 → is_ready (after_steps scripts j m) ≡ true
-ready_more scripts k m go each zero below = go
-ready_more scripts k m go each (suc j) below = each j (omega arith)
+ready_more : (scripts : List Script) (moment : ℕ) (k : ℕ) (m : Meaning Run) → is_ready m ≡ true → ((j : ℕ) → j < k → is_ready (after_steps scripts moment j (step scripts moment m)) ≡ true)
+    → (j : ℕ) → j < k + 1 → is_ready (after_steps scripts moment j m) ≡ true
+ready_more scripts moment k m go each zero below = go
+ready_more scripts moment k m go each (suc j) below = each j (omega arith)
 
-more : (scripts : List Script) (most k : ℕ) (m : Meaning Run) → is_ready m ≡ true → IsLongest scripts most (step scripts m) k → IsLongest scripts (suc most) m (k + 1)
-more scripts most k m go is =
-    record { within = omega (arith, is.within); ready = ready_more scripts k m go is.ready; full = full_more scripts most k m is.full }
+more : (scripts : List Script) (moment : ℕ) (most k : ℕ) (m : Meaning Run) → is_ready m ≡ true → IsLongest scripts moment most (step scripts moment m) k → IsLongest scripts moment (suc most) m (k + 1)
+more scripts moment most k m go is =
+    record { within = omega (arith, is.within); ready = ready_more scripts moment k m go is.ready; full = full_more scripts moment most k m is.full }
 
-by_test : (scripts : List Script) (most : ℕ) (m : Meaning Run) (b : Bool) → is_ready m ≡ b → IsLongest scripts most (step scripts m) (longest scripts most (step scripts m))
-    → IsLongest scripts (suc most) m (if b then longest scripts most (step scripts m) + 1 else 0)
-by_test scripts most m true go is = more scripts most (longest scripts most (step scripts m)) m go is
-by_test scripts most m false stay is = record { within = omega arith; ready = λ j below. absurd (omega arith); full = inr stay }
+by_test : (scripts : List Script) (moment : ℕ) (most : ℕ) (m : Meaning Run) (b : Bool) → is_ready m ≡ b → IsLongest scripts moment most (step scripts moment m) (longest scripts moment most (step scripts moment m))
+    → IsLongest scripts moment (suc most) m (if b then longest scripts moment most (step scripts moment m) + 1 else 0)
+by_test scripts moment most m true go is = more scripts moment most (longest scripts moment most (step scripts moment m)) m go is
+by_test scripts moment most m false stay is = record { within = omega arith; ready = λ j below. absurd (omega arith); full = inr stay }
 
-pub longest-is : (most : ℕ) (scripts : List Script) (m : Meaning Run) → IsLongest scripts most m (longest scripts most m)
-longest-is zero scripts m = record { within = omega arith; ready = λ j below. absurd (omega arith); full = inl refl }
-longest-is (suc most) scripts m = by_test scripts most m (is_ready m) refl (longest-is most scripts (step scripts m))
+pub longest-is : (most : ℕ) (scripts : List Script) (moment : ℕ) (m : Meaning Run) → IsLongest scripts moment most m (longest scripts moment most m)
+longest-is zero scripts moment m = record { within = omega arith; ready = λ j below. absurd (omega arith); full = inl refl }
+longest-is (suc most) scripts moment m = by_test scripts moment most m (is_ready m) refl (longest-is most scripts moment (step scripts moment m))
 
 -- a longest run isn't followed by a further step that may be made
-no_further : (scripts : List Script) (most j k : ℕ) (m : Meaning Run) → IsLongest scripts most m j → IsLongest scripts most m k → j < k → ⊥
-no_further scripts most j k m one other below =
+no_further : (scripts : List Script) (moment : ℕ) (most j k : ℕ) (m : Meaning Run) → IsLongest scripts moment most m j → IsLongest scripts moment most m k → j < k → ⊥
+no_further scripts moment most j k m one other below =
     elim (one.full) [
       | inl is ↦ let within = other.within in omega arith
       | inr stays ↦ let goes = other.ready j below in absurd cc
@@ -101,103 +95,99 @@ not_less : (j k : ℕ) → (j < k → ⊥) → (k < j → ⊥) → j ≡ k
 not_less j k not_below not_above = grind arith
 
 -- so there is one such length
-pub longest-one : (scripts : List Script) (most j k : ℕ) (m : Meaning Run) → IsLongest scripts most m j → IsLongest scripts most m k → j ≡ k
-longest-one scripts most j k m one other = not_less j k (no_further scripts most j k m one other) (no_further scripts most k j m other one)
+pub longest-one : (scripts : List Script) (moment : ℕ) (most j k : ℕ) (m : Meaning Run) → IsLongest scripts moment most m j → IsLongest scripts moment most m k → j ≡ k
+longest-one scripts moment most j k m one other = not_less j k (no_further scripts moment most j k m one other) (no_further scripts moment most k j m other one)
 
 -- what was made is the longest run, where all is made or the program isn't ready any more
-pub made-longest : (scripts : List Script) (m n : Meaning Run) (most k : ℕ) → HasMade scripts m n k → k ≤ most → (k ≡ most) ⊎ (is_ready n ≡ false) → IsLongest scripts most m k
-made-longest scripts m n most k made within full =
+pub made-longest : (scripts : List Script) (moment : ℕ) (m n : Meaning Run) (most k : ℕ) → HasMade scripts moment m n k → k ≤ most → (k ≡ most) ⊎ (is_ready n ≡ false) → IsLongest scripts moment most m k
+made-longest scripts moment m n most k made within full =
     let P : Meaning Run → Type 0 = λ q. (k ≡ most) ⊎ (is_ready q ≡ false) in
     record { within = within; ready = made.ready; full = subst P made.reached full }
 
-pub is-longest : (scripts : List Script) (most k : ℕ) (m : Meaning Run) → IsLongest scripts most m k → k ≡ longest scripts most m
-is-longest scripts most k m is = longest-one scripts most k (longest scripts most m) m is (longest-is most scripts m)
+pub is-longest : (scripts : List Script) (moment : ℕ) (most k : ℕ) (m : Meaning Run) → IsLongest scripts moment most m k → k ≡ longest scripts moment most m
+is-longest scripts moment most k m is = longest-one scripts moment most k (longest scripts moment most m) m is (longest-is most scripts moment m)
 
 -- ---- where a run stops
 
--- a stop leaves the program as it is
-behind-program : (scripts : List Script) (d : Standing) (a : Arrival) (b : Bool) (m : Meaning Run) → (behind scripts d a b m).program ≡ m.program
-behind-program scripts d a true m = refl
-behind-program scripts d a false m = refl
+-- whatever stops it, the program goes one step further
+pub step-program : (scripts : List Script) (moment : ℕ) (m : Meaning Run) → (step scripts moment m).program ≡ next scripts m.program
+step-program scripts moment m = refl
 
-pub step-program : (scripts : List Script) (m : Meaning Run) → (step scripts m).program ≡ next scripts m.program
-step-program scripts m = behind-program scripts (standing_of scripts (next scripts m.program)) (arrival_of scripts (next scripts m.program)) (is_named scripts m (next scripts m.program)) (at_program (next scripts m.program) m)
-
--- the program goes its plain way, whatever stops it
-pub after_steps-plain : (n : ℕ) (scripts : List Script) (input : List (List ℕ)) (made : ℕ) (m : Meaning Run) → m.program ≡ plain made scripts input
-    → (after_steps scripts n m).program ≡ plain (made + n) scripts input
-after_steps-plain zero scripts input made m is = let e : made ≡ made + 0 = omega arith in is ∙ ap (λ k. plain k scripts input) e
-after_steps-plain (suc n) scripts input made m is =
+-- so it goes its plain way
+pub after_steps-plain : (n : ℕ) (scripts : List Script) (moment : ℕ) (input : List (List ℕ)) (made : ℕ) (m : Meaning Run) → m.program ≡ plain made scripts input
+    → (after_steps scripts moment n m).program ≡ plain (made + n) scripts input
+after_steps-plain zero scripts moment input made m is = let e : made ≡ made + 0 = omega arith in is ∙ ap (λ k. plain k scripts input) e
+after_steps-plain (suc n) scripts moment input made m is =
     let e : suc made + n ≡ made + suc n = omega arith in
-    after_steps-plain n scripts input (suc made) (step scripts m) (step-program scripts m ∙ ap (next scripts) is ∙ plain-next made scripts input) ∙ ap (λ k. plain k scripts input) e
+    after_steps-plain n scripts moment input (suc made) (step scripts moment m) (ap (next scripts) is ∙ plain-next made scripts input) ∙ ap (λ k. plain k scripts input) e
 
--- a step that no session names leaves the session and the count of stops as they were
-step-session : (scripts : List Script) (m : Meaning Run) → is_named scripts m (next scripts m.program) ≡ false → (step scripts m).session ≡ m.session
-step-session scripts m unnamed = rw unnamed refl
+-- a ready program isn't held
+ready-free : (m : Meaning Run) → is_ready m ≡ true → is_held m ≡ false
+ready-free m go = not-true (is_held m) (and_parts (not (is_held m)) (not (is_over m.program)) go).0
 
-step-stops : (scripts : List Script) (m : Meaning Run) → is_named scripts m (next scripts m.program) ≡ false → (step scripts m).stops ≡ m.stops
-step-stops scripts m unnamed = rw unnamed refl
+-- a step behind which the program is ready let it pass
+step-passed : (scripts : List Script) (moment : ℕ) (m : Meaning Run) → is_ready (step scripts moment m) ≡ true → watched scripts (next_number m.stops) moment (step_from scripts m) m.session ≡ Passed
+step-passed scripts moment m go = passed-free m.stops m.attached m.lost (watched scripts (next_number m.stops) moment (step_from scripts m) m.session) (ready-free (step scripts moment m) go)
 
--- a ready program isn't paused
-pub ready-paused : (m : Meaning Run) → is_ready m ≡ true → is_paused m ≡ false
-ready-paused m go = not-true (is_paused m) (and_parts (not (is_paused m)) (not (is_over m.program)) go).0
+-- before its last step the session of a run stays, and asks for the same
+pub quiet : (j : ℕ) (scripts : List Script) (moment : ℕ) (m : Meaning Run) (n : ℕ) → ((i : ℕ) → i < n → is_ready (after_steps scripts moment i m) ≡ true) → j < n → AskSame (after_steps scripts moment j m).session m.session
+quiet zero scripts moment m n ready below = ask-refl m.session
+quiet (suc j) scripts moment m n ready below =
+    let k : Meaning Run = after_steps scripts moment j m in
+    let now : after_steps scripts moment (suc j) m ≡ step scripts moment k = after_steps-suc j scripts moment m in
+    let P : Meaning Run → Type 0 = λ q. AskSame q.session m.session in
+    let passed = step-passed scripts moment k (ap is_ready (sym now) ∙ ready (suc j) below) in
+    subst P (sym now)
+    (ask-trans (kept_behind scripts (next_number k.stops) moment (step_from scripts k) k.session) k.session m.session
+    (passed-same scripts (next_number k.stops) moment (step_from scripts k) k.session passed).0 (quiet j scripts moment m n ready (omega (arith, below))))
 
--- while the program is ready, no step was named, so what such a step leaves as it was is as it was
-unnamed-keep : {X : Type 0} (g : Meaning Run → X) (j : ℕ) (scripts : List Script) (m : Meaning Run) (n : ℕ) → ((k : Meaning Run) → is_named scripts k (next scripts k.program) ≡ false → g (step scripts k) ≡ g k)
-    → ((i : ℕ) → i < n → is_ready (after_steps scripts i m) ≡ true) → j < n → g (after_steps scripts j m) ≡ g m
-unnamed-keep g zero scripts m n keeps ready below = refl
-unnamed-keep g (suc j) scripts m n keeps ready below =
-    let now : after_steps scripts (suc j) m ≡ step scripts (after_steps scripts j m) = after_steps-suc j scripts m in
-    let unnamed = sym (step-paused scripts (after_steps scripts j m)) ∙ sym (ap is_paused now) ∙ ready-paused (after_steps scripts (suc j) m) (ready (suc j) below) in
-    ap g now ∙ keeps (after_steps scripts j m) unnamed ∙ unnamed-keep g j scripts m n keeps ready (omega arith)
+-- whether its next step is the first
+first_there : (j : ℕ) (scripts : List Script) (moment : ℕ) (m : Meaning Run) → is_woken (after_steps scripts moment j m).phase ≡ is_first m j
+first_there zero scripts moment m = refl
+first_there (suc j) scripts moment m = ap (λ k. is_woken k.phase) (after_steps-suc j scripts moment m)
 
-abbrev session_kept : Meaning Run → Option Session
-session_kept k = k.session
+-- so its session names the same steps as the one at its beginning, in the words of the plain run
+names_there : (scripts : List Script) (input : List (List ℕ)) (moment made n : ℕ) (m : Meaning Run) → m.program ≡ plain made scripts input → ((i : ℕ) → i < n → is_ready (after_steps scripts moment i m) ≡ true)
+    → (j : ℕ) → j < n → named_by (step_from scripts (after_steps scripts moment j m)) (after_steps scripts moment j m).session ≡ is_named scripts input made m j
+names_there scripts input moment made n m is ready j below =
+    let k : Meaning Run = after_steps scripts moment j m in
+    named-same (step_from scripts k) k.session m.session (quiet j scripts moment m n ready below)
+    ∙ ap (λ b. named_by (step_of scripts b k.program) m.session) (first_there j scripts moment m)
+    ∙ ap (λ r. named_by (step_of scripts (is_first m j) r) m.session) (after_steps-plain j scripts moment input made m is)
 
-abbrev stops_kept : Meaning Run → ℕ
-stops_kept k = k.stops
+passes_none : (scripts : List Script) (input : List (List ℕ)) (moment made n : ℕ) (m : Meaning Run) → m.program ≡ plain made scripts input → ((i : ℕ) → i < n → is_ready (after_steps scripts moment i m) ≡ true)
+    → (j : ℕ) → j + 1 < n → is_named scripts input made m j ≡ false
+passes_none scripts input moment made n m is ready j below =
+    let k : Meaning Run = after_steps scripts moment j m in
+    let passed = step-passed scripts moment k (ap is_ready (sym (after_steps-more j scripts moment m)) ∙ ready (j + 1) below) in
+    sym (names_there scripts input moment made n m is ready j (omega (arith, below)))
+    ∙ (passed-same scripts (next_number k.stops) moment (step_from scripts k) k.session passed).1
 
--- so is the session
-pub quiet : (j : ℕ) (scripts : List Script) (m : Meaning Run) (n : ℕ) → ((i : ℕ) → i < n → is_ready (after_steps scripts i m) ≡ true) → j < n → (after_steps scripts j m).session ≡ m.session
-quiet j scripts m n ready below = unnamed-keep session_kept j scripts m n (step-session scripts) ready below
+stops_last : (scripts : List Script) (input : List (List ℕ)) (moment made n : ℕ) (m : Meaning Run) → m.program ≡ plain made scripts input → ((i : ℕ) → i < n → is_ready (after_steps scripts moment i m) ≡ true)
+    → (j : ℕ) → j < n → is_paused (after_steps scripts moment (j + 1) m) ≡ (is_named scripts input made m j && is_some (after_steps scripts moment (j + 1) m).session)
+stops_last scripts input moment made n m is ready j below =
+    let k : Meaning Run = after_steps scripts moment j m in
+    let now : after_steps scripts moment (j + 1) m ≡ step scripts moment k = after_steps-more j scripts moment m in
+    ap is_paused now
+    ∙ step-paused scripts moment k
+    ∙ ap (λ b. b && is_some (step scripts moment k).session) (names_there scripts input moment made n m is ready j below)
+    ∙ ap (λ q. is_named scripts input made m j && is_some q.session) (sym now)
 
--- and the count of stops
-pub quiet-stops : (j : ℕ) (scripts : List Script) (m : Meaning Run) (n : ℕ) → ((i : ℕ) → i < n → is_ready (after_steps scripts i m) ≡ true) → j < n → (after_steps scripts j m).stops ≡ m.stops
-quiet-stops j scripts m n ready below = unnamed-keep stops_kept j scripts m n (step-stops scripts) ready below
-
--- where the session is the same, it names the same stops
-same-names : (scripts : List Script) (m n : Meaning Run) (r q : Run) → m.session ≡ n.session → r ≡ q → is_named scripts m r ≡ is_named scripts n q
-same-names scripts m n r q session program = rw (session, program) refl
-
--- the next step from there, in the words of the plain run
-pub next-plain : (scripts : List Script) (input : List (List ℕ)) (made j : ℕ) (m : Meaning Run) → m.program ≡ plain made scripts input
-    → next scripts (after_steps scripts j m).program ≡ plain (made + j + 1) scripts input
-next-plain scripts input made j m is =
-    let e : suc (made + j) ≡ made + j + 1 = omega arith in
-    ap (next scripts) (after_steps-plain j scripts input made m is) ∙ plain-next (made + j) scripts input ∙ ap (λ k. plain k scripts input) e
-
-passes_none : (scripts : List Script) (input : List (List ℕ)) (made n : ℕ) (m : Meaning Run) → m.program ≡ plain made scripts input → ((j : ℕ) → j < n → is_ready (after_steps scripts j m) ≡ true)
-    → (j : ℕ) → j + 1 < n → is_named scripts m (plain (made + j + 1) scripts input) ≡ false
-passes_none scripts input made n m is ready j below =
-    sym (same-names scripts (after_steps scripts j m) m _ _ (quiet j scripts m n ready (omega arith)) (next-plain scripts input made j m is))
-    ∙ sym (step-paused scripts (after_steps scripts j m)) ∙ ap is_paused (sym (after_steps-more j scripts m)) ∙ ready-paused (after_steps scripts (j + 1) m) (ready (j + 1) below)
-
-stops_there : (scripts : List Script) (input : List (List ℕ)) (made n : ℕ) (m : Meaning Run) → m.program ≡ plain made scripts input → ((j : ℕ) → j < n → is_ready (after_steps scripts j m) ≡ true)
-    → 0 < n → is_paused (after_steps scripts n m) ≡ is_named scripts m (plain (made + n) scripts input)
-stops_there scripts input made zero m is ready some = absurd (omega arith)
-stops_there scripts input made (suc n) m is ready some =
-    let last : after_steps scripts (suc n) m ≡ step scripts (after_steps scripts n m) = after_steps-suc n scripts m in
-    let e : made + n + 1 ≡ made + suc n = omega arith in
-    ap is_paused last ∙ step-paused scripts (after_steps scripts n m) ∙ same-names scripts (after_steps scripts n m) m _ _ (quiet n scripts m (suc n) ready (omega arith)) (next-plain scripts input made n m is ∙ ap (λ k. plain k scripts input) e)
+stops_there : (scripts : List Script) (input : List (List ℕ)) (moment made n : ℕ) (m : Meaning Run) → m.program ≡ plain made scripts input → ((i : ℕ) → i < n → is_ready (after_steps scripts moment i m) ≡ true)
+    → (j : ℕ) → n ≡ j + 1 → is_paused (after_steps scripts moment n m) ≡ (is_named scripts input made m j && is_some (after_steps scripts moment n m).session)
+stops_there scripts input moment made n m is ready j last =
+    let P : ℕ → Type 0 = λ k. is_paused (after_steps scripts moment k m) ≡ (is_named scripts input made m j && is_some (after_steps scripts moment k m).session) in
+    subst P (sym last) (stops_last scripts input moment made n m is ready j (omega (arith, last)))
 
 -- steps that are made where the program is ready stop exactly where they are named
-pub ready-stops : (scripts : List Script) (input : List (List ℕ)) (made n : ℕ) (m : Meaning Run) → m.program ≡ plain made scripts input → ((j : ℕ) → j < n → is_ready (after_steps scripts j m) ≡ true)
-    → StopsExactly scripts input made m n
-ready-stops scripts input made n m is ready = record {
-  passes_none = passes_none scripts input made n m is ready;
-  stops_there = stops_there scripts input made n m is ready;
-  starts_ready = λ some. ready-paused m (ready 0 some);
+pub ready-stops : (scripts : List Script) (input : List (List ℕ)) (moment made n : ℕ) (m : Meaning Run) → m.program ≡ plain made scripts input → ((j : ℕ) → j < n → is_ready (after_steps scripts moment j m) ≡ true)
+    → StopsExactly scripts input moment made m n
+ready-stops scripts input moment made n m is ready = record {
+  starts_ready = λ some. ready 0 some;
+  passes_none = passes_none scripts input moment made n m is ready;
+  keeps = λ j below. ask-some (after_steps scripts moment (j + 1) m).session m.session (quiet (j + 1) scripts moment m n ready below);
+  stops_there = stops_there scripts input moment made n m is ready;
 }
 
-pub longest-stops : (scripts : List Script) (input : List (List ℕ)) (made most : ℕ) (m : Meaning Run) → m.program ≡ plain made scripts input → StopsExactly scripts input made m (longest scripts most m)
-longest-stops scripts input made most m is = ready-stops scripts input made (longest scripts most m) m is (longest-is most scripts m).ready
+pub longest-stops : (scripts : List Script) (input : List (List ℕ)) (moment made most : ℕ) (m : Meaning Run) → m.program ≡ plain made scripts input → StopsExactly scripts input moment made m (longest scripts moment most m)
+longest-stops scripts input moment made most m is = ready-stops scripts input moment made (longest scripts moment most m) m is (longest-is most scripts moment m).ready

@@ -3,10 +3,10 @@ use Rattle.std.proofs.Common.{◌≡◌, ℕ, ◌<◌, ◌≤◌, List, Bool, tr
 use Rattle.std.proofs.lemmas.Bool.{and_parts, not-true, ltb-true, le-ltb, lt-ltb}
 use Rattle.js_semantics.specs.Run.{Run}
 use Rattle.cdp_host.specs.Programs.{is_over, has_thrown}
-use Rattle.cdp_host.specs.Meaning.{Meaning, is_paused, is_ready}
+use Rattle.cdp_host.specs.Meaning.{Meaning, is_held, is_paused, is_ready, waits}
 use Rattle.cdp_host.specs.States.{state_of}
 use Rattle.cdp_host.specs.Hosts.{HostState, meaning_with, state_at}
-use Rattle.cdp_host.specs.declared.state.State.TheVariants.{Broken, Threw, Ended, Paused, Ready}
+use Rattle.cdp_host.specs.declared.state.State.TheVariants.{Broken, Threw, Ended, Paused, Waiting, Ready}
 
 -- ---- states
 
@@ -17,16 +17,16 @@ works_as : (h : HostState) (taken : List (List ℕ)) → h.broken ≡ false → 
 works_as h taken works = ap (λ b. if b then Broken else state_of (meaning_with h taken)) (sym works)
 
 threw_as : (m : Meaning Run) → true ≡ has_thrown m.program → Threw ≡ state_of m
-threw_as m is = ap (λ b. if b then Threw else if is_over m.program then Ended else if is_paused m then Paused else Ready) is
+threw_as m is = ap (λ b. if b then Threw else if is_over m.program then Ended else if is_paused m then Paused else if waits m.phase then Waiting else Ready) is
 
-unthrown_as : (m : Meaning Run) → false ≡ has_thrown m.program → (if is_over m.program then Ended else if is_paused m then Paused else Ready) ≡ state_of m
-unthrown_as m is = ap (λ b. if b then Threw else if is_over m.program then Ended else if is_paused m then Paused else Ready) is
+unthrown_as : (m : Meaning Run) → false ≡ has_thrown m.program → (if is_over m.program then Ended else if is_paused m then Paused else if waits m.phase then Waiting else Ready) ≡ state_of m
+unthrown_as m is = ap (λ b. if b then Threw else if is_over m.program then Ended else if is_paused m then Paused else if waits m.phase then Waiting else Ready) is
 
-over_as : (m : Meaning Run) → true ≡ is_over m.program → Ended ≡ (if is_over m.program then Ended else if is_paused m then Paused else Ready)
-over_as m is = ap (λ b. if b then Ended else if is_paused m then Paused else Ready) is
+over_as : (m : Meaning Run) → true ≡ is_over m.program → Ended ≡ (if is_over m.program then Ended else if is_paused m then Paused else if waits m.phase then Waiting else Ready)
+over_as m is = ap (λ b. if b then Ended else if is_paused m then Paused else if waits m.phase then Waiting else Ready) is
 
-going_as : (m : Meaning Run) → false ≡ is_over m.program → (if is_paused m then Paused else Ready) ≡ (if is_over m.program then Ended else if is_paused m then Paused else Ready)
-going_as m is = ap (λ b. if b then Ended else if is_paused m then Paused else Ready) is
+going_as : (m : Meaning Run) → false ≡ is_over m.program → (if is_paused m then Paused else if waits m.phase then Waiting else Ready) ≡ (if is_over m.program then Ended else if is_paused m then Paused else if waits m.phase then Waiting else Ready)
+going_as m is = ap (λ b. if b then Ended else if is_paused m then Paused else if waits m.phase then Waiting else Ready) is
 
 pub state-threw : (h : HostState) (taken : List (List ℕ)) → h.broken ≡ false → true ≡ has_thrown (meaning_with h taken).program → Threw ≡ state_at h taken
 state-threw h taken works thrown = threw_as (meaning_with h taken) thrown ∙ works_as h taken works
@@ -37,19 +37,27 @@ state-ended h taken works thrown over = over_as (meaning_with h taken) over ∙ 
 pub state-paused : (h : HostState) (taken : List (List ℕ)) → h.broken ≡ false → false ≡ has_thrown (meaning_with h taken).program → false ≡ is_over (meaning_with h taken).program
     → is_paused h.meaning ≡ true → Paused ≡ state_at h taken
 state-paused h taken works thrown over is =
-    ap (λ b. if b then Paused else Ready) (sym is) ∙ going_as (meaning_with h taken) over ∙ unthrown_as (meaning_with h taken) thrown ∙ works_as h taken works
+    ap (λ b. if b then Paused else if waits h.meaning.phase then Waiting else Ready) (sym is) ∙ going_as (meaning_with h taken) over ∙ unthrown_as (meaning_with h taken) thrown ∙ works_as h taken works
+
+unpaused_as : (m : Meaning Run) → is_paused m ≡ false → (if waits m.phase then Waiting else Ready) ≡ (if is_paused m then Paused else if waits m.phase then Waiting else Ready)
+unpaused_as m is = ap (λ b. if b then Paused else if waits m.phase then Waiting else Ready) (sym is)
+
+pub state-waiting : (h : HostState) (taken : List (List ℕ)) → h.broken ≡ false → false ≡ has_thrown (meaning_with h taken).program → false ≡ is_over (meaning_with h taken).program
+    → is_paused h.meaning ≡ false → waits h.meaning.phase ≡ true → Waiting ≡ state_at h taken
+state-waiting h taken works thrown over free is =
+    ap (λ b. if b then Waiting else Ready) (sym is) ∙ unpaused_as (meaning_with h taken) free ∙ going_as (meaning_with h taken) over ∙ unthrown_as (meaning_with h taken) thrown ∙ works_as h taken works
 
 pub state-ready : (h : HostState) (taken : List (List ℕ)) → h.broken ≡ false → false ≡ has_thrown (meaning_with h taken).program → false ≡ is_over (meaning_with h taken).program
-    → is_paused h.meaning ≡ false → Ready ≡ state_at h taken
-state-ready h taken works thrown over is =
-    ap (λ b. if b then Paused else Ready) (sym is) ∙ going_as (meaning_with h taken) over ∙ unthrown_as (meaning_with h taken) thrown ∙ works_as h taken works
+    → is_paused h.meaning ≡ false → waits h.meaning.phase ≡ false → Ready ≡ state_at h taken
+state-ready h taken works thrown over free is =
+    ap (λ b. if b then Waiting else Ready) (sym is) ∙ unpaused_as (meaning_with h taken) free ∙ going_as (meaning_with h taken) over ∙ unthrown_as (meaning_with h taken) thrown ∙ works_as h taken works
 
 -- ---- whether a step may be made
 
-pub goes-paused : (m : Meaning Run) → is_paused m ≡ true → false ≡ is_ready m
-goes-paused m is = ap (λ b. not b && not (is_over m.program)) (sym is)
+pub goes-held : (m : Meaning Run) → is_held m ≡ true → false ≡ is_ready m
+goes-held m is = ap (λ b. not b && not (is_over m.program)) (sym is)
 
-pub goes-ready : (m : Meaning Run) (over : Bool) → is_paused m ≡ false → over ≡ is_over m.program → not over ≡ is_ready m
+pub goes-ready : (m : Meaning Run) (over : Bool) → is_held m ≡ false → over ≡ is_over m.program → not over ≡ is_ready m
 goes-ready m over is same = ap not same ∙ ap (λ b. not b && not (is_over m.program)) (sym is)
 
 pub ready-broken : (broken ready : Bool) → broken ≡ true → false ≡ (not broken && ready)

@@ -2,6 +2,7 @@
 use Rattle.std.specs.Prelude.{◌≡◌, ◌-◌, List, [], ℕ, map, length, All, Bool, true, false, if◌then◌else◌, Option, Some, None}
 use Rattle.std.specs.Option.{option_map}
 use Rattle.js_tree.specs.declared.script.Script.{Script}
+use Rattle.js_heap.specs.declared.value.Value.{Value}
 use Rattle.js_semantics.specs.Run.{Run}
 use Rattle.js_semantics.specs.Frames.{active, at, is_debugger, thrown}
 use Rattle.js_frames.specs.Sources.{spans_in}
@@ -11,18 +12,20 @@ use Rattle.js_machine.specs.Standing.{source_of, until_end, holds_until_end}
 use Rattle.locations.specs.declared.spot.Spot.{Spot}
 use Rattle.locations.specs.Locations.{break_locations}
 use Rattle.stepping.specs.declared.arrival.Arrival.{Arrival}
-use Rattle.cdp_session.specs.declared.situation.Pause.{Pause}
+use Rattle.cdp_session.specs.Outboxes.{fits}
 use Rattle.cdp_session.specs.Sessions.{Session}
-use Rattle.cdp_session.specs.Situations.{Situation, Standing}
-use Rattle.cdp_session.specs.Stops.{stopped}
+use Rattle.cdp_session.specs.Situations.{Standing}
 use Rattle.cdp_host.specs.Arrivals.{place_at, is_uncaught, starts_of, IsShort}
 use Rattle.cdp_host.specs.Programs.{code_of, printed_of}
-use Rattle.cdp_host.specs.Meaning.{Meaning, mapped, names, next_number}
-use Rattle.cdp_host.specs.Standings.{standing_of}
+use Rattle.cdp_host.specs.Meaning.{Meaning, at_program, lost_from, mapped, pause_from, stops_from}
+use Rattle.cdp_host.specs.Standings.{ending_of, standing_of}
+use Rattle.cdp_host.specs.Steps.{Step}
 use Rattle.cdp_host.specs.Histories.{Entry, changed, whole}
 use Rattle.cdp_host.specs.States.{state_of}
+use Rattle.cdp_host.specs.declared.phase.Phase.TheVariants.{Woken, Running}
 use Rattle.cdp_host.specs.declared.state.State.{State}
 use Rattle.cdp_host.specs.declared.state.State.TheVariants.{Broken}
+use Rattle.cdp_host.specs.declared.watched.Watched.{Watched}
 
 -- a program as a host keeps it
 pub record Parts : Type 0 where
@@ -54,27 +57,40 @@ machine_standing scripts m h = standing_of scripts (machine_run m h [])
 abbrev pub parts_standing : List Script → Parts → Standing
 parts_standing scripts p = machine_standing scripts p.machine p.heap
 
--- what a machine and its heap mean together with these
-abbrev pub meant : Machine → Heap → Option Pause → ℕ → ℕ → Option Session → List (List ℕ) → Meaning Run
-meant m h stop stops attached session taken = record { program = machine_run m h taken; stop = stop; stops = stops; attached = attached; session = session }
+-- what the step told that led a machine there and printed these values, if it printed
+abbrev pub machine_step : List Script → Machine → Heap → Option (List Value) → Bool → Step
+machine_step scripts m h values first = record {
+  standing = machine_standing scripts m h;
+  arrival = machine_arrival scripts m;
+  values = values;
+  ending = ending_of scripts (machine_run m h []);
+  first = first;
+}
 
--- the pause behind so many stops, where the program stopped at this depth, if it did; and how many stops there are then
-abbrev pub pause_from : ℕ → Option ℕ → Option Pause
-pause_from stops None = None
-pause_from stops (Some depth) = Some (record { number = next_number stops; depth = depth })
+-- what a machine and its heap mean with what is kept beside them, behind these printed texts
+abbrev pub meant : Machine → Heap → Meaning (Unit {0}) → List (List ℕ) → Meaning Run
+meant m h beside taken = at_program (machine_run m h taken) beside
 
--- how many stops there are then
-abbrev pub stops_from : ℕ → Option ℕ → ℕ
-stops_from stops None = stops
-stops_from stops (Some depth) = next_number stops
+-- what a host keeps beside a program that isn't held, where its next step is the first behind a wake, or not
+abbrev pub beside : Bool → ℕ → ℕ → Option Session → Meaning (Unit {0})
+beside woken stops attached session = record { program = tt; phase = if woken then Woken else Running; stop = None; stops = stops; attached = attached; session = session; lost = None }
 
--- the depth at which a session stops a program that stands so, if it does
-abbrev pub depth_of : Standing → Arrival → Option Session → Option ℕ
-depth_of s a o = if names s a o then Some a.depth else None
+-- the same behind a step that did this
+abbrev pub beside_behind : Watched → ℕ → ℕ → Option Session → Meaning (Unit {0})
+beside_behind w stops attached session = record {
+  program = tt;
+  phase = Running;
+  stop = pause_from stops w;
+  stops = stops_from stops w;
+  attached = attached;
+  session = session;
+  lost = lost_from attached None w;
+}
 
--- what a session is behind that, where it sees the program so and the stop has this number
-abbrev pub session_behind : Situation → ℕ → Arrival → Option Session → Option Session
-session_behind s number a o = if names s.standing a o then option_map (stopped s number a) o else o
+-- the texts that wait for a session, if one is attached, are as many and as long as they may be
+abbrev pub TextsFit : Option Session → Type 0
+TextsFit None = Unit {0}
+TextsFit (Some x) = fits x.outbox ≡ true
 
 -- the numbers are where the lines of scripts begin whose positions are of 32 bits
 pub record AreLines (scripts : List Script) (lines : List (List ℕ)) : Type 0 where
@@ -99,16 +115,16 @@ state_at host taken = if host.broken then Broken else state_of (meaning_with hos
 abbrev pub after : HostState → Entry → HostState
 after host entry = record host { meaning = changed (parts_standing host.scripts) host.scripts host.meaning entry }
 
--- A host stands for a history of its scripts with this input, whose runs have handed out all that they printed; a broken one
--- for each history that leaves no session.
-pub record Stands (scripts : List Script) (input : List (List ℕ)) (host : HostState) (history : List Entry) : Type 0 where
+-- A host stands for a history of its scripts with this input, where they may be to wait, whose runs have handed out all that they
+-- printed; a broken one for each history that leaves no session.
+pub record Stands (scripts : List Script) (input : List (List ℕ)) (wait : Bool) (host : HostState) (history : List Entry) : Type 0 where
   pub runs : host.scripts ≡ scripts
-  pub means : host.broken ≡ false → meaning_with host (printed_of (whole scripts input history).program) ≡ whole scripts input history
-  pub alone : host.broken ≡ true → (whole scripts input history).session ≡ None
+  pub means : host.broken ≡ false → meaning_with host (printed_of (whole scripts input wait history).program) ≡ whole scripts input wait history
+  pub alone : host.broken ≡ true → (whole scripts input wait history).session ≡ None
 
 -- What holds of every host: its machine has the code of its scripts, and beside them stand where their lines begin and where
 -- their break locations are. Until want of memory breaks it, all texts were handed out and the machine isn't given up; then it
--- has no session.
+-- has no session. The texts that wait fit.
 pub record IsSound (scripts : List Script) (starts : List (List ℕ)) (found : List (List Spot)) (machine : Machine) (broken : Bool) (session : Option Session) : Type 0 where
   pub lines : AreLines scripts starts
   pub spots : found ≡ map break_locations scripts
@@ -116,3 +132,4 @@ pub record IsSound (scripts : List Script) (starts : List (List ℕ)) (found : L
   pub handed : broken ≡ false → machine.context.printed ≡ []
   pub kept : broken ≡ false → IsKept machine.ended
   pub alone : broken ≡ true → session ≡ None
+  pub fit : TextsFit session

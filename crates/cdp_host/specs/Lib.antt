@@ -2,9 +2,11 @@ pub mod Arrivals
 pub mod Programs
 pub mod Places
 pub mod Standings
+pub mod Steps
 pub mod Meaning
 pub mod Histories
 pub mod States
 pub mod Ran
 pub mod Rules
 pub mod Hosts
+pub mod Watching

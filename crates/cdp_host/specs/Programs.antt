@@ -1,10 +1,13 @@
 -- What a host's definitions need of a program.
-use Rattle.std.specs.Prelude.{ℕ, zero, suc, List, Bool, true, false}
+use Rattle.std.specs.Prelude.{ℕ, zero, suc, List, Bool, true, false, Option}
 use Rattle.js_tree.specs.declared.script.Script.{Script}
+use Rattle.js_heap.specs.BuiltIns.{script_scope}
+use Rattle.js_heap.specs.declared.value.Value.{Value}
 use Rattle.js_semantics.specs.Functions.{Program}
 use Rattle.js_semantics.specs.Run as runs
 use Rattle.js_semantics.specs.Run.{Run, running, over, ended, threw, by_effect, by_full}
 use Rattle.js_semantics.specs.Sources.{terms_of_scripts}
+use Rattle.js_steps.specs.Prints.{values_printed}
 use Rattle.stepping.specs.declared.arrival.Arrival.{Arrival}
 use Rattle.cdp_host.specs.Arrivals.{arrival_at, at_the_end}
 
@@ -19,6 +22,10 @@ start scripts input = runs.start (terms_of_scripts scripts) input
 -- one step further; a program that is over stays as it is
 unfoldable pub next : List Script → Run → Run
 next scripts r = runs.step (code_of scripts) r
+
+-- the values that its next step prints, if it prints; `console.log()` prints a line without values
+unfoldable pub prints_next : List Script → Run → Option (List Value)
+prints_next scripts r = values_printed (code_of scripts) script_scope r
 
 -- so many steps further
 abbrev pub nexts : List Script → ℕ → Run → Run

@@ -1,5 +1,5 @@
 -- What holds of a history, in the words of the run without a debugger.
-use Rattle.std.specs.Prelude.{◌≡◌, ◌<◌, ℕ, ◌+◌, List, [], ◌∷◌, ◌++◌, drop, length, Bool, true, false, ◌&&◌, ◌||◌, nat_lt, is_some, if◌then◌else◌, Option, Some, None}
+use Rattle.std.specs.Prelude.{◌≡◌, ◌<◌, ℕ, zero, suc, ◌+◌, List, [], ◌∷◌, ◌++◌, drop, length, Bool, true, false, ◌&&◌, ◌||◌, is_some, if◌then◌else◌, Some, None}
 use Rattle.std.specs.Option.{option_map_or}
 use Rattle.cdp_text.specs.declared.position.Place.{Place}
 use Rattle.js_tree.specs.declared.script.Script.{Script}
@@ -12,9 +12,9 @@ use Rattle.stepping.specs.Causes.{ends_at}
 use Rattle.breakpoints.specs.Breakpoints.{is_hit}
 use Rattle.cdp_session.specs.declared.situation.Pause.{Pause}
 use Rattle.cdp_session.specs.Sessions.{Session}
-use Rattle.cdp_session.specs.Stops.{stop_texts}
 use Rattle.cdp_host.specs.Programs.{arrival_of, plain, printed_of, is_over}
-use Rattle.cdp_host.specs.Meaning.{Meaning, after_steps, is_attached, is_named, is_paused, longest, next_number, stopping}
+use Rattle.cdp_host.specs.Steps.{seen_behind, step_of, step_texts}
+use Rattle.cdp_host.specs.Meaning.{Meaning, after_steps, is_attached, is_paused, is_ready, is_woken, longest, named_by, next_number, step}
 use Rattle.cdp_host.specs.Standings.{standing_of}
 use Rattle.cdp_host.specs.States.{outbox_of}
 use Rattle.cdp_host.specs.Histories.{Entry, Attach, Tell, Take, Detach, Ran, apply, steps_of, told_texts}
@@ -28,17 +28,27 @@ pub record PrintsAsPlain (scripts : List Script) (input : List (List ℕ)) (made
   pub all : is_over r ≡ true → (j : ℕ) → printed_of (plain (made + j) scripts input) ≡ printed_of r
 
 -- the texts that so many steps print
-abbrev pub printed_in : List Script → ℕ → Meaning Run → List (List ℕ)
-printed_in scripts n m = drop (length (printed_of m.program)) (printed_of (after_steps scripts n m).program)
+abbrev pub printed_in : List Script → ℕ → ℕ → Meaning Run → List (List ℕ)
+printed_in scripts moment n m = drop (length (printed_of m.program)) (printed_of (after_steps scripts moment n m).program)
 
 -- ---- stops
 
--- a program makes these steps, from the one that many steps in: no step before the last is one that a session names,
--- and the program stops at the last exactly where a session names it
-pub record StopsExactly (scripts : List Script) (input : List (List ℕ)) (made : ℕ) (m : Meaning Run) (n : ℕ) : Type 0 where
-  pub passes_none : (j : ℕ) → j + 1 < n → is_named scripts m (plain (made + j + 1) scripts input) ≡ false
-  pub stops_there : 0 < n → is_paused (after_steps scripts n m) ≡ is_named scripts m (plain (made + n) scripts input)
-  pub starts_ready : 0 < n → is_paused m ≡ false
+-- whether the step behind so many others is the first of a program that was woken
+abbrev pub is_first : Meaning Run → ℕ → Bool
+is_first m zero = is_woken m.phase
+is_first m (suc j) = false
+
+-- behind so many steps of a program, from the one that many steps in, the session or the start rule names the next step
+abbrev pub is_named : List Script → List (List ℕ) → ℕ → Meaning Run → ℕ → Bool
+is_named scripts input made m j = named_by (step_of scripts (is_first m j) (plain (made + j) scripts input)) m.session
+
+-- A program makes these steps, from the one that many steps in. No step before the last is named, and the session stays attached;
+-- the program stops at the last exactly where it is named and the session isn't lost at it.
+pub record StopsExactly (scripts : List Script) (input : List (List ℕ)) (moment made : ℕ) (m : Meaning Run) (n : ℕ) : Type 0 where
+  pub starts_ready : 0 < n → is_ready m ≡ true
+  pub passes_none : (j : ℕ) → j + 1 < n → is_named scripts input made m j ≡ false
+  pub keeps : (j : ℕ) → j + 1 < n → is_some (after_steps scripts moment (j + 1) m).session ≡ is_some m.session
+  pub stops_there : (j : ℕ) → n ≡ j + 1 → is_paused (after_steps scripts moment n m) ≡ (is_named scripts input made m j && is_some (after_steps scripts moment n m).session)
 
 -- an entry that makes steps makes such ones
 abbrev pub StopsAt : List Script → List (List ℕ) → ℕ → Meaning Run → Entry → Type 0
@@ -46,7 +56,7 @@ StopsAt scripts input made m Attach = Unit {0}
 StopsAt scripts input made m (Tell s text) = Unit {0}
 StopsAt scripts input made m (Take s) = Unit {0}
 StopsAt scripts input made m (Detach s) = Unit {0}
-StopsAt scripts input made m (Ran n) = StopsExactly scripts input made m n
+StopsAt scripts input made m (Ran n moment) = StopsExactly scripts input moment made m n
 
 -- each run of the history does so
 abbrev pub AllStopExactly : List Script → List (List ℕ) → ℕ → Meaning Run → List Entry → Type 0
@@ -64,10 +74,12 @@ pub record StepsAlone (x : Session) (kind : StepKind) (depth : ℕ) : Type 0 whe
 abbrev pub ends_step : StepKind → ℕ → Arrival → Bool
 ends_step kind depth a = is_some a.place && (a.debugger || ends_at kind depth a.depth)
 
--- a program makes these steps, from the one that many steps in, and stops at the first that ends the step, or at none
-pub record StopsAtFirst (kind : StepKind) (depth : ℕ) (scripts : List Script) (input : List (List ℕ)) (made : ℕ) (m : Meaning Run) (n : ℕ) : Type 0 where
+-- a program makes these steps, from the one that many steps in, and stops at the first that ends the step, or at none; nor does it
+-- stop at one at which its session is lost
+pub record StopsAtFirst (kind : StepKind) (depth : ℕ) (scripts : List Script) (input : List (List ℕ)) (moment made : ℕ) (m : Meaning Run) (n : ℕ) : Type 0 where
   pub passes_none : (j : ℕ) → j + 1 < n → ends_step kind depth (arrival_of scripts (plain (made + j + 1) scripts input)) ≡ false
-  pub stops_there : 0 < n → is_paused (after_steps scripts n m) ≡ ends_step kind depth (arrival_of scripts (plain (made + n) scripts input))
+  pub stops_there : (j : ℕ) → n ≡ j + 1
+      → is_paused (after_steps scripts moment n m) ≡ (ends_step kind depth (arrival_of scripts (plain (made + j + 1) scripts input)) && is_some (after_steps scripts moment n m).session)
 
 -- where a program is paused, the depth that is kept of it is the one at which it stands
 abbrev pub IsPausedThere : List Script → Meaning Run → Type 0
@@ -79,17 +91,24 @@ IsPausedThere scripts m = (p : Pause) → m.stop ≡ Some p → p.depth ≡ (arr
 abbrev pub tell_texts : List Script → Meaning Run → List ℕ → List (List ℕ)
 tell_texts scripts m text = option_map_or (told_texts (standing_of scripts) scripts text m) m.session []
 
--- the event of the stop of this number, where the program stands so, for the session that is attached
-abbrev pub stops_texts : List Script → Run → ℕ → Option Session → List (List ℕ)
-stops_texts scripts r number o = option_map_or (stop_texts (stopping scripts (standing_of scripts r)) number (arrival_of scripts r)) o []
+-- the texts of a step at a moment for the session that is attached, from a program that stands there
+abbrev pub texts_behind : List Script → ℕ → Meaning Run → Run → List (List ℕ)
+texts_behind scripts moment m r =
+    option_map_or (step_texts (seen_behind scripts (step_of scripts (is_woken m.phase) r)) (next_number m.stops) moment (step_of scripts (is_woken m.phase) r)) m.session []
 
--- the texts that an entry makes for the session: the answers to its commands, and the event of a stop
+-- those of so many steps, from the one that many steps in
+abbrev pub texts_in : List Script → List (List ℕ) → ℕ → ℕ → ℕ → Meaning Run → List (List ℕ)
+texts_in scripts input moment made zero m = []
+texts_in scripts input moment made (suc n) m = texts_behind scripts moment m (plain made scripts input) ++ texts_in scripts input moment (suc made) n (step scripts moment m)
+
+-- The texts that an entry makes for the session: the answers to its commands, and what it is told of steps. A session whose texts
+-- don't fit is lost with them.
 abbrev pub texts_at : List Script → List (List ℕ) → ℕ → Meaning Run → Entry → List (List ℕ)
 texts_at scripts input made m Attach = []
 texts_at scripts input made m (Tell s text) = if is_attached m s then tell_texts scripts m text else []
 texts_at scripts input made m (Take s) = []
 texts_at scripts input made m (Detach s) = []
-texts_at scripts input made m (Ran n) = if nat_lt 0 n && is_named scripts m (plain (made + n) scripts input) then stops_texts scripts (plain (made + n) scripts input) (next_number m.stops) m.session else []
+texts_at scripts input made m (Ran n moment) = texts_in scripts input moment made n m
 
 -- the texts that a history makes, in order
 abbrev pub texts_of : List Script → List (List ℕ) → ℕ → Meaning Run → List Entry → List (List ℕ)
@@ -102,7 +121,7 @@ handed_at m Attach = []
 handed_at m (Tell s text) = []
 handed_at m (Take s) = if is_attached m s then outbox_of m else []
 handed_at m (Detach s) = []
-handed_at m (Ran n) = []
+handed_at m (Ran n moment) = []
 
 -- the texts that a history hands out, in order
 abbrev pub handed_of : List Script → Meaning Run → List Entry → List (List ℕ)
@@ -115,7 +134,7 @@ FitsEntry scripts m Attach = (m.attached ≡ 0) × (m.session ≡ None)
 FitsEntry scripts m (Tell s text) = Unit {0}
 FitsEntry scripts m (Take s) = Unit {0}
 FitsEntry scripts m (Detach s) = ⊥
-FitsEntry scripts m (Ran n) = (most : ℕ) × (n ≡ longest scripts most m)
+FitsEntry scripts m (Ran n moment) = (most : ℕ) × (n ≡ longest scripts moment most m)
 
 -- each entry of a history fits where it comes
 abbrev pub FitsAll : List Script → Meaning Run → List Entry → Type 0

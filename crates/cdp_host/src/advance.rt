@@ -1,21 +1,27 @@
 //! Steps of a program that a session may stop.
 
-ghost use Rattle.std.specs.Prelude.{◌≡◌, ◌++◌, ◌<◌, ℕ, List, [], false, is_some, IfOk, OnOk, None, Some};
+ghost use Rattle.std.specs.Prelude.{◌≡◌, ◌++◌, ◌<◌, ◌≤◌, ◌^◌, ℕ, List, [], true, false, IfOk, OnOk, None, Option, Some};
+ghost use Rattle.std.specs.Option.{option_map};
+ghost use Rattle.js_heap.specs.declared.value.Value.{Value};
 ghost use Rattle.js_code.specs.Trees.{IsTable};
-ghost use Rattle.js_machine.specs.Machines.{HasSameCode, IsKept, program_of};
+ghost use Rattle.js_machine.specs.Machines.{HasSameCode, IsKept, end_of_run, program_of};
 ghost use Rattle.js_steps.specs.Points.{term_at, IsAt};
 ghost use Rattle.cdp_host.specs.Arrivals.{arrival_at};
-ghost use Rattle.cdp_host.specs.Hosts.{depth_of, machine_arrival, machine_run, meant, pause_from, session_behind, stops_from, AreLines};
-ghost use Rattle.cdp_host.specs.Meaning.{may_name};
+ghost use Rattle.js_steps.specs.Prints.{PrintsAs};
+ghost use Rattle.cdp_host.specs.Hosts.{beside, beside_behind, machine_run, machine_step, meant, AreLines, TextsFit};
+ghost use Rattle.cdp_host.specs.Meaning.{kept_behind, watched};
 ghost use Rattle.cdp_host.specs.Programs.{code_of, is_over};
-ghost use Rattle.cdp_session.specs.Situations.{seen};
-ghost use Rattle.cdp_host.specs.Ran.{Advances, HasMade, IsStretch};
+ghost use Rattle.cdp_host.specs.Ran.{may_stop, Advances, HasMade, IsStretch};
+ghost use Rattle.cdp_host.specs.Watching.{prints_last, values_held};
 
 use crate::arrival::{arrival_at, arrival_of};
 use crate::debuggee::Debuggee;
+use crate::endings::ending_of;
 use crate::stops::next_number;
+use crate::stretch::Stretch;
+use crate::watched::Watched;
+use crate::watching::{Step, let_watch};
 use breakpoints::script_spots::ScriptSpots;
-use cdp_session::program::Program;
 use cdp_session::session::Session;
 use cdp_session::situation::Situation;
 use cdp_text::line_table::LineTable;
@@ -23,16 +29,16 @@ use cdp_text::units::Units;
 use js_code::table::NodeTable;
 use js_frames::arrivals::arrival;
 use js_frames::throws::thrown;
+use js_heap::value::Value;
 use js_machine::end::End;
 use js_machine::machine::Machine;
 use js_operations::context::Context;
-use js_steps::run::Asks;
+use js_steps::run::{Asks, Ran, Why};
 use js_steps::stack::Stack;
 use js_steps::task::Point;
 use js_tree::script::Script;
 use js_world::heap::BaseHeap;
 use std::alloc::AllocError;
-use stepping::arrival::Arrival;
 
 /// Asks for a stop where the session may name one: the conditions of its breakpoints are evaluated behind the stretch.
 #[derive(Clone, Copy)]
@@ -44,7 +50,7 @@ struct Watch<'s> {
 }
 
 impl Asks for Watch<'_> {
-    ghost stops = { λ watch term frames. may_name (arrival_at watch.scripts.now term frames) watch.session.now };
+    ghost stops = { λ watch term frames. may_stop (arrival_at watch.scripts.now term frames) watch.session.now };
 
     fn asks(&self, table: &NodeTable, context: &Context, stack: &Stack, point: Point) -> bool {
         match self.session {
@@ -68,7 +74,7 @@ impl Watch<'_> {
     ) -> bool
         requires table { IsTable table.now }
         requires at { IsAt table.now stack.now point }
-        ensures { (ts : List (List ℕ)) → result ≡ may_name (arrival_at self.now.scripts.now (term_at ts table.now stack.now point) context.now.frames) (Some session.now) }
+        ensures { (ts : List (List ℕ)) → result ≡ may_stop (arrival_at self.now.scripts.now (term_at ts table.now stack.now point) context.now.frames) (Some session.now) }
     {
         let mark = arrival(table, self.scripts, context, stack, point);
         if mark.is_none() && thrown(stack, point).is_none() {
@@ -79,14 +85,24 @@ impl Watch<'_> {
     }
 }
 
-/// How many steps were made, and the depth at which the session stopped the program behind them, if it did.
+/// How many steps were made, and what the last of them did to the session.
 #[derive(Clone, Copy, Debug)]
 pub(crate) struct Advanced {
     pub(crate) steps: u64,
-    pub(crate) stopped: Option<usize>,
+    pub(crate) watched: Watched,
 }
 
-/// Makes steps until the session may name a stop, until a raise, a print or the end, or until so many are made; answers how many.
+/// The values that were printed, where that is why a run stops.
+fn printed_values(why: Why) -> Option<Vec<Value>>
+    ensures { (o : Option (List Value)) → IsKept (end_of_run why) → PrintsAs why o → option_map (λ vs. vs.items) result ≡ o }
+{
+    match why {
+        Why::Printed(values) => Some(values),
+        _ => None,
+    }
+}
+
+/// Makes steps until a rule of the session may name a stop, until a raise, a print or the end, or until so many are made.
 /// Where there is no memory for one of them, the machine is given up.
 fn run_machine(
     machine: &mut Machine,
@@ -95,13 +111,14 @@ fn run_machine(
     lines: &[LineTable],
     session: &Option<Session>,
     most: u64,
-) -> u64
+) -> Stretch
     requires going { machine.old.ended ≡ None }
     requires runs { (taken : List (List ℕ)) → is_over (machine_run machine.old heap.old taken) ≡ false }
     requires code { program_of machine.old ≡ code_of scripts.now }
     requires lines { AreLines scripts.now lines.now }
     requires some { 0 < most }
-    ensures advances { IsKept machine.new.ended → (taken : List (List ℕ)) → Advances scripts.now session.now most result (machine_run machine.old heap.old taken) (machine_run machine.new heap.new taken) }
+    ensures advances { IsKept machine.new.ended → (taken : List (List ℕ)) → Advances scripts.now session.now most result.steps (machine_run machine.old heap.old taken) (machine_run machine.new heap.new taken) }
+    ensures prints { IsKept machine.new.ended → (taken : List (List ℕ)) → values_held result ≡ prints_last scripts.now result.steps (machine_run machine.old heap.old taken) }
     ensures code { HasSameCode machine.old machine.new }
 {
     let watch = Watch {
@@ -109,7 +126,11 @@ fn run_machine(
         lines,
         session,
     };
-    machine.run(heap, most, &watch).steps
+    let Ran { steps, why } = machine.run(heap, most, &watch);
+    Stretch {
+        steps,
+        values: printed_values(why),
+    }
 }
 
 /// Whether a machine was given up.
@@ -125,7 +146,8 @@ fn is_lost(machine: &Machine) -> bool
     }
 }
 
-/// Makes steps, at least one, until the session may name a stop, until a raise, a print or the end, or until so many are made.
+/// Makes steps, at least one, until a rule of the session may name a stop, until a raise, a print or the end, or until so many
+/// are made.
 ///
 /// # Errors
 ///
@@ -137,24 +159,25 @@ fn make_steps(
     lines: &[LineTable],
     session: &Option<Session>,
     most: u64,
-) -> Result<u64, AllocError>
+) -> Result<Stretch, AllocError>
     requires going { machine.old.ended ≡ None }
     requires runs { (taken : List (List ℕ)) → is_over (machine_run machine.old heap.old taken) ≡ false }
     requires code { program_of machine.old ≡ code_of scripts.now }
     requires lines { AreLines scripts.now lines.now }
     requires some { 0 < most }
-    ensures advances { IfOk result (λ steps. (taken : List (List ℕ)) → Advances scripts.now session.now most steps (machine_run machine.old heap.old taken) (machine_run machine.new heap.new taken)) }
+    ensures advances { IfOk result (λ made. (taken : List (List ℕ)) → Advances scripts.now session.now most made.steps (machine_run machine.old heap.old taken) (machine_run machine.new heap.new taken)) }
+    ensures prints { IfOk result (λ made. (taken : List (List ℕ)) → values_held made ≡ prints_last scripts.now made.steps (machine_run machine.old heap.old taken)) }
     ensures kept { OnOk result (IsKept machine.new.ended) }
     ensures code { HasSameCode machine.old machine.new }
 {
-    let steps = run_machine(machine, heap, scripts, lines, session, most);
+    let made = run_machine(machine, heap, scripts, lines, session, most);
     if is_lost(machine) {
         return Err(AllocError);
     }
-    Ok(steps)
+    Ok(made)
 }
 
-/// The same, with what was printed put behind the other texts.
+/// The same, with the texts that were printed put behind the other texts.
 ///
 /// # Errors
 ///
@@ -167,79 +190,55 @@ fn make_steps_and_print(
     session: &Option<Session>,
     most: u64,
     printed: &mut Vec<Units>,
-) -> Result<u64, AllocError>
+) -> Result<Stretch, AllocError>
     requires going { machine.old.ended ≡ None }
     requires runs { (taken : List (List ℕ)) → is_over (machine_run machine.old heap.old taken) ≡ false }
     requires code { program_of machine.old ≡ code_of scripts.now }
     requires lines { AreLines scripts.now lines.now }
     requires some { 0 < most }
-    ensures advances { IfOk result (λ steps. (taken : List (List ℕ)) → Advances scripts.now session.now most steps (machine_run machine.old heap.old (taken ++ printed.old.items)) (machine_run machine.new heap.new (taken ++ printed.new.items))) }
+    ensures advances { IfOk result (λ made. (taken : List (List ℕ)) → Advances scripts.now session.now most made.steps (machine_run machine.old heap.old (taken ++ printed.old.items)) (machine_run machine.new heap.new (taken ++ printed.new.items))) }
+    ensures prints { IfOk result (λ made. (taken : List (List ℕ)) → values_held made ≡ prints_last scripts.now made.steps (machine_run machine.old heap.old taken)) }
     ensures kept { OnOk result (IsKept machine.new.ended) }
     ensures handed { OnOk result (machine.new.context.printed ≡ []) }
     ensures code { HasSameCode machine.old machine.new }
 {
-    let steps = make_steps(machine, heap, scripts, lines, session, most)?;
+    let made = make_steps(machine, heap, scripts, lines, session, most)?;
     printed.append(&mut machine.take_printed())?;
-    Ok(steps)
+    Ok(made)
 }
 
-/// Stops the program where the session names a stop behind the step that led to this arrival; answers the depth at which it
-/// did. The stop has this number.
+/// Lets the session watch the step that led a machine to where it is, and that printed these values; the stop that the session
+/// may name has this number.
 ///
 /// # Errors
 ///
-/// There is no memory for a condition's evaluation or for the text that tells the stop.
-fn stop_at<P: Program>(
-    situation: &Situation<'_, P>,
-    number: u64,
-    arrival: &Arrival,
-    session: &mut Option<Session>,
-) -> Result<Option<usize>, AllocError>
-    ensures stopped { IfOk result (λ depth. depth ≡ depth_of (seen P.standing situation.now).standing arrival.now session.old) }
-    ensures session { OnOk result (session.new ≡ session_behind (seen P.standing situation.now) number arrival.now session.old) }
-{
-    let Some(mut watching) = session.take() else {
-        return Ok(None);
-    };
-    if watching.names(situation, arrival)?.is_none() {
-        *session = Some(watching);
-        return Ok(None);
-    }
-    watching.stopped(situation, number, arrival)?;
-    *session = Some(watching);
-    Ok(Some(arrival.depth))
-}
-
-/// Makes steps of a program that isn't paused, at least one, until it stops, raises, prints or ends, or until so many are made;
-/// what it prints comes behind the other texts. There were so many stops before.
-///
-/// # Errors
-///
-/// There is no memory. The machine and the session are given up.
-pub(crate) fn advance(
-    machine: &mut Machine,
-    heap: &mut BaseHeap,
+/// There is no memory for a text or for the evaluation of a condition. The session is dropped.
+fn watch_machine(
+    machine: &Machine,
+    heap: &BaseHeap,
     scripts: &[Script],
     lines: &[LineTable],
     spots: &ScriptSpots,
-    stops: u64,
+    number: u64,
+    moment: u64,
+    first: bool,
+    values: Option<Vec<Value>>,
     session: &mut Option<Session>,
-    most: u64,
-    printed: &mut Vec<Units>,
-) -> Result<Advanced, AllocError>
-    requires going { machine.old.ended ≡ None }
-    requires runs { (taken : List (List ℕ)) → is_over (machine_run machine.old heap.old taken) ≡ false }
-    requires code { program_of machine.old ≡ code_of scripts.now }
+) -> Result<Watched, AllocError>
+    requires kept { IsKept machine.now.ended }
     requires lines { AreLines scripts.now lines.now }
-    requires some { 0 < most }
-    ensures made { IfOk result (λ a. (taken : List (List ℕ)) (attached : ℕ) → HasMade scripts.now (meant machine.old heap.old None stops attached session.old (taken ++ printed.old.items)) (meant machine.new heap.new (pause_from stops a.stopped) (stops_from stops a.stopped) attached session.new (taken ++ printed.new.items)) a.steps) }
-    ensures counts { IfOk result (λ a. IsStretch most a.steps) }
-    ensures kept { OnOk result (IsKept machine.new.ended) }
-    ensures handed { OnOk result (machine.new.context.printed ≡ []) }
-    ensures code { HasSameCode machine.old machine.new }
+    requires moment { moment < 2 ^ 53 }
+    requires fit { TextsFit session.old }
+    ensures watched { IfOk result (λ w. w ≡ watched scripts.now number moment (machine_step scripts.now machine.now heap.now (option_map (λ vs. vs.items) values) first) session.old) }
+    ensures session { OnOk result (session.new ≡ kept_behind scripts.now number moment (machine_step scripts.now machine.now heap.now (option_map (λ vs. vs.items) values) first) session.old) }
+    ensures fit { OnOk result (TextsFit session.new) }
 {
-    let steps = make_steps_and_print(machine, heap, scripts, lines, session, most, printed)?;
-    let arrival = arrival_of(machine, scripts, lines);
+    let step = Step {
+        arrival: arrival_of(machine, scripts, lines),
+        values,
+        ending: ending_of(machine, scripts, lines),
+        first,
+    };
     let program = Debuggee {
         machine,
         heap,
@@ -252,6 +251,60 @@ pub(crate) fn advance(
         paused: None,
         program: &program,
     };
-    let stopped = stop_at(&situation, next_number(stops), &arrival, session)?;
-    Ok(Advanced { steps, stopped })
+    let_watch(session, &situation, number, &step, moment)
+}
+
+/// How many steps a stretch may have: the first step of a program that a client let begin is a stretch of its own.
+fn most_of(first: bool, most: u64) -> u64
+    requires { 0 < most }
+    ensures some { 0 < result }
+    ensures within { result ≤ most }
+    ensures one { first ≡ true → result ≡ 1 }
+{
+    if first { 1 } else { most }
+}
+
+/// Makes steps of a program that isn't held, at least one, until it stops, raises, prints or ends, until its session is lost, or
+/// until so many are made; what it prints comes behind the other texts. There were so many stops before; `first` says that the
+/// next step is the first of a program that a client let begin.
+///
+/// # Errors
+///
+/// There is no memory. The machine and the session are given up.
+pub(crate) fn advance(
+    machine: &mut Machine,
+    heap: &mut BaseHeap,
+    scripts: &[Script],
+    lines: &[LineTable],
+    spots: &ScriptSpots,
+    first: bool,
+    stops: u64,
+    session: &mut Option<Session>,
+    most: u64,
+    moment: u64,
+    printed: &mut Vec<Units>,
+) -> Result<Advanced, AllocError>
+    requires going { machine.old.ended ≡ None }
+    requires runs { (taken : List (List ℕ)) → is_over (machine_run machine.old heap.old taken) ≡ false }
+    requires code { program_of machine.old ≡ code_of scripts.now }
+    requires lines { AreLines scripts.now lines.now }
+    requires some { 0 < most }
+    requires moment { moment < 2 ^ 53 }
+    requires fit { TextsFit session.old }
+    ensures made { IfOk result (λ a. (taken : List (List ℕ)) (attached : ℕ) → HasMade scripts.now moment (meant machine.old heap.old (beside first stops attached session.old) (taken ++ printed.old.items)) (meant machine.new heap.new (beside_behind a.watched stops attached session.new) (taken ++ printed.new.items)) a.steps) }
+    ensures counts { IfOk result (λ a. IsStretch most a.steps) }
+    ensures kept { OnOk result (IsKept machine.new.ended) }
+    ensures handed { OnOk result (machine.new.context.printed ≡ []) }
+    ensures fit { OnOk result (TextsFit session.new) }
+    ensures code { HasSameCode machine.old machine.new }
+{
+    let most = most_of(first, most);
+    let Stretch { steps, values } = make_steps_and_print(
+        machine, heap, scripts, lines, session, most, printed,
+    )?;
+    let number = next_number(stops);
+    let watched = watch_machine(
+        machine, heap, scripts, lines, spots, number, moment, first, values, session,
+    )?;
+    Ok(Advanced { steps, watched })
 }

@@ -62,7 +62,12 @@ fn place_at_index(
 }
 
 /// The place of a mark in a source, where that is a script.
-fn place_of(scripts: &[Script], lines: &[LineTable], source: Source, mark: Mark) -> Option<Place>
+pub(crate) fn place_of(
+    scripts: &[Script],
+    lines: &[LineTable],
+    source: Source,
+    mark: Mark,
+) -> Option<Place>
     requires { AreLines scripts.now lines.now }
     ensures { result ≡ place_of scripts.now source mark }
 {

@@ -11,6 +11,8 @@ pub enum State {
     Ended,
     /// The program stopped and waits for a resume.
     Paused,
+    /// The program waits for a client that lets it begin.
+    Waiting,
     /// The program waits for a run, which makes steps.
     Ready,
 }

@@ -4,4 +4,4 @@ use Rattle.cdp_host.proofs.RuleLemmas.{fits-stops}
 use Rattle.cdp_host.proofs.laws.runs_stop_exactly_where_named.Goals as goal
 
 pub returns : goal.returns
-returns c = λ scripts input history fits. fits-stops history scripts input 0 (begin scripts input) (plain-start scripts input) fits
+returns c = λ scripts input wait history fits. fits-stops history scripts input 0 (begin scripts input wait) (plain-start scripts input) fits

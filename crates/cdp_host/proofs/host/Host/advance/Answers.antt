@@ -1,23 +1,21 @@
 use Rattle.std.proofs.Common.{[], ◌++◌, refl, sym, ap, ◌∙◌}
-use Rattle.cdp_host.specs.Programs.{code_of}
-use Rattle.cdp_host.specs.Meaning.{is_ready}
-use Rattle.cdp_host.specs.Hosts.{meaning_with}
+use Rattle.cdp_host.specs.Programs.{code_of, is_over}
+use Rattle.js_semantics.specs.Run.{Run}
+use Rattle.cdp_host.specs.Meaning.{Meaning, is_held}
+use Rattle.cdp_host.specs.Hosts.{beside, machine_run, meaning_with, meant}
 use Rattle.cdp_host.proofs.PartLemmas.{still-going, same-program}
-use Rattle.cdp_host.proofs.AdvanceLemmas.{ready-machine, made-unpaused}
+use Rattle.cdp_host.proofs.AdvanceLemmas.{free-beside, made-free, ready-machine}
 use Rattle.cdp_host.proofs.host.Host.advance.Goals as goal
 
 pub advance-requires-clause-going : goal.advance-requires-clause-going
 advance-requires-clause-going c =
     let a = c.self.inside in
     let kept = c.self.invariant.kept (ap (λ h. h.broken) c.self.view_is ∙ c.requires.works) in
-    let ready = ap (λ h. is_ready (meaning_with h [])) c.self.view_is ∙ c.requires.ready [] in
-    still-going a.machine a.heap [] kept (ready-machine a.machine a.heap a.stop a.stops a.attached a.session [] ready).1
+    still-going a.machine a.heap [] kept (ap (λ h. is_over (meaning_with h []).program) c.self.view_is ∙ (ready-machine (meaning_with c.args.self.now []) (c.requires.ready [])).1)
 
 pub advance-requires-clause-runs : goal.advance-requires-clause-runs
 advance-requires-clause-runs c = λ taken.
-    let a = c.self.inside in
-    let ready = ap (λ h. is_ready (meaning_with h taken)) c.self.view_is ∙ c.requires.ready taken in
-    (ready-machine a.machine a.heap a.stop a.stops a.attached a.session taken ready).1
+    ap (λ h. is_over (meaning_with h taken).program) c.self.view_is ∙ (ready-machine (meaning_with c.args.self.now taken) (c.requires.ready taken)).1
 
 pub advance-requires-clause-code : goal.advance-requires-clause-code
 advance-requires-clause-code c = c.self.invariant.code ∙ ap code_of (sym c.as_slice.ensures.value)
@@ -33,6 +31,7 @@ invariant_of-self c =
       handed = λ _. c.in-Ok.ensures.handed;
       kept = λ _. c.in-Ok.ensures.kept;
       alone = λ fails. absurd cc;
+      fit = c.in-Ok.ensures.fit;
     }
 
 pub invariant_of-self-in-Err : goal.invariant_of-self-in-Err
@@ -45,14 +44,22 @@ invariant_of-self-in-Err c =
       handed = λ works. absurd cc;
       kept = λ works. absurd cc;
       alone = λ _. refl;
+      fit = tt;
     }
+
+pub advance-requires-clause-fit : goal.advance-requires-clause-fit
+advance-requires-clause-fit c = c.self.invariant.fit
 
 pub returns-in-Ok-clause-made : goal.returns-in-Ok-clause-made
 returns-in-Ok-clause-made c = λ taken.
     let a = c.self.inside in
-    let ready = ap (λ h. is_ready (meaning_with h [])) c.self.view_is ∙ c.requires.ready [] in
-    let paused = (ready-machine a.machine a.heap a.stop a.stops a.attached a.session [] ready).0 in
-    rw (← c.self.view_is, c.pause_from-self-inside.ensures, c.stops_from-self-inside.ensures) (made-unpaused a.scripts.items _ a.machine a.heap a.stop a.stops a.attached a.session (taken ++ c.args.printed.now.items) _ _ c.as_slice.ensures.value paused (c.in-Ok.ensures.made taken a.attached))
+    let before = taken ++ c.args.printed.now.items in
+    let k : Meaning Run = record { program = machine_run a.machine a.heap before; phase = a.phase; stop = a.stop; stops = a.stops; attached = a.attached; session = a.session; lost = a.lost } in
+    let free = ap (λ h. is_held (meaning_with h before)) c.self.view_is ∙ (ready-machine (meaning_with c.args.self.now before) (c.requires.ready before)).0 in
+    let is = free-beside a.machine a.heap k before free refl in
+    let woken = ap (λ b. meant a.machine a.heap (beside b a.stops a.attached a.session) before) (sym c.is_woken.ensures) in
+    rw (← c.self.view_is, c.pause_from-self-inside.ensures, c.stops_from-self-inside.ensures, c.lost_from-self-inside.ensures)
+    (made-free a.scripts.items _ c.args.moment k _ _ _ c.as_slice.ensures.value (is ∙ woken) (c.in-Ok.ensures.made taken a.attached))
 
 pub returns-in-Ok-clause-counts : goal.returns-in-Ok-clause-counts
 returns-in-Ok-clause-counts c = c.in-Ok.ensures.counts

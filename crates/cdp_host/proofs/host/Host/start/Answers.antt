@@ -1,8 +1,11 @@
-use Rattle.std.proofs.Common.{List, map, false, None, ap, sym, subst, ◌∙◌}
+use Rattle.std.proofs.Common.{List, map, false, None, ap, refl, sym, subst, ◌∙◌}
 use Rattle.js_tree.specs.declared.script.Script.{Script}
 use Rattle.locations.specs.Locations.{break_locations}
 use Rattle.cdp_host.specs.Hosts.{AreLines, IsSound}
-use Rattle.cdp_host.proofs.StartLemmas.{start-sound}
+use Rattle.js_machine.specs.Starts.{IsStarted}
+use Rattle.js_semantics.specs.Sources.{terms_of_scripts}
+use Rattle.cdp_host.proofs.HistoryLemmas.{stands-start}
+use Rattle.cdp_host.proofs.StartLemmas.{start-means, start-sound}
 use Rattle.cdp_host.proofs.host.Host.start.Goals as goal
 
 pub invariant_of-result : goal.invariant_of-result
@@ -16,3 +19,11 @@ invariant_of-result c =
     (start-sound c.as_slice-3.result.now c.args.input.items lines spots c.in_ok-machine.field-0 c.in_ok-machine.ensures
     (subst Q (c.as_slice.ensures.value ∙ sym here) c.in_ok-lines.ensures)
     (c.in_ok-spots.ensures ∙ ap (map break_locations) (c.as_slice-2.ensures.value ∙ sym here)))
+
+pub returns-clause-host : goal.returns-clause-host
+returns-clause-host c =
+    let P : List Script → Type 0 = λ scripts. IsStarted (terms_of_scripts scripts) c.args.input.items c.in_ok-machine.field-0 in
+    rw (c.phase_of.ensures) (start-means c.args.scripts.items c.args.input.items c.args.wait c.in_ok-machine.field-0 (subst P c.as_slice-3.ensures.value c.in_ok-machine.ensures))
+
+pub returns-clause-stands : goal.returns-clause-stands
+returns-clause-stands c = stands-start c.args.scripts.items c.args.input.items c.args.wait _ refl refl (returns-clause-host c)

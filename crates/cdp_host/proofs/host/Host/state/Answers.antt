@@ -1,5 +1,6 @@
 use Rattle.std.proofs.Common.{sym, ap, ◌∙◌}
-use Rattle.cdp_host.proofs.StateLemmas.{state-broken, state-threw, state-ended, state-paused, state-ready}
+use Rattle.cdp_host.specs.Meaning.{waits}
+use Rattle.cdp_host.proofs.StateLemmas.{state-broken, state-threw, state-ended, state-paused, state-ready, state-waiting}
 use Rattle.cdp_host.proofs.host.Host.state.Goals as goal
 
 pub returns-then-self : goal.returns-then-self
@@ -21,8 +22,14 @@ returns-then-is_paused c = λ taken.
     state-paused c.args.self.now taken works (c.if-has_thrown.ensures works taken) (c.if-is_over.ensures works taken)
     (sym c.if-is_paused.ensures)
 
-pub returns-else-is_paused : goal.returns-else-is_paused
-returns-else-is_paused c = λ taken.
+pub returns-then-waits : goal.returns-then-waits
+returns-then-waits c = λ taken.
+    let works = sym (ap (λ h. h.broken) c.self.view_is) ∙ c.if-self.false in
+    state-waiting c.args.self.now taken works (c.if-has_thrown.ensures works taken) (c.if-is_over.ensures works taken)
+    (sym c.if-is_paused.ensures) (ap (λ h. waits h.meaning.phase) (sym c.self.view_is) ∙ sym c.if-waits.ensures)
+
+pub returns-else-waits : goal.returns-else-waits
+returns-else-waits c = λ taken.
     let works = sym (ap (λ h. h.broken) c.self.view_is) ∙ c.if-self.false in
     state-ready c.args.self.now taken works (c.if-has_thrown.ensures works taken) (c.if-is_over.ensures works taken)
-    (sym c.if-is_paused.ensures)
+    (sym c.if-is_paused.ensures) (ap (λ h. waits h.meaning.phase) (sym c.self.view_is) ∙ sym c.if-waits.ensures)

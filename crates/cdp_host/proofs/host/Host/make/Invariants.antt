@@ -1,7 +1,7 @@
 use Rattle.std.proofs.Common.{◌-◌, ◌≡◌, ◌++◌, ◌≤◌, true, false, List, [], ℕ}
 use Rattle.cdp_host.specs.Hosts.{meaning_with}
 use Rattle.cdp_host.specs.Ran.{HasMade}
-use Rattle.cdp_host.proofs.host.Host.run.Given as goal
+use Rattle.cdp_host.proofs.host.Host.make.Given as goal
 
 -- so many steps were made, and what they printed is kept
 abbrev pub invariant-loop-self : goal.invariant-loop-self
@@ -12,7 +12,7 @@ invariant-loop-self l = record {
   sessions : l.self.meaning.attached ≡ l.fn.self.meaning.attached;
   handed : l.self.broken ≡ false → l.self.meaning.program.machine.context.printed ≡ [];
   stays : l.self.broken ≡ true → l.left ≡ l.n;
-  made : (taken : List (List ℕ)) → HasMade l.fn.self.scripts (meaning_with l.fn.self taken) (meaning_with l.self (taken ++ l.printed.items)) (l.n - l.left);
+  made : (taken : List (List ℕ)) → HasMade l.fn.self.scripts l.moment (meaning_with l.fn.self taken) (meaning_with l.self (taken ++ l.printed.items)) (l.n - l.left);
 }
 
 abbrev pub decreases-loop-self : goal.decreases-loop-self
