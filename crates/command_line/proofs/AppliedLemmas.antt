@@ -24,14 +24,15 @@ may-stand : (scripts : List Script) (m : Meaning Program) (line : Line) (entry :
 may-stand scripts m Attach entry is = let choice = choice-some (m.attached == 0) Attached entry is in (eqb-true m.attached 0 choice.0, sym choice.1)
 may-stand scripts m (Tell s text) entry is = let choice = choice-some (is_attached m s) (Told s text) entry is in (choice.0, sym choice.1)
 may-stand scripts m (Take s) entry is = let choice = choice-some (is_attached m s) (Taken s) entry is in (choice.0, sym choice.1)
-may-stand scripts m (Run most moment) entry is = (longest scripts most m, longest-is most scripts m, sym (same_Some (Ran (longest scripts most m)) entry is))
+may-stand scripts m (Run most moment) entry is =
+    (longest scripts moment most m, longest-is most scripts moment m, sym (same_Some (Ran (longest scripts moment most m) moment) entry is))
 
 -- and where it has none, it may stand with none
 may-not-stand : (scripts : List Script) (m : Meaning Program) (line : Line) (entry : Entry) → entry_at scripts m line ≡ None → ¬ (MayStand scripts m line entry)
 may-not-stand scripts m Attach entry none stands = eqb-false m.attached 0 (unchosen (m.attached == 0) Attached none) stands.0
 may-not-stand scripts m (Tell s text) entry none stands = let e = unchosen (is_attached m s) (Told s text) none in let t = stands.0 in cc
 may-not-stand scripts m (Take s) entry none stands = let e = unchosen (is_attached m s) (Taken s) none in let t = stands.0 in cc
-may-not-stand scripts m (Run most moment) entry none stands = none-some (Ran (longest scripts most m)) (sym none)
+may-not-stand scripts m (Run most moment) entry none stands = none-some (Ran (longest scripts moment most m) moment) (sym none)
 
 entry-some : (scripts : List Script) (m : Meaning Program) (text : List ℕ) (entry : Entry) (o : Option Line) → line_of text ≡ o → option_and_then (entry_at scripts m) o ≡ Some entry → IsEntry scripts m text entry
 entry-some scripts m text entry None read is = absurd (none-some entry is)

@@ -1,5 +1,5 @@
 -- A journal's lines, one after another.
-use Rattle.std.proofs.Common.{◌≡◌, ℕ, ◌+◌, ◌<◌, List, [], ◌∷◌, ◌++◌, length, get_or, take, drop, map, Option, Some, None, refl, ap, sym, ◌∙◌, append_assoc, append-nil, false, arith}
+use Rattle.std.proofs.Common.{◌≡◌, ℕ, ◌+◌, ◌<◌, List, [], ◌∷◌, ◌++◌, Bool, length, get_or, take, drop, map, Option, Some, None, refl, ap, sym, ◌∙◌, append_assoc, append-nil, false, arith}
 use Rattle.std.proofs.lemmas.Grind.{common_steps}
 use Rattle.std.proofs.lemmas.List.{take_more, take-append-drop, map-append}
 use Rattle.std.specs.Option.{option_map_or}
@@ -81,16 +81,16 @@ left-output scripts m rest line lines is = ap (λ all. journal_output scripts m 
 
 -- A host stands for the history of the lines so far; what was written and what the lines that are left write make up all, and
 -- the first line that is refused is one of those that are left.
-pub record IsBehind (scripts : List Script) (input : List (List ℕ)) (all rest : List (List ℕ)) (number : ℕ) (host : HostState) (before now : Option (List ℕ)) : Type 0 where
+pub record IsBehind (scripts : List Script) (input : List (List ℕ)) (wait : Bool) (all rest : List (List ℕ)) (number : ℕ) (host : HostState) (before now : Option (List ℕ)) : Type 0 where
   pub history : List Entry
-  pub stands : Stands scripts input host history
+  pub stands : Stands scripts input wait host history
   pub works : host.broken ≡ false
-  pub refused : refused scripts number (whole scripts input history) rest ≡ refused scripts 1 (begin scripts input) all
-  pub written : Written before now (journal_output scripts (begin scripts input) all) (journal_output scripts (whole scripts input history) rest)
+  pub refused : refused scripts number (whole scripts input wait history) rest ≡ refused scripts 1 (begin scripts input wait) all
+  pub written : Written before now (journal_output scripts (begin scripts input wait) all) (journal_output scripts (whole scripts input wait history) rest)
 
-pub behind-start : (scripts : List Script) (input : List (List ℕ)) (all : List (List ℕ)) (host : HostState) (before : Option (List ℕ))
-    → Stands scripts input host [] → host.broken ≡ false → IsBehind scripts input all all 1 host before before
-behind-start scripts input all host before stands works = record {
+pub behind-start : (scripts : List Script) (input : List (List ℕ)) (wait : Bool) (all : List (List ℕ)) (host : HostState) (before : Option (List ℕ))
+    → Stands scripts input wait host [] → host.broken ≡ false → IsBehind scripts input wait all all 1 host before before
+behind-start scripts input wait all host before stands works = record {
   history = [];
   stands = stands;
   works = works;
@@ -98,13 +98,13 @@ behind-start scripts input all host before stands works = record {
   written = record { done = []; is = sym (gains-nil before); parts = refl };
 }
 
-behind-by : (scripts : List Script) (input : List (List ℕ)) (all rest : List (List ℕ)) (number : ℕ) (host new : HostState) (before now next : Option (List ℕ)) (line : List ℕ) (lines : List (List ℕ))
-    → rest ≡ line ∷ lines → (b : IsBehind scripts input all rest number host before now) → (o : Option Entry) → entry_of scripts (whole scripts input b.history) line ≡ o
-    → Plays scripts input b.history o new now next → IsBehind scripts input all lines (number + 1) new before next
-behind-by scripts input all rest number host new before now next line lines is b None none plays = absurd plays
-behind-by scripts input all rest number host new before now next line lines is b (Some entry) some plays =
-    let m : Meaning Program = whole scripts input b.history in
-    let more : whole scripts input (b.history ++ entry ∷ []) ≡ apply scripts m entry = whole-more scripts input b.history entry in
+behind-by : (scripts : List Script) (input : List (List ℕ)) (wait : Bool) (all rest : List (List ℕ)) (number : ℕ) (host new : HostState) (before now next : Option (List ℕ)) (line : List ℕ) (lines : List (List ℕ))
+    → rest ≡ line ∷ lines → (b : IsBehind scripts input wait all rest number host before now) → (o : Option Entry) → entry_of scripts (whole scripts input wait b.history) line ≡ o
+    → Plays scripts input wait b.history o new now next → IsBehind scripts input wait all lines (number + 1) new before next
+behind-by scripts input wait all rest number host new before now next line lines is b None none plays = absurd plays
+behind-by scripts input wait all rest number host new before now next line lines is b (Some entry) some plays =
+    let m : Meaning Program = whole scripts input wait b.history in
+    let more : whole scripts input wait (b.history ++ entry ∷ []) ≡ apply scripts m entry = whole-more scripts input wait b.history entry in
     record {
       history = b.history ++ entry ∷ [];
       stands = plays.1.stands;
@@ -113,67 +113,67 @@ behind-by scripts input all rest number host new before now next line lines is b
           ∙ ap (λ o. option_map_or (λ e. refused scripts (number + 1) (apply scripts m e) lines) o (Some number)) (sym some)
           ∙ ap (λ xs. refused scripts number m xs) (sym is)
           ∙ b.refused;
-      written = Written-next before now next _ _ (output_bytes (output_at scripts m entry)) (journal_output scripts (whole scripts input (b.history ++ entry ∷ [])) lines) b.written
+      written = Written-next before now next _ _ (output_bytes (output_at scripts m entry)) (journal_output scripts (whole scripts input wait (b.history ++ entry ∷ [])) lines) b.written
           (ap (λ xs. journal_output scripts m xs) is ∙ journal_output-line scripts m line lines (Some entry) some
           ∙ ap (λ k. output_bytes (output_at scripts m entry) ++ journal_output scripts k lines) (sym more)) plays.0;
     }
 
 -- a line was played
-pub behind-next : (scripts : List Script) (input : List (List ℕ)) (all rest : List (List ℕ)) (number : ℕ) (host new : HostState) (before now next : Option (List ℕ)) (line : List ℕ) (lines : List (List ℕ))
-    → rest ≡ line ∷ lines → IsBehind scripts input all rest number host before now
-    → ((s : List Script) (i : List (List ℕ)) (h : List Entry) → Stands s i host h → Plays s i h (entry_of s (whole s i h) line) new now next)
-    → IsBehind scripts input all lines (number + 1) new before next
-behind-next scripts input all rest number host new before now next line lines is b plays =
-    behind-by scripts input all rest number host new before now next line lines is b (entry_of scripts (whole scripts input b.history) line) refl (plays scripts input b.history b.stands)
+pub behind-next : (scripts : List Script) (input : List (List ℕ)) (wait : Bool) (all rest : List (List ℕ)) (number : ℕ) (host new : HostState) (before now next : Option (List ℕ)) (line : List ℕ) (lines : List (List ℕ))
+    → rest ≡ line ∷ lines → IsBehind scripts input wait all rest number host before now
+    → ((s : List Script) (i : List (List ℕ)) (w : Bool) (h : List Entry) → Stands s i w host h → Plays s i w h (entry_of s (whole s i w h) line) new now next)
+    → IsBehind scripts input wait all lines (number + 1) new before next
+behind-next scripts input wait all rest number host new before now next line lines is b plays =
+    behind-by scripts input wait all rest number host new before now next line lines is b (entry_of scripts (whole scripts input wait b.history) line) refl (plays scripts input wait b.history b.stands)
 
 -- a first part of what the line writes was written
-pub behind-part : (scripts : List Script) (input : List (List ℕ)) (all rest : List (List ℕ)) (number : ℕ) (host : HostState) (before now next : Option (List ℕ)) (line : List ℕ) (lines : List (List ℕ))
-    → rest ≡ line ∷ lines → IsBehind scripts input all rest number host before now
-    → ((s : List Script) (i : List (List ℕ)) (h : List Entry) → Stands s i host h → GainsPrefix now next (line_output s (whole s i h) (entry_of s (whole s i h) line)))
-    → GainsPrefix before next (journal_output scripts (begin scripts input) all)
-behind-part scripts input all rest number host before now next line lines is b part =
-    Written-part before now next _ _ _ _ b.written (left-output scripts (whole scripts input b.history) rest line lines is) (part scripts input b.history b.stands)
+pub behind-part : (scripts : List Script) (input : List (List ℕ)) (wait : Bool) (all rest : List (List ℕ)) (number : ℕ) (host : HostState) (before now next : Option (List ℕ)) (line : List ℕ) (lines : List (List ℕ))
+    → rest ≡ line ∷ lines → IsBehind scripts input wait all rest number host before now
+    → ((s : List Script) (i : List (List ℕ)) (w : Bool) (h : List Entry) → Stands s i w host h → GainsPrefix now next (line_output s (whole s i w h) (entry_of s (whole s i w h) line)))
+    → GainsPrefix before next (journal_output scripts (begin scripts input wait) all)
+behind-part scripts input wait all rest number host before now next line lines is b part =
+    Written-part before now next _ _ _ _ b.written (left-output scripts (whole scripts input wait b.history) rest line lines is) (part scripts input wait b.history b.stands)
 
-pub behind-less : (scripts : List Script) (input : List (List ℕ)) (all rest : List (List ℕ)) (number : ℕ) (host : HostState) (before now next : Option (List ℕ)) (line : List ℕ) (lines : List (List ℕ))
-    → rest ≡ line ∷ lines → IsBehind scripts input all rest number host before now
-    → ((s : List Script) (i : List (List ℕ)) (h : List Entry) → Stands s i host h → GainsLess now next (line_output s (whole s i h) (entry_of s (whole s i h) line)))
-    → GainsLess before next (journal_output scripts (begin scripts input) all)
-behind-less scripts input all rest number host before now next line lines is b less =
-    Written-less before now next _ _ _ _ b.written (left-output scripts (whole scripts input b.history) rest line lines is) (less scripts input b.history b.stands)
+pub behind-less : (scripts : List Script) (input : List (List ℕ)) (wait : Bool) (all rest : List (List ℕ)) (number : ℕ) (host : HostState) (before now next : Option (List ℕ)) (line : List ℕ) (lines : List (List ℕ))
+    → rest ≡ line ∷ lines → IsBehind scripts input wait all rest number host before now
+    → ((s : List Script) (i : List (List ℕ)) (w : Bool) (h : List Entry) → Stands s i w host h → GainsLess now next (line_output s (whole s i w h) (entry_of s (whole s i w h) line)))
+    → GainsLess before next (journal_output scripts (begin scripts input wait) all)
+behind-less scripts input wait all rest number host before now next line lines is b less =
+    Written-less before now next _ _ _ _ b.written (left-output scripts (whole scripts input wait b.history) rest line lines is) (less scripts input wait b.history b.stands)
 
 -- the line is refused
-pub behind-refused : (scripts : List Script) (input : List (List ℕ)) (all rest : List (List ℕ)) (number : ℕ) (host : HostState) (before now : Option (List ℕ)) (line : List ℕ) (lines : List (List ℕ))
-    → rest ≡ line ∷ lines → IsBehind scripts input all rest number host before now
-    → ((s : List Script) (i : List (List ℕ)) (h : List Entry) → Stands s i host h → entry_of s (whole s i h) line ≡ None)
-    → refused scripts 1 (begin scripts input) all ≡ Some number
-behind-refused scripts input all rest number host before now line lines is b none =
-    let m : Meaning Program = whole scripts input b.history in
+pub behind-refused : (scripts : List Script) (input : List (List ℕ)) (wait : Bool) (all rest : List (List ℕ)) (number : ℕ) (host : HostState) (before now : Option (List ℕ)) (line : List ℕ) (lines : List (List ℕ))
+    → rest ≡ line ∷ lines → IsBehind scripts input wait all rest number host before now
+    → ((s : List Script) (i : List (List ℕ)) (w : Bool) (h : List Entry) → Stands s i w host h → entry_of s (whole s i w h) line ≡ None)
+    → refused scripts 1 (begin scripts input wait) all ≡ Some number
+behind-refused scripts input wait all rest number host before now line lines is b none =
+    let m : Meaning Program = whole scripts input wait b.history in
     sym b.refused ∙ ap (λ xs. refused scripts number m xs) is
-    ∙ ap (λ o. option_map_or (λ e. refused scripts (number + 1) (apply scripts m e) lines) o (Some number)) (none scripts input b.history b.stands)
+    ∙ ap (λ o. option_map_or (λ e. refused scripts (number + 1) (apply scripts m e) lines) o (Some number)) (none scripts input wait b.history b.stands)
 
 -- and then all is written
-pub behind-refused-whole : (scripts : List Script) (input : List (List ℕ)) (all rest : List (List ℕ)) (number : ℕ) (host : HostState) (before now : Option (List ℕ)) (line : List ℕ) (lines : List (List ℕ))
-    → rest ≡ line ∷ lines → IsBehind scripts input all rest number host before now
-    → ((s : List Script) (i : List (List ℕ)) (h : List Entry) → Stands s i host h → entry_of s (whole s i h) line ≡ None)
-    → now ≡ gains before (journal_output scripts (begin scripts input) all)
-behind-refused-whole scripts input all rest number host before now line lines is b none =
-    let m : Meaning Program = whole scripts input b.history in
+pub behind-refused-whole : (scripts : List Script) (input : List (List ℕ)) (wait : Bool) (all rest : List (List ℕ)) (number : ℕ) (host : HostState) (before now : Option (List ℕ)) (line : List ℕ) (lines : List (List ℕ))
+    → rest ≡ line ∷ lines → IsBehind scripts input wait all rest number host before now
+    → ((s : List Script) (i : List (List ℕ)) (w : Bool) (h : List Entry) → Stands s i w host h → entry_of s (whole s i w h) line ≡ None)
+    → now ≡ gains before (journal_output scripts (begin scripts input wait) all)
+behind-refused-whole scripts input wait all rest number host before now line lines is b none =
+    let m : Meaning Program = whole scripts input wait b.history in
     Written-all before now _ (journal_output scripts m rest) b.written
-    (left-output scripts m rest line lines is ∙ ap (λ o. line_output scripts m o ++ option_map_or (λ e. journal_output scripts (apply scripts m e) lines) o []) (none scripts input b.history b.stands))
+    (left-output scripts m rest line lines is ∙ ap (λ o. line_output scripts m o ++ option_map_or (λ e. journal_output scripts (apply scripts m e) lines) o []) (none scripts input wait b.history b.stands))
 
 -- no line is left
-pub behind-done : (scripts : List Script) (input : List (List ℕ)) (all rest : List (List ℕ)) (number : ℕ) (host : HostState) (before now : Option (List ℕ))
-    → rest ≡ [] → IsBehind scripts input all rest number host before now → refused scripts 1 (begin scripts input) all ≡ None
-behind-done scripts input all rest number host before now is b =
-    sym b.refused ∙ ap (λ xs. refused scripts number (whole scripts input b.history) xs) is
+pub behind-done : (scripts : List Script) (input : List (List ℕ)) (wait : Bool) (all rest : List (List ℕ)) (number : ℕ) (host : HostState) (before now : Option (List ℕ))
+    → rest ≡ [] → IsBehind scripts input wait all rest number host before now → refused scripts 1 (begin scripts input wait) all ≡ None
+behind-done scripts input wait all rest number host before now is b =
+    sym b.refused ∙ ap (λ xs. refused scripts number (whole scripts input wait b.history) xs) is
 
-pub behind-done-whole : (scripts : List Script) (input : List (List ℕ)) (all rest : List (List ℕ)) (number : ℕ) (host : HostState) (before now : Option (List ℕ))
-    → rest ≡ [] → IsBehind scripts input all rest number host before now → now ≡ gains before (journal_output scripts (begin scripts input) all)
-behind-done-whole scripts input all rest number host before now is b =
-    Written-all before now _ _ b.written (ap (λ xs. journal_output scripts (whole scripts input b.history) xs) is)
+pub behind-done-whole : (scripts : List Script) (input : List (List ℕ)) (wait : Bool) (all rest : List (List ℕ)) (number : ℕ) (host : HostState) (before now : Option (List ℕ))
+    → rest ≡ [] → IsBehind scripts input wait all rest number host before now → now ≡ gains before (journal_output scripts (begin scripts input wait) all)
+behind-done-whole scripts input wait all rest number host before now is b =
+    Written-all before now _ _ b.written (ap (λ xs. journal_output scripts (whole scripts input wait b.history) xs) is)
 
 -- what was written is a first part of all
-pub behind-first : (scripts : List Script) (input : List (List ℕ)) (all rest : List (List ℕ)) (number : ℕ) (host : HostState) (before now : Option (List ℕ))
-    → IsBehind scripts input all rest number host before now → GainsPrefix before now (journal_output scripts (begin scripts input) all)
-behind-first scripts input all rest number host before now b =
-    (b.written.done, journal_output scripts (whole scripts input b.history) rest, b.written.parts, b.written.is)
+pub behind-first : (scripts : List Script) (input : List (List ℕ)) (wait : Bool) (all rest : List (List ℕ)) (number : ℕ) (host : HostState) (before now : Option (List ℕ))
+    → IsBehind scripts input wait all rest number host before now → GainsPrefix before now (journal_output scripts (begin scripts input wait) all)
+behind-first scripts input wait all rest number host before now b =
+    (b.written.done, journal_output scripts (whole scripts input wait b.history) rest, b.written.parts, b.written.is)

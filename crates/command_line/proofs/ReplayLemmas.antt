@@ -1,5 +1,5 @@
 -- What each end of a replay says of the files, and of what was written.
-use Rattle.std.proofs.Common.{◌≡◌, ◌⊎◌, ℕ, List, Option, Some, None, refl, sym, subst, ◌∙◌, inl, inr}
+use Rattle.std.proofs.Common.{◌≡◌, ◌⊎◌, ℕ, List, Bool, Option, Some, None, refl, sym, subst, ◌∙◌, inl, inr}
 use Rattle.cdp_edge.specs.Outside.{Named, Told, Rose, content_of, gains, GainsPrefix, GainsLess}
 use Rattle.cdp_edge.specs.Blame.{Faults, Blames, Read}
 use Rattle.cdp_edge.proofs.Gains.{gains-nil, GainsPrefix-refl, Told-GainsPrefix}
@@ -26,48 +26,48 @@ pub ruleset untouched = (gains-nil, GainsPrefix-refl, Told-GainsPrefix)
 
 -- ---- a replay that the files hold
 
-applies : (scripts : List Script) (input : List (List ℕ)) (texts : List (List ℕ)) (line : Option ℕ) → refused scripts 1 (begin scripts input) texts ≡ line
-    → AppliesUpTo line scripts input texts (entries scripts (begin scripts input) texts)
-applies scripts input texts None is = applied-all 1 scripts (begin scripts input) texts is
-applies scripts input texts (Some number) is = refused-one 1 number scripts (begin scripts input) texts is
+applies : (scripts : List Script) (input : List (List ℕ)) (wait : Bool) (texts : List (List ℕ)) (line : Option ℕ) → refused scripts 1 (begin scripts input wait) texts ≡ line
+    → AppliesUpTo line scripts input wait texts (entries scripts (begin scripts input wait) texts)
+applies scripts input wait texts None is = applied-all 1 scripts (begin scripts input wait) texts is
+applies scripts input wait texts (Some number) is = refused-one 1 number scripts (begin scripts input wait) texts is
 
 replays : (files : List Named) (request : Request) (journal : List ℕ) (scripts : List Script) (input : List (List ℕ)) (line : Option ℕ) → HoldsReplay files request journal scripts input
-    → refused scripts 1 (begin scripts input) (lines_of journal) ≡ line → Replays files request line (journal_output scripts (begin scripts input) (lines_of journal))
+    → refused scripts 1 (begin scripts input request.wait) (lines_of journal) ≡ line → Replays files request line (journal_output scripts (begin scripts input request.wait) (lines_of journal))
 replays files request journal scripts input line holds is = record {
   journal = journal;
   scripts = scripts;
   input = input;
-  history = entries scripts (begin scripts input) (lines_of journal);
+  history = entries scripts (begin scripts input request.wait) (lines_of journal);
   holds = holds;
-  applied = applies scripts input (lines_of journal) line is;
+  applied = applies scripts input request.wait (lines_of journal) line is;
   writes = refl;
-  headline = headline-of (lines_of journal) scripts input;
+  headline = headline-of (lines_of journal) scripts input request.wait;
 }
 
 pub replays-whole : (files : List Named) (request : Request) (journal : List ℕ) (scripts : List Script) (input : List (List ℕ)) (line : Option ℕ) (old new : Option (List ℕ))
-    → HoldsReplay files request journal scripts input → refused scripts 1 (begin scripts input) (lines_of journal) ≡ line
-    → new ≡ gains old (journal_output scripts (begin scripts input) (lines_of journal)) → ReplaysWhole files request line old new
+    → HoldsReplay files request journal scripts input → refused scripts 1 (begin scripts input request.wait) (lines_of journal) ≡ line
+    → new ≡ gains old (journal_output scripts (begin scripts input request.wait) (lines_of journal)) → ReplaysWhole files request line old new
 replays-whole files request journal scripts input line old new holds is whole = record {
-  output = journal_output scripts (begin scripts input) (lines_of journal);
+  output = journal_output scripts (begin scripts input request.wait) (lines_of journal);
   replays = replays files request journal scripts input line holds is;
   whole = whole;
 }
 
 pub replays-part : (files : List Named) (request : Request) (journal : List ℕ) (scripts : List Script) (input : List (List ℕ)) (old new : Option (List ℕ)) → HoldsReplay files request journal scripts input
-    → GainsPrefix old new (journal_output scripts (begin scripts input) (lines_of journal)) → ReplaysInPart files request old new
+    → GainsPrefix old new (journal_output scripts (begin scripts input request.wait) (lines_of journal)) → ReplaysInPart files request old new
 replays-part files request journal scripts input old new holds part = record {
-  line = refused scripts 1 (begin scripts input) (lines_of journal);
-  output = journal_output scripts (begin scripts input) (lines_of journal);
-  replays = replays files request journal scripts input (refused scripts 1 (begin scripts input) (lines_of journal)) holds refl;
+  line = refused scripts 1 (begin scripts input request.wait) (lines_of journal);
+  output = journal_output scripts (begin scripts input request.wait) (lines_of journal);
+  replays = replays files request journal scripts input (refused scripts 1 (begin scripts input request.wait) (lines_of journal)) holds refl;
   part = part;
 }
 
 pub replays-short : (files : List Named) (request : Request) (journal : List ℕ) (scripts : List Script) (input : List (List ℕ)) (old new : Option (List ℕ)) → HoldsReplay files request journal scripts input
-    → GainsLess old new (journal_output scripts (begin scripts input) (lines_of journal)) → ReplaysShort files request old new
+    → GainsLess old new (journal_output scripts (begin scripts input request.wait) (lines_of journal)) → ReplaysShort files request old new
 replays-short files request journal scripts input old new holds less = record {
-  line = refused scripts 1 (begin scripts input) (lines_of journal);
-  output = journal_output scripts (begin scripts input) (lines_of journal);
-  replays = replays files request journal scripts input (refused scripts 1 (begin scripts input) (lines_of journal)) holds refl;
+  line = refused scripts 1 (begin scripts input request.wait) (lines_of journal);
+  output = journal_output scripts (begin scripts input request.wait) (lines_of journal);
+  replays = replays files request journal scripts input (refused scripts 1 (begin scripts input request.wait) (lines_of journal)) holds refl;
   less = less;
 }
 
@@ -117,11 +117,11 @@ unread ends.CannotWrite request told before mid after was old journal there quie
 unread (ends.LineRefused n) request told before mid after was old journal there quiet h = absurd h
 
 -- what is known of the lines' replay
-pub record HasPlayed (e : ReplayEnd) (scripts : List Script) (input : List (List ℕ)) (journal : List ℕ) (was now : ℕ) (old new : Option (List ℕ)) : Type 0 where
-  pub end : IsCut e ⊎ (e ≡ end_of (refused scripts 1 (begin scripts input) (lines_of journal)))
-  pub whole : IsCut e ⊎ (new ≡ gains old (journal_output scripts (begin scripts input) (lines_of journal)))
-  pub part : GainsPrefix old new (journal_output scripts (begin scripts input) (lines_of journal))
-  pub less : e ≡ plays.CannotWrite → GainsLess old new (journal_output scripts (begin scripts input) (lines_of journal))
+pub record HasPlayed (e : ReplayEnd) (scripts : List Script) (input : List (List ℕ)) (wait : Bool) (journal : List ℕ) (was now : ℕ) (old new : Option (List ℕ)) : Type 0 where
+  pub end : IsCut e ⊎ (e ≡ end_of (refused scripts 1 (begin scripts input wait) (lines_of journal)))
+  pub whole : IsCut e ⊎ (new ≡ gains old (journal_output scripts (begin scripts input wait) (lines_of journal)))
+  pub part : GainsPrefix old new (journal_output scripts (begin scripts input wait) (lines_of journal))
+  pub less : e ≡ plays.CannotWrite → GainsLess old new (journal_output scripts (begin scripts input wait) (lines_of journal))
   pub quiet : (e ≡ plays.CannotWrite) ⊎ (now ≡ was)
   pub failed : e ≡ plays.CannotWrite → Rose was now
 
@@ -165,17 +165,17 @@ uncut-refused number (inr is) = cc
 
 -- why a replay ended so whose lines were played
 pub because : (e : ReplayEnd) (request : Request) (told : Option (List Named)) (before after : Faults) (was now : ℕ) (old new : Option (List ℕ)) (journal : List ℕ) (scripts : List Script) (input : List (List ℕ))
-    → HasHeld told request journal scripts input → after ≡ before → HasPlayed e scripts input journal was now old new
+    → HasHeld told request journal scripts input → after ≡ before → HasPlayed e scripts input request.wait journal was now old new
     → BecauseReplay (outcome_of_play e) request told before after was now old new
 because plays.Done request told before after was now old new journal scripts input holds same h =
-    let o = refused scripts 1 (begin scripts input) (lines_of journal) in (
+    let o = refused scripts 1 (begin scripts input request.wait) (lines_of journal) in (
       same,
       quiet_by plays.Done was now (λ is. cc) h.quiet,
       told_map told (λ files. HoldsReplay files request journal scripts input) (λ files. ReplaysWhole files request None old new)
           (λ files i. replays-whole files request journal scripts input None old new i (none_of o (ended_by plays.Done o uncut-done h.end)) (wrote_by plays.Done old new _ uncut-done h.whole)) holds,
     )
 because (plays.Refused number) request told before after was now old new journal scripts input holds same h =
-    let o = refused scripts 1 (begin scripts input) (lines_of journal) in (
+    let o = refused scripts 1 (begin scripts input request.wait) (lines_of journal) in (
       same,
       quiet_by (plays.Refused number) was now (λ is. cc) h.quiet,
       told_map told (λ files. HoldsReplay files request journal scripts input) (λ files. ReplaysWhole files request (Some number) old new)
@@ -196,7 +196,7 @@ because plays.Memory request told before after was now old new journal scripts i
 )
 
 pub in-part : (told : Option (List Named)) (request : Request) (old new : Option (List ℕ)) (journal : List ℕ) (scripts : List Script) (input : List (List ℕ)) → HasHeld told request journal scripts input
-    → GainsPrefix old new (journal_output scripts (begin scripts input) (lines_of journal)) → Told told (λ files. (new ≡ old) ⊎ ReplaysInPart files request old new)
+    → GainsPrefix old new (journal_output scripts (begin scripts input request.wait) (lines_of journal)) → Told told (λ files. (new ≡ old) ⊎ ReplaysInPart files request old new)
 in-part told request old new journal scripts input holds part =
     told_map told (λ files. HoldsReplay files request journal scripts input) (λ files. (new ≡ old) ⊎ ReplaysInPart files request old new)
     (λ files i. inr (replays-part files request journal scripts input old new i part)) holds
@@ -204,19 +204,19 @@ in-part told request old new journal scripts input holds part =
 -- the same, as the calls before the lines' replay tell of their shelves and bytes
 pub played : (e : ReplayEnd) (request : Request) (told mid_told : Option (List Named)) (before mid after : Faults) (was now : ℕ) (old new : Option (List ℕ)) (bytes journal : List ℕ) (scripts : List Script) (input : List (List ℕ))
     → HasJournal told request bytes → mid ≡ before → mid_told ≡ told → Told mid_told (λ files. HoldsSources files request.sources scripts input) → after ≡ mid → journal ≡ bytes
-    → HasPlayed e scripts input journal was now old new → BecauseReplay (outcome_of_play e) request told before after was now old new
+    → HasPlayed e scripts input request.wait journal was now old new → BecauseReplay (outcome_of_play e) request told before after was now old new
 played e request told mid_told before mid after was now old new bytes journal scripts input there quiet same sources still is h =
     let held_all : HasHeld told request bytes scripts input =
     held told request bytes scripts input there (subst (λ (t : Option (List Named)). Told t (λ files. HoldsSources files request.sources scripts input)) same sources) in
-    because e request told before after was now old new bytes scripts input held_all (still ∙ quiet) (subst (λ (j : List ℕ). HasPlayed e scripts input j was now old new) is h)
+    because e request told before after was now old new bytes scripts input held_all (still ∙ quiet) (subst (λ (j : List ℕ). HasPlayed e scripts input request.wait j was now old new) is h)
 
 pub played-part : (request : Request) (told mid_told : Option (List Named)) (old new : Option (List ℕ)) (bytes journal : List ℕ) (scripts : List Script) (input : List (List ℕ))
     → HasJournal told request bytes → mid_told ≡ told → Told mid_told (λ files. HoldsSources files request.sources scripts input) → journal ≡ bytes
-    → GainsPrefix old new (journal_output scripts (begin scripts input) (lines_of journal)) → Told told (λ files. (new ≡ old) ⊎ ReplaysInPart files request old new)
+    → GainsPrefix old new (journal_output scripts (begin scripts input request.wait) (lines_of journal)) → Told told (λ files. (new ≡ old) ⊎ ReplaysInPart files request old new)
 played-part request told mid_told old new bytes journal scripts input there same sources is part =
     let held_all : HasHeld told request bytes scripts input =
     held told request bytes scripts input there (subst (λ (t : Option (List Named)). Told t (λ files. HoldsSources files request.sources scripts input)) same sources) in
-    in-part told request old new bytes scripts input held_all (subst (λ (j : List ℕ). GainsPrefix old new (journal_output scripts (begin scripts input) (lines_of j))) is part)
+    in-part told request old new bytes scripts input held_all (subst (λ (j : List ℕ). GainsPrefix old new (journal_output scripts (begin scripts input request.wait) (lines_of j))) is part)
 
 -- ---- the status that the files decide
 

@@ -6,12 +6,12 @@ use Rattle.std.proofs.lemmas.Option.{same_Some}
 use Rattle.cdp_text.specs.Lines.{lines_of}
 use Rattle.cdp_text.specs.Parts.{behind, halves}
 use Rattle.cdp_text.proofs.PartsLemmas.{behind-append, behind-some, halves-decimal}
-use Rattle.cdp_host.specs.declared.state.State.TheVariants.{Broken, Threw, Ended, Paused, Ready}
+use Rattle.cdp_host.specs.declared.state.State.TheVariants.{Broken, Threw, Ended, Paused, Waiting, Ready}
 use Rattle.command_line.specs.Escapes.{escaped, printed_escaped}
 use Rattle.cdp_text.specs.Units.{utf8_of}
 use Rattle.command_line.proofs.OneLineLemmas.{is_other, is_one_line, are_one_line, one-append, decimal-one, escaped-one}
 use Rattle.command_line.specs.Headline.{behind_each, to_front}
-use Rattle.command_line.specs.Output.{Output, Attached, To, Out, RanTo, state_name, output_text, output_bytes}
+use Rattle.command_line.specs.Output.{Output, Attached, To, Out, Overran, RanTo, lost_lines, state_name, output_text, output_bytes}
 
 -- ---- lines of output
 
@@ -20,12 +20,14 @@ abbrev pub output_line : Output → List ℕ
 output_line (Attached s) = codes "attached " ++ decimal s
 output_line (To s text) = codes "to " ++ (decimal s ++ 32 ∷ escaped text)
 output_line (Out units) = codes "out " ++ printed_escaped units
+output_line (Overran s) = codes "overrun " ++ decimal s
 output_line (RanTo steps state) = codes "ran " ++ (decimal steps ++ 32 ∷ state_name state)
 
 text-line : (line : Output) → output_text line ≡ output_line line ++ 10 ∷ []
 text-line (Attached s) = refl
 text-line (To s text) = ap (λ xs. codes "to " ++ xs) (sym (append_assoc (decimal s) (32 ∷ escaped text) (10 ∷ [])))
 text-line (Out n) = refl
+text-line (Overran s) = refl
 text-line (RanTo steps state) = ap (λ xs. codes "ran " ++ xs) (sym (append_assoc (decimal steps) (32 ∷ state_name state) (10 ∷ [])))
 
 -- a line that ends with LF is cut off
@@ -55,10 +57,12 @@ lines-one (Attached s ∷ lines) = rw (one-append (codes "attached ") (decimal s
 lines-one (To s text ∷ lines) =
     rw (one-append (codes "to ") (decimal s ++ 32 ∷ escaped text) refl (one-append (decimal s) (32 ∷ escaped text) (decimal-one s) (escaped-one text)), lines-one lines) refl
 lines-one (Out units ∷ lines) = rw (one-append (codes "out ") (printed_escaped units) refl (escaped-one (utf8_of units)), lines-one lines) refl
+lines-one (Overran s ∷ lines) = rw (one-append (codes "overrun ") (decimal s) refl (decimal-one s), lines-one lines) refl
 lines-one (RanTo n Broken ∷ lines) = rw (ran-one n (codes "broken") refl, lines-one lines) refl
 lines-one (RanTo n Threw ∷ lines) = rw (ran-one n (codes "threw") refl, lines-one lines) refl
 lines-one (RanTo n Ended ∷ lines) = rw (ran-one n (codes "ended") refl, lines-one lines) refl
 lines-one (RanTo n Paused ∷ lines) = rw (ran-one n (codes "paused") refl, lines-one lines) refl
+lines-one (RanTo n Waiting ∷ lines) = rw (ran-one n (codes "waiting") refl, lines-one lines) refl
 lines-one (RanTo n Ready ∷ lines) = rw (ran-one n (codes "ready") refl, lines-one lines) refl
 
 -- ---- what stands behind the fronts
@@ -69,6 +73,7 @@ out_texts [] = []
 out_texts (Attached s ∷ lines) = out_texts lines
 out_texts (To s text ∷ lines) = out_texts lines
 out_texts (Out n ∷ lines) = n ∷ out_texts lines
+out_texts (Overran s ∷ lines) = out_texts lines
 out_texts (RanTo steps state ∷ lines) = out_texts lines
 
 pub out-each : (lines : List Output) → behind_each (codes "out ") (map output_line lines) ≡ map printed_escaped (out_texts lines)
@@ -76,6 +81,7 @@ out-each [] = refl
 out-each (Attached s ∷ lines) = out-each lines
 out-each (To s text ∷ lines) = out-each lines
 out-each (Out n ∷ lines) = ap (λ rest. printed_escaped n ∷ rest) (out-each lines)
+out-each (Overran s ∷ lines) = out-each lines
 out-each (RanTo steps state ∷ lines) = out-each lines
 
 -- what the lines tell of runs
@@ -84,6 +90,7 @@ ran_of [] = []
 ran_of (Attached s ∷ lines) = ran_of lines
 ran_of (To s text ∷ lines) = ran_of lines
 ran_of (Out n ∷ lines) = ran_of lines
+ran_of (Overran s ∷ lines) = ran_of lines
 ran_of (RanTo steps state ∷ lines) = (decimal steps ++ 32 ∷ state_name state) ∷ ran_of lines
 
 pub ran-each : (lines : List Output) → behind_each (codes "ran ") (map output_line lines) ≡ ran_of lines
@@ -91,7 +98,25 @@ ran-each [] = refl
 ran-each (Attached s ∷ lines) = ran-each lines
 ran-each (To s text ∷ lines) = ran-each lines
 ran-each (Out n ∷ lines) = ran-each lines
+ran-each (Overran s ∷ lines) = ran-each lines
 ran-each (RanTo steps state ∷ lines) = ap (λ rest. (decimal steps ++ 32 ∷ state_name state) ∷ rest) (ran-each lines)
+
+-- the sessions that the lines tell as lost
+abbrev pub lost_of : List Output → List ℕ
+lost_of [] = []
+lost_of (Attached s ∷ lines) = lost_of lines
+lost_of (To s text ∷ lines) = lost_of lines
+lost_of (Out n ∷ lines) = lost_of lines
+lost_of (Overran s ∷ lines) = s ∷ lost_of lines
+lost_of (RanTo steps state ∷ lines) = lost_of lines
+
+pub lost-each : (lines : List Output) → behind_each (codes "overrun ") (map output_line lines) ≡ map decimal (lost_of lines)
+lost-each [] = refl
+lost-each (Attached s ∷ lines) = lost-each lines
+lost-each (To s text ∷ lines) = lost-each lines
+lost-each (Out n ∷ lines) = lost-each lines
+lost-each (Overran s ∷ lines) = ap (λ rest. decimal s ∷ rest) (lost-each lines)
+lost-each (RanTo steps state ∷ lines) = lost-each lines
 
 -- the texts that the lines send to this session
 abbrev pub to_of : ℕ → List Output → List (List ℕ)
@@ -99,6 +124,7 @@ to_of s [] = []
 to_of s (Attached n ∷ lines) = to_of s lines
 to_of s (To n text ∷ lines) = option_to_list (behind (decimal s ++ 32 ∷ []) (decimal n ++ 32 ∷ escaped text)) ++ to_of s lines
 to_of s (Out n ∷ lines) = to_of s lines
+to_of s (Overran n ∷ lines) = to_of s lines
 to_of s (RanTo steps state ∷ lines) = to_of s lines
 
 pub to-each : (s : ℕ) (lines : List Output) → behind_each (to_front s) (map output_line lines) ≡ to_of s lines
@@ -106,6 +132,7 @@ to-each s [] = refl
 to-each s (Attached n ∷ lines) = to-each s lines
 to-each s (To n text ∷ lines) = ap (λ rest. option_to_list (behind (decimal s ++ 32 ∷ []) (decimal n ++ 32 ∷ escaped text)) ++ rest) (to-each s lines)
 to-each s (Out n ∷ lines) = to-each s lines
+to-each s (Overran n ∷ lines) = to-each s lines
 to-each s (RanTo steps state ∷ lines) = to-each s lines
 
 own-text : (s : ℕ) (text : List ℕ) → behind (decimal s ++ 32 ∷ []) (decimal s ++ 32 ∷ text) ≡ Some text
@@ -142,6 +169,7 @@ to_of-append s (To n text ∷ xs) ys =
     let first = option_to_list (behind (decimal s ++ 32 ∷ []) (decimal n ++ 32 ∷ escaped text)) in
     ap (λ rest. first ++ rest) (to_of-append s xs ys) ∙ sym (append_assoc first (to_of s xs) (to_of s ys))
 to_of-append s (Out n ∷ xs) ys = to_of-append s xs ys
+to_of-append s (Overran n ∷ xs) ys = to_of-append s xs ys
 to_of-append s (RanTo steps state ∷ xs) ys = to_of-append s xs ys
 
 pub to-printed : (s : ℕ) (xs : List (List ℕ)) → to_of s (map Out xs) ≡ []
@@ -153,6 +181,7 @@ ran-append [] ys = refl
 ran-append (Attached s ∷ xs) ys = ran-append xs ys
 ran-append (To s text ∷ xs) ys = ran-append xs ys
 ran-append (Out n ∷ xs) ys = ran-append xs ys
+ran-append (Overran s ∷ xs) ys = ran-append xs ys
 ran-append (RanTo steps state ∷ xs) ys = ap (λ rest. (decimal steps ++ 32 ∷ state_name state) ∷ rest) (ran-append xs ys)
 
 pub ran-printed : (xs : List (List ℕ)) → ran_of (map Out xs) ≡ []
@@ -162,3 +191,36 @@ ran-printed (x ∷ xs) = ran-printed xs
 pub ran-sent : (s : ℕ) (texts : List (List ℕ)) → ran_of (map (To s) texts) ≡ []
 ran-sent s [] = refl
 ran-sent s (text ∷ texts) = ran-sent s texts
+
+pub lost-append : (xs ys : List Output) → lost_of (xs ++ ys) ≡ lost_of xs ++ lost_of ys
+lost-append [] ys = refl
+lost-append (Attached s ∷ xs) ys = lost-append xs ys
+lost-append (To s text ∷ xs) ys = lost-append xs ys
+lost-append (Out n ∷ xs) ys = lost-append xs ys
+lost-append (Overran s ∷ xs) ys = ap (λ rest. s ∷ rest) (lost-append xs ys)
+lost-append (RanTo steps state ∷ xs) ys = lost-append xs ys
+
+pub lost-printed : (xs : List (List ℕ)) → lost_of (map Out xs) ≡ []
+lost-printed [] = refl
+lost-printed (x ∷ xs) = lost-printed xs
+
+pub lost-sent : (s : ℕ) (texts : List (List ℕ)) → lost_of (map (To s) texts) ≡ []
+lost-sent s [] = refl
+lost-sent s (text ∷ texts) = lost-sent s texts
+
+-- the line of a loss among others
+pub lost-out : (lost : Option ℕ) (lines : List Output) → out_texts (lost_lines lost ++ lines) ≡ out_texts lines
+lost-out None lines = refl
+lost-out (Some s) lines = refl
+
+pub lost-ran : (lost : Option ℕ) (lines : List Output) → ran_of (lost_lines lost ++ lines) ≡ ran_of lines
+lost-ran None lines = refl
+lost-ran (Some s) lines = refl
+
+pub lost-to : (s : ℕ) (lost : Option ℕ) (lines : List Output) → to_of s (lost_lines lost ++ lines) ≡ to_of s lines
+lost-to s None lines = refl
+lost-to s (Some n) lines = refl
+
+pub lost-told : (lost : Option ℕ) (lines : List Output) → lost_of (lost_lines lost ++ lines) ≡ option_to_list lost ++ lost_of lines
+lost-told None lines = refl
+lost-told (Some s) lines = refl

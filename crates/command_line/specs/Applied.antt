@@ -7,12 +7,12 @@ use Rattle.cdp_host.specs.Histories.{Entry, apply, Attach as Attached, Tell as T
 use Rattle.command_line.specs.Lines.{Line, Attach, Tell, Take, Run, IsLine}
 
 -- a line may stand there, and this is its entry: one that attaches where no session was attached so far, one that tells or takes where its session is attached,
--- and one that runs at any place, for the longest run of at most its steps
+-- and one that runs at any place, for the longest run of at most its steps at its moment
 abbrev pub MayStand : List Script → Meaning Program → Line → Entry → Type 0
 MayStand scripts m Attach entry = (m.attached ≡ 0) × (entry ≡ Attached)
 MayStand scripts m (Tell s text) entry = (is_attached m s ≡ true) × (entry ≡ Told s text)
 MayStand scripts m (Take s) entry = (is_attached m s ≡ true) × (entry ≡ Taken s)
-MayStand scripts m (Run most moment) entry = (n : ℕ) × IsLongest scripts most m n × (entry ≡ Ran n)
+MayStand scripts m (Run most moment) entry = (n : ℕ) × IsLongest scripts moment most m n × (entry ≡ Ran n moment)
 
 -- the text is a line of its form, which may stand there and has this entry
 pub record IsEntry (scripts : List Script) (m : Meaning Program) (text : List ℕ) (entry : Entry) : Type 0 where

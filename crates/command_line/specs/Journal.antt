@@ -12,7 +12,7 @@ abbrev pub entry_at : List Script → Meaning Program → Line → Option Entry
 entry_at scripts m Attach = if m.attached == 0 then Some Attached else None
 entry_at scripts m (Tell s text) = if is_attached m s then Some (Told s text) else None
 entry_at scripts m (Take s) = if is_attached m s then Some (Taken s) else None
-entry_at scripts m (Run most moment) = Some (Ran (longest scripts most m))
+entry_at scripts m (Run most moment) = Some (Ran (longest scripts moment most m) moment)
 
 -- the entry of a line's bytes; None where the line is refused
 abbrev pub entry_of : List Script → Meaning Program → List ℕ → Option Entry

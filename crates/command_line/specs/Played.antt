@@ -1,5 +1,5 @@
 -- What is done for a journal's line, to a host that stands for a history and to a sink.
-use Rattle.std.specs.Prelude.{◌≡◌, ◌⊎◌, ℕ, List, [], ◌∷◌, ◌++◌, map, false, Option, Some, None}
+use Rattle.std.specs.Prelude.{◌≡◌, ◌⊎◌, ℕ, List, [], ◌∷◌, ◌++◌, map, Bool, false, Option, Some, None}
 use Rattle.std.specs.Option.{option_map_or}
 use Rattle.cdp_edge.specs.Outside.{gains}
 use Rattle.cdp_edge.specs.declared.sink.SinkFault.{SinkFault}
@@ -19,21 +19,21 @@ use Rattle.command_line.specs.declared.play.ReplayEnd.TheVariants as ends
 -- ---- one line
 
 -- the host stands for the history with this entry
-pub record StandsBehind (scripts : List Script) (input : List (List ℕ)) (history : List Entry) (entry : Entry) (new : HostState) : Type 0 where
-  pub stands : Stands scripts input new (history ++ entry ∷ [])
+pub record StandsBehind (scripts : List Script) (input : List (List ℕ)) (wait : Bool) (history : List Entry) (entry : Entry) (new : HostState) : Type 0 where
+  pub stands : Stands scripts input wait new (history ++ entry ∷ [])
   pub works : new.broken ≡ false
 
 -- a line that has this entry was applied, and these are its lines of output; one that has none was not
-abbrev pub Acts : List Script → List (List ℕ) → List Entry → Option Entry → Option (List (List ℕ)) → HostState → Type 0
-Acts scripts input history None lines new = lines ≡ None
-Acts scripts input history (Some entry) lines new =
-    (lines ≡ Some (map output_text (output_at scripts (whole scripts input history) entry))) × StandsBehind scripts input history entry new
+abbrev pub Acts : List Script → List (List ℕ) → Bool → List Entry → Option Entry → Option (List (List ℕ)) → HostState → Type 0
+Acts scripts input wait history None lines new = lines ≡ None
+Acts scripts input wait history (Some entry) lines new =
+    (lines ≡ Some (map output_text (output_at scripts (whole scripts input wait history) entry))) × StandsBehind scripts input wait history entry new
 
 -- a line that has this entry was applied, and its output was written
-abbrev pub Plays : List Script → List (List ℕ) → List Entry → Option Entry → HostState → Option (List ℕ) → Option (List ℕ) → Type 0
-Plays scripts input history None new before now = ⊥
-Plays scripts input history (Some entry) new before now =
-    (now ≡ gains before (output_bytes (output_at scripts (whole scripts input history) entry))) × StandsBehind scripts input history entry new
+abbrev pub Plays : List Script → List (List ℕ) → Bool → List Entry → Option Entry → HostState → Option (List ℕ) → Option (List ℕ) → Type 0
+Plays scripts input wait history None new before now = ⊥
+Plays scripts input wait history (Some entry) new before now =
+    (now ≡ gains before (output_bytes (output_at scripts (whole scripts input wait history) entry))) × StandsBehind scripts input wait history entry new
 
 -- what a line's entry writes; nothing where it is refused
 abbrev pub line_output : List Script → Meaning Program → Option Entry → List ℕ

@@ -1,5 +1,5 @@
 -- How a replay ends, and why.
-use Rattle.std.specs.Prelude.{◌≡◌, ◌⊎◌, ℕ, List, Option, Some, None}
+use Rattle.std.specs.Prelude.{◌≡◌, ◌⊎◌, ℕ, List, Bool, Option, Some, None}
 use Rattle.cdp_edge.specs.Outside.{Rose, Named, Told, gains, GainsPrefix, GainsLess}
 use Rattle.cdp_edge.specs.Blame.{Faults, Blames, Read}
 use Rattle.cdp_text.specs.Lines.{lines_of}
@@ -17,9 +17,9 @@ use Rattle.command_line.specs.declared.play.ReplayEnd.{ReplayEnd}
 use Rattle.command_line.specs.declared.play.ReplayEnd.TheVariants as plays
 
 -- these entries are those of all lines of a journal, or of the lines before the one of this number, which is refused
-abbrev pub AppliesUpTo : Option ℕ → List Script → List (List ℕ) → List (List ℕ) → List Entry → Type 0
-AppliesUpTo None scripts input texts history = AreEntries scripts (begin scripts input) texts history
-AppliesUpTo (Some number) scripts input texts history = RefusesAt scripts 1 (begin scripts input) texts history number
+abbrev pub AppliesUpTo : Option ℕ → List Script → List (List ℕ) → Bool → List (List ℕ) → List Entry → Type 0
+AppliesUpTo None scripts input wait texts history = AreEntries scripts (begin scripts input wait) texts history
+AppliesUpTo (Some number) scripts input wait texts history = RefusesAt scripts 1 (begin scripts input wait) texts history number
 
 -- The replay that the files hold, up to the line that is refused, if one is: its history, its output, and what a debugger leaves of the run in it.
 pub record Replays (files : List Named) (request : Request) (line : Option ℕ) (output : List ℕ) : Type 0 where
@@ -28,9 +28,9 @@ pub record Replays (files : List Named) (request : Request) (line : Option ℕ) 
   pub input : List (List ℕ)
   pub history : List Entry
   pub holds : HoldsReplay files request journal scripts input
-  pub applied : AppliesUpTo line scripts input (lines_of journal) history
-  pub writes : output ≡ output_bytes (output_of scripts (begin scripts input) history)
-  pub headline : Headline scripts input history output
+  pub applied : AppliesUpTo line scripts input request.wait (lines_of journal) history
+  pub writes : output ≡ output_bytes (output_of scripts (begin scripts input request.wait) history)
+  pub headline : Headline scripts input request.wait history output
 
 -- ---- of a sink that had this content before and after
 

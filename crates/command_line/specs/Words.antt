@@ -1,5 +1,5 @@
 -- The words of the command line.
-use Rattle.std.specs.Prelude.{ℕ, List, [], ◌∷◌, Bool, nat_eq, if◌then◌else◌, bytes_eq, codes, Option, Some, None, map, string_bytes}
+use Rattle.std.specs.Prelude.{ℕ, List, [], ◌∷◌, Bool, true, false, nat_eq, if◌then◌else◌, bytes_eq, codes, Option, Some, None, map, string_bytes}
 use Rattle.std.specs.List.{list_any, starts_with}
 use Rattle.std.specs.Option.{option_and_then}
 use Rattle.cdp_text.specs.Parts.{behind}
@@ -11,8 +11,9 @@ pub record Sources : Type 0 where
   pub input : Option (List ℕ)
   pub scripts : List (List ℕ)
 
--- a journal by the name of its file, over a program
+-- a journal by the name of its file, over a program that waits for a client where that is asked for
 pub record Request : Type 0 where
+  pub wait : Bool
   pub journal : List ℕ
   pub sources : Sources
 
@@ -59,23 +60,29 @@ abbrev pub run_of : Names → Option Command
 run_of n = run_names n.input n.names
 
 -- `JOURNAL SCRIPT...`, at least one script
-abbrev pub replay_names : Option (List ℕ) → List (List ℕ) → Option Command
-replay_names input [] = None
-replay_names input (journal ∷ []) = None
-replay_names input (journal ∷ script ∷ scripts) =
+abbrev pub replay_names : Bool → Option (List ℕ) → List (List ℕ) → Option Command
+replay_names wait input [] = None
+replay_names wait input (journal ∷ []) = None
+replay_names wait input (journal ∷ script ∷ scripts) =
     if list_any is_option (journal ∷ script ∷ scripts) then None
-    else Some (Replay record { journal = journal; sources = record { input = input; scripts = script ∷ scripts } })
+    else Some (Replay record { wait = wait; journal = journal; sources = record { input = input; scripts = script ∷ scripts } })
 
--- the command `replay`, by the words behind it
-abbrev pub replay_of : Names → Option Command
-replay_of n = replay_names n.input n.names
+-- a replay, by its names
+abbrev pub replay_of : Bool → Names → Option Command
+replay_of wait n = replay_names wait n.input n.names
+
+-- the command `replay`, by the words behind it, of which `--wait` may be the first
+abbrev pub replay_words : List (List ℕ) → Option Command
+replay_words [] = None
+replay_words (word ∷ words) =
+    if bytes_eq word (codes "--wait") then option_and_then (replay_of true) (names_of words) else option_and_then (replay_of false) (names_of (word ∷ words))
 
 -- what these words ask for: a run, a replay, or nothing
 abbrev pub form : List (List ℕ) → Option Command
 form [] = None
 form (command ∷ words) =
     if bytes_eq command (codes "run") then option_and_then run_of (names_of words)
-    else if bytes_eq command (codes "replay") then option_and_then replay_of (names_of words) else None
+    else if bytes_eq command (codes "replay") then replay_words words else None
 
 -- what the words that the program was given ask for
 abbrev pub asked : List (String Global) → Option Command

@@ -1,16 +1,16 @@
 // What a journal's line does to the host.
-ghost use Rattle.std.specs.Prelude.{◌≡◌, ℕ, List, false, IfOk, OnOk, map, string_bytes};
+ghost use Rattle.std.specs.Prelude.{◌≡◌, ◌<◌, ◌^◌, ℕ, List, Bool, false, IfOk, OnOk, map, string_bytes};
 ghost use Rattle.std.specs.Option.{option_map};
 ghost use Rattle.js_tree.specs.declared.script.Script.{Script};
 ghost use Rattle.cdp_host.specs.Histories.{Entry, whole};
 ghost use Rattle.cdp_host.specs.Hosts.{Stands};
-ghost use Rattle.command_line.specs.Lines.{Attach, Tell, Take, Run};
+ghost use Rattle.command_line.specs.Lines.{Attach, Tell, Take, Run, IsInForm};
 ghost use Rattle.command_line.specs.Journal.{entry_at};
 ghost use Rattle.command_line.specs.LineRead.{line_held};
 ghost use Rattle.command_line.specs.Played.{Acts};
 
 use crate::line::Line;
-use crate::output::{attached_line, printed_lines, ran_line, sent_lines};
+use crate::output::{attached_line, overrun_line, printed_lines, push_lost, ran_line, sent_lines};
 use cdp_host::host::{Host, Told};
 use std::alloc::{AllocError, Global};
 
@@ -20,10 +20,11 @@ pub(crate) fn act(
     host: &mut Host,
     line: Line,
 ) -> Result<Option<Vec<String>>, AllocError>
-    requires { host.old.broken ≡ false }
+    requires works { host.old.broken ≡ false }
+    requires form { IsInForm (line_held line) }
     ensures works { OnOk result (host.new.broken ≡ false) }
-    ensures acts { IfOk result (λ lines. (scripts : List Script) (input : List (List ℕ)) (history : List Entry) → Stands scripts input host.old history
-        → Acts scripts input history (entry_at scripts (whole scripts input history) (line_held line)) (option_map (λ all. map string_bytes all.items) lines) host.new) }
+    ensures acts { IfOk result (λ lines. (scripts : List Script) (input : List (List ℕ)) (wait : Bool) (history : List Entry) → Stands scripts input wait host.old history
+        → Acts scripts input wait history (entry_at scripts (whole scripts input wait history) (line_held line)) (option_map (λ all. map string_bytes all.items) lines) host.new) }
 {
     match line {
         Line::Attach => attach(alloc, host),
@@ -37,8 +38,8 @@ pub(crate) fn act(
 fn attach(alloc: Global, host: &mut Host) -> Result<Option<Vec<String>>, AllocError>
     requires { host.old.broken ≡ false }
     ensures works { OnOk result (host.new.broken ≡ false) }
-    ensures acts { IfOk result (λ lines. (scripts : List Script) (input : List (List ℕ)) (history : List Entry) → Stands scripts input host.old history
-        → Acts scripts input history (entry_at scripts (whole scripts input history) Attach) (option_map (λ all. map string_bytes all.items) lines) host.new) }
+    ensures acts { IfOk result (λ lines. (scripts : List Script) (input : List (List ℕ)) (wait : Bool) (history : List Entry) → Stands scripts input wait host.old history
+        → Acts scripts input wait history (entry_at scripts (whole scripts input wait history) Attach) (option_map (λ all. map string_bytes all.items) lines) host.new) }
 {
     if host.sessions() != 0 {
         return Ok(None);
@@ -57,14 +58,18 @@ fn tell(
 ) -> Result<Option<Vec<String>>, AllocError>
     requires { host.old.broken ≡ false }
     ensures works { OnOk result (host.new.broken ≡ false) }
-    ensures acts { IfOk result (λ lines. (scripts : List Script) (input : List (List ℕ)) (history : List Entry) → Stands scripts input host.old history
-        → Acts scripts input history (entry_at scripts (whole scripts input history) (Tell session text.now)) (option_map (λ all. map string_bytes all.items) lines) host.new) }
+    ensures acts { IfOk result (λ lines. (scripts : List Script) (input : List (List ℕ)) (wait : Bool) (history : List Entry) → Stands scripts input wait host.old history
+        → Acts scripts input wait history (entry_at scripts (whole scripts input wait history) (Tell session text.now)) (option_map (λ all. map string_bytes all.items) lines) host.new) }
 {
     if !host.attached(session) {
         return Ok(None);
     }
     match host.tell(session, text) {
         Told::Kept => Ok(Some(Vec::new(alloc))),
+        Told::Overrun => {
+            let line = overrun_line(alloc, session)?;
+            Ok(Some(vec![in alloc; line]?))
+        }
         Told::Memory => Err(AllocError),
     }
 }
@@ -73,8 +78,8 @@ fn tell(
 fn take(alloc: Global, host: &mut Host, session: u64) -> Result<Option<Vec<String>>, AllocError>
     requires { host.old.broken ≡ false }
     ensures works { OnOk result (host.new.broken ≡ false) }
-    ensures acts { IfOk result (λ lines. (scripts : List Script) (input : List (List ℕ)) (history : List Entry) → Stands scripts input host.old history
-        → Acts scripts input history (entry_at scripts (whole scripts input history) (Take session)) (option_map (λ all. map string_bytes all.items) lines) host.new) }
+    ensures acts { IfOk result (λ lines. (scripts : List Script) (input : List (List ℕ)) (wait : Bool) (history : List Entry) → Stands scripts input wait host.old history
+        → Acts scripts input wait history (entry_at scripts (whole scripts input wait history) (Take session)) (option_map (λ all. map string_bytes all.items) lines) host.new) }
 {
     if !host.attached(session) {
         return Ok(None);
@@ -83,20 +88,22 @@ fn take(alloc: Global, host: &mut Host, session: u64) -> Result<Option<Vec<Strin
     Ok(Some(sent_lines(alloc, session, &texts)?))
 }
 
-/// Runs the program. No event carries its moment yet.
+/// Runs the program at a moment.
 fn run(
     alloc: Global,
     host: &mut Host,
     most: u64,
-    _moment: u64,
+    moment: u64,
 ) -> Result<Option<Vec<String>>, AllocError>
-    requires { host.old.broken ≡ false }
+    requires works { host.old.broken ≡ false }
+    requires moment { moment < 2 ^ 53 }
     ensures works { OnOk result (host.new.broken ≡ false) }
-    ensures acts { IfOk result (λ lines. (scripts : List Script) (input : List (List ℕ)) (history : List Entry) → Stands scripts input host.old history
-        → Acts scripts input history (entry_at scripts (whole scripts input history) (Run most _moment)) (option_map (λ all. map string_bytes all.items) lines) host.new) }
+    ensures acts { IfOk result (λ lines. (scripts : List Script) (input : List (List ℕ)) (wait : Bool) (history : List Entry) → Stands scripts input wait host.old history
+        → Acts scripts input wait history (entry_at scripts (whole scripts input wait history) (Run most moment)) (option_map (λ all. map string_bytes all.items) lines) host.new) }
 {
-    let ran = host.run(most)?;
+    let ran = host.run(most, moment)?;
     let mut lines = printed_lines(alloc, &ran.printed)?;
+    push_lost(alloc, &mut lines, ran.lost)?;
     let steps = ran.steps;
     lines.push(ran_line(alloc, steps, host.state())?)?;
     Ok(Some(lines))

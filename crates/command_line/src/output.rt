@@ -1,7 +1,7 @@
 // The lines of output.
-ghost use Rattle.std.specs.Prelude.{◌≡◌, IfOk, map, string_bytes};
+ghost use Rattle.std.specs.Prelude.{◌≡◌, ◌++◌, IfOk, OnOk, map, string_bytes};
 ghost use Rattle.cdp_host.specs.declared.state.State.{State};
-ghost use Rattle.command_line.specs.Output.{Attached, To, Out, RanTo, output_text, state_name};
+ghost use Rattle.command_line.specs.Output.{Attached, To, Out, Overran, RanTo, lost_lines, output_text, state_name};
 
 use crate::escape::escape;
 use cdp_host::state::State;
@@ -32,6 +32,30 @@ fn printed_line(alloc: Global, units: &[u16]) -> Result<String, AllocError>
     Ok(format!(in alloc; "out {written}\n")?)
 }
 
+/// The line of a session that was lost.
+pub(crate) fn overrun_line(alloc: Global, session: u64) -> Result<String, AllocError>
+    ensures { IfOk result (λ line. string_bytes line ≡ output_text (Overran session)) }
+{
+    Ok(format!(in alloc; "overrun {session}\n")?)
+}
+
+/// Puts the line of a session that was lost behind others, if one was.
+pub(crate) fn push_lost(
+    alloc: Global,
+    lines: &mut Vec<String>,
+    lost: Option<u64>,
+) -> Result<(), AllocError>
+    ensures { OnOk result (map string_bytes lines.new.items ≡ map string_bytes lines.old.items ++ map output_text (lost_lines lost)) }
+{
+    match lost {
+        None => Ok(()),
+        Some(session) => {
+            lines.push(overrun_line(alloc, session)?)?;
+            Ok(())
+        }
+    }
+}
+
 /// The line of a run's steps and the state in which it ended.
 pub(crate) fn ran_line(alloc: Global, steps: u64, state: State) -> Result<String, AllocError>
     ensures { IfOk result (λ line. string_bytes line ≡ output_text (RanTo steps state)) }
@@ -49,6 +73,7 @@ fn state_name(state: State) -> &'static str
         State::Threw => "threw",
         State::Ended => "ended",
         State::Paused => "paused",
+        State::Waiting => "waiting",
         State::Ready => "ready",
     }
 }

@@ -1,5 +1,5 @@
 // A journal's lines over a host, and what is written of them.
-ghost use Rattle.std.specs.Prelude.{◌≡◌, ◌⊎◌, ℕ, List, [], false, None, OnOk, OnErr, IsErrOf, map, string_bytes};
+ghost use Rattle.std.specs.Prelude.{◌≡◌, ◌⊎◌, ℕ, List, [], Bool, false, None, OnOk, OnErr, IsErrOf, map, string_bytes};
 ghost use Rattle.cdp_edge.specs.Outside.{Rose, gains, GainsPrefix, GainsLess};
 ghost use Rattle.cdp_text.specs.Lines.{lines_of};
 ghost use Rattle.js_tree.specs.declared.script.Script.{Script as AnyScript};
@@ -72,15 +72,15 @@ fn play_line<O: Sink>(
     out: &mut O,
 ) -> Result<(), LineFault>
     requires { host.old.broken ≡ false }
-    ensures ok { OnOk result ((scripts : List AnyScript) (input : List (List ℕ)) (history : List Entry) → Stands scripts input host.old history
-        → Plays scripts input history (entry_of scripts (whole scripts input history) text.now) host.new (O.content out.old) (O.content out.new)) }
+    ensures ok { OnOk result ((scripts : List AnyScript) (input : List (List ℕ)) (wait : Bool) (history : List Entry) → Stands scripts input wait host.old history
+        → Plays scripts input wait history (entry_of scripts (whole scripts input wait history) text.now) host.new (O.content out.old) (O.content out.new)) }
     ensures works { OnOk result (host.new.broken ≡ false) }
-    ensures refused { IsErrOf result LineFault.Refused → (out.new ≡ out.old) × ((scripts : List AnyScript) (input : List (List ℕ)) (history : List Entry) → Stands scripts input host.old history
-        → entry_of scripts (whole scripts input history) text.now ≡ None) }
-    ensures part { OnErr result ((scripts : List AnyScript) (input : List (List ℕ)) (history : List Entry) → Stands scripts input host.old history
-        → GainsPrefix (O.content out.old) (O.content out.new) (line_output scripts (whole scripts input history) (entry_of scripts (whole scripts input history) text.now))) }
-    ensures less { IsErrOf result LineFault.CannotWrite → (scripts : List AnyScript) (input : List (List ℕ)) (history : List Entry) → Stands scripts input host.old history
-        → GainsLess (O.content out.old) (O.content out.new) (line_output scripts (whole scripts input history) (entry_of scripts (whole scripts input history) text.now)) }
+    ensures refused { IsErrOf result LineFault.Refused → (out.new ≡ out.old) × ((scripts : List AnyScript) (input : List (List ℕ)) (wait : Bool) (history : List Entry) → Stands scripts input wait host.old history
+        → entry_of scripts (whole scripts input wait history) text.now ≡ None) }
+    ensures part { OnErr result ((scripts : List AnyScript) (input : List (List ℕ)) (wait : Bool) (history : List Entry) → Stands scripts input wait host.old history
+        → GainsPrefix (O.content out.old) (O.content out.new) (line_output scripts (whole scripts input wait history) (entry_of scripts (whole scripts input wait history) text.now))) }
+    ensures less { IsErrOf result LineFault.CannotWrite → (scripts : List AnyScript) (input : List (List ℕ)) (wait : Bool) (history : List Entry) → Stands scripts input wait host.old history
+        → GainsLess (O.content out.old) (O.content out.new) (line_output scripts (whole scripts input wait history) (entry_of scripts (whole scripts input wait history) text.now)) }
     ensures quiet { OnOk result (O.faults out.new ≡ O.faults out.old) }
     ensures memory { IsErrOf result LineFault.Memory → O.faults out.new ≡ O.faults out.old }
     ensures failed { IsErrOf result LineFault.CannotWrite → Rose (O.faults out.old) (O.faults out.new) }
@@ -102,14 +102,14 @@ fn play_line<O: Sink>(
 /// Replays a journal's lines over a host before its first entry, up to the first line that is refused.
 fn play_lines<O: Sink>(alloc: Global, host: &mut Host, journal: &[u8], out: &mut O) -> ReplayEnd
     requires { host.old.broken ≡ false }
-    ensures end { (scripts : List AnyScript) (input : List (List ℕ)) → Stands scripts input host.old []
-        → IsCut result ⊎ (result ≡ end_of (refused scripts 1 (begin scripts input) (lines_of journal.now))) }
-    ensures whole { (scripts : List AnyScript) (input : List (List ℕ)) → Stands scripts input host.old []
-        → IsCut result ⊎ (O.content out.new ≡ gains (O.content out.old) (journal_output scripts (begin scripts input) (lines_of journal.now))) }
-    ensures part { (scripts : List AnyScript) (input : List (List ℕ)) → Stands scripts input host.old []
-        → GainsPrefix (O.content out.old) (O.content out.new) (journal_output scripts (begin scripts input) (lines_of journal.now)) }
-    ensures less { result ≡ ReplayEnd.CannotWrite → (scripts : List AnyScript) (input : List (List ℕ)) → Stands scripts input host.old []
-        → GainsLess (O.content out.old) (O.content out.new) (journal_output scripts (begin scripts input) (lines_of journal.now)) }
+    ensures end { (scripts : List AnyScript) (input : List (List ℕ)) (wait : Bool) → Stands scripts input wait host.old []
+        → IsCut result ⊎ (result ≡ end_of (refused scripts 1 (begin scripts input wait) (lines_of journal.now))) }
+    ensures whole { (scripts : List AnyScript) (input : List (List ℕ)) (wait : Bool) → Stands scripts input wait host.old []
+        → IsCut result ⊎ (O.content out.new ≡ gains (O.content out.old) (journal_output scripts (begin scripts input wait) (lines_of journal.now))) }
+    ensures part { (scripts : List AnyScript) (input : List (List ℕ)) (wait : Bool) → Stands scripts input wait host.old []
+        → GainsPrefix (O.content out.old) (O.content out.new) (journal_output scripts (begin scripts input wait) (lines_of journal.now)) }
+    ensures less { result ≡ ReplayEnd.CannotWrite → (scripts : List AnyScript) (input : List (List ℕ)) (wait : Bool) → Stands scripts input wait host.old []
+        → GainsLess (O.content out.old) (O.content out.new) (journal_output scripts (begin scripts input wait) (lines_of journal.now)) }
     ensures quiet { (result ≡ ReplayEnd.CannotWrite) ⊎ (O.faults out.new ≡ O.faults out.old) }
     ensures failed { result ≡ ReplayEnd.CannotWrite → Rose (O.faults out.old) (O.faults out.new) }
 {
@@ -128,22 +128,24 @@ fn play_lines<O: Sink>(alloc: Global, host: &mut Host, journal: &[u8], out: &mut
     ReplayEnd::Done
 }
 
-/// Replays a journal's lines over these scripts with these lines of input, up to the first line that is refused.
+/// Replays a journal's lines over these scripts with these lines of input, which may be to wait, up to the first line that is
+/// refused.
 pub(crate) fn play<O: Sink>(
     alloc: Global,
     scripts: Vec<Script>,
     input: VecDeque<Units>,
+    wait: bool,
     journal: &[u8],
     out: &mut O,
 ) -> ReplayEnd
-    ensures end { IsCut result ⊎ (result ≡ end_of (refused scripts.items 1 (begin scripts.items input.items) (lines_of journal.now))) }
-    ensures whole { IsCut result ⊎ (O.content out.new ≡ gains (O.content out.old) (journal_output scripts.items (begin scripts.items input.items) (lines_of journal.now))) }
-    ensures part { GainsPrefix (O.content out.old) (O.content out.new) (journal_output scripts.items (begin scripts.items input.items) (lines_of journal.now)) }
-    ensures less { result ≡ ReplayEnd.CannotWrite → GainsLess (O.content out.old) (O.content out.new) (journal_output scripts.items (begin scripts.items input.items) (lines_of journal.now)) }
+    ensures end { IsCut result ⊎ (result ≡ end_of (refused scripts.items 1 (begin scripts.items input.items wait) (lines_of journal.now))) }
+    ensures whole { IsCut result ⊎ (O.content out.new ≡ gains (O.content out.old) (journal_output scripts.items (begin scripts.items input.items wait) (lines_of journal.now))) }
+    ensures part { GainsPrefix (O.content out.old) (O.content out.new) (journal_output scripts.items (begin scripts.items input.items wait) (lines_of journal.now)) }
+    ensures less { result ≡ ReplayEnd.CannotWrite → GainsLess (O.content out.old) (O.content out.new) (journal_output scripts.items (begin scripts.items input.items wait) (lines_of journal.now)) }
     ensures quiet { (result ≡ ReplayEnd.CannotWrite) ⊎ (O.faults out.new ≡ O.faults out.old) }
     ensures failed { result ≡ ReplayEnd.CannotWrite → Rose (O.faults out.old) (O.faults out.new) }
 {
-    match Host::start(alloc, scripts, input) {
+    match Host::start(alloc, scripts, input, wait) {
         Ok(mut host) => play_lines(alloc, &mut host, journal, out),
         Err(AllocError) => ReplayEnd::Memory,
     }

@@ -60,7 +60,17 @@ pub(crate) fn replay<'w, F: Shelf, O: Sink>(
         Err(end) => return end,
     };
     match read_sources(alloc, request.sources, shelf) {
-        Ok(program) => outcome_of_play(play(alloc, program.scripts, program.input, &journal, out)),
+        Ok(program) => {
+            let end = play(
+                alloc,
+                program.scripts,
+                program.input,
+                request.wait,
+                &journal,
+                out,
+            );
+            outcome_of_play(end)
+        }
         Err(end) => end,
     }
 }

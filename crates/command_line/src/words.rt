@@ -2,7 +2,7 @@
 ghost use Rattle.std.specs.Prelude.{◌≡◌, map, string_bytes};
 ghost use Rattle.std.specs.List.{list_any};
 ghost use Rattle.std.specs.Option.{option_and_then, option_map};
-ghost use Rattle.command_line.specs.Words.{asked, is_option, names_behind_input, names_of, replay_of, run_of};
+ghost use Rattle.command_line.specs.Words.{asked, is_option, names_behind_input, names_of, replay_of, replay_words, run_of};
 ghost use Rattle.command_line.specs.RequestHeld.{command_held, names_held};
 
 use cdp_text::parts::behind;
@@ -14,9 +14,10 @@ pub(crate) struct Sources<'w> {
     pub(crate) scripts: &'w [String],
 }
 
-/// The files of a replay, by their names.
+/// The files of a replay, by their names, and whether its program waits for a client.
 #[derive(Clone, Copy)]
 pub(crate) struct Request<'w> {
+    pub(crate) wait: bool,
     pub(crate) journal: &'w str,
     pub(crate) sources: Sources<'w>,
 }
@@ -35,8 +36,9 @@ struct Names<'w> {
     names: &'w [String],
 }
 
-/// What the words after the program's name ask for: `run SCRIPT...` or `replay JOURNAL SCRIPT...`, with `--input FILE` or
-/// `--input=FILE` behind the first word. No name begins with `-`, but for one behind `--input=`. None for all other words.
+/// What the words after the program's name ask for: `run SCRIPT...`, `replay JOURNAL SCRIPT...` or `replay --wait JOURNAL
+/// SCRIPT...`, with `--input FILE` or `--input=FILE` before the first name. No name begins with `-`, but for one behind
+/// `--input=`. None for all other words.
 pub(crate) fn read_words(words: &[String]) -> Option<Command<'_>>
     ensures { option_map command_held result ≡ asked words.now }
 {
@@ -46,7 +48,7 @@ pub(crate) fn read_words(words: &[String]) -> Option<Command<'_>>
             if command.as_str() == "run" {
                 run_of(read_names(rest)?)
             } else if command.as_str() == "replay" {
-                replay_of(read_names(rest)?)
+                read_replay(rest)
             } else {
                 None
             }
@@ -54,7 +56,23 @@ pub(crate) fn read_words(words: &[String]) -> Option<Command<'_>>
     }
 }
 
-/// The names behind a command.
+/// What the words behind `replay` ask for, of which `--wait` may be the first.
+fn read_replay(words: &[String]) -> Option<Command<'_>>
+    ensures { option_map command_held result ≡ replay_words (map string_bytes words.now) }
+{
+    match words {
+        [] => None,
+        [word, rest @ ..] => {
+            if word.as_str() == "--wait" {
+                replay_of(true, read_names(rest)?)
+            } else {
+                replay_of(false, read_names(words)?)
+            }
+        }
+    }
+}
+
+/// The names behind a command, and behind `--wait`.
 fn read_names(words: &[String]) -> Option<Names<'_>>
     ensures { option_map names_held result ≡ names_of (map string_bytes words.now) }
 {
@@ -112,9 +130,9 @@ fn run_of(names: Names<'_>) -> Option<Command<'_>>
     }
 }
 
-/// A replay of the journal of the first of these names over the scripts of the others.
-fn replay_of(names: Names<'_>) -> Option<Command<'_>>
-    ensures { option_map command_held result ≡ replay_of (names_held names.entry) }
+/// A replay of the journal of the first of these names over the scripts of the others, which may be to wait.
+fn replay_of(wait: bool, names: Names<'_>) -> Option<Command<'_>>
+    ensures { option_map command_held result ≡ replay_of wait (names_held names.entry) }
 {
     let Names { input, names } = names;
     match names {
@@ -124,6 +142,7 @@ fn replay_of(names: Names<'_>) -> Option<Command<'_>>
                 None
             } else {
                 Some(Command::Replay(Request {
+                    wait,
                     journal: journal.as_str(),
                     sources: Sources { input, scripts },
                 }))

@@ -9,14 +9,14 @@ pub returns-in_err-put_lines-clause-part : goal.returns-in_err-put_lines-clause-
 returns-in_err-put_lines-clause-part g c =
     let reads = rw c.in-Ok-Some.field-0-is at c.in-Ok-Some.ensures.value in
     let acts = rw c.in-Ok-Some-act.field-0-is at c.in-Ok-Some-act.ensures.acts in
-    at-error c.from_residual.result _ λ s i h stood.
-    part-as _ _ _ _ (offers c.args.text.now (line_held c.in-Ok-Some.line) (map string_bytes c.in-Ok-Some-act.lines.items) c.args.host.now c.act.new.host reads acts s i h stood
+    at-error c.from_residual.result _ λ s i w h stood.
+    part-as _ _ _ _ (offers c.args.text.now (line_held c.in-Ok-Some.line) (map string_bytes c.in-Ok-Some-act.lines.items) c.args.host.now c.act.new.host reads acts s i w h stood
     ∙ ap (λ xs. joined (map string_bytes xs)) (sym c.deref.ensures.value)) c.in_err-put_lines.ensures.err
 
 pub returns-in_err-put_lines-clause-less : goal.returns-in_err-put_lines-clause-less
 returns-in_err-put_lines-clause-less g c is =
     let reads = rw c.in-Ok-Some.field-0-is at c.in-Ok-Some.ensures.value in
     let acts = rw c.in-Ok-Some-act.field-0-is at c.in-Ok-Some-act.ensures.acts in
-    λ s i h stood.
-    less-as _ _ _ _ (offers c.args.text.now (line_held c.in-Ok-Some.line) (map string_bytes c.in-Ok-Some-act.lines.items) c.args.host.now c.act.new.host reads acts s i h stood
+    λ s i w h stood.
+    less-as _ _ _ _ (offers c.args.text.now (line_held c.in-Ok-Some.line) (map string_bytes c.in-Ok-Some-act.lines.items) c.args.host.now c.act.new.host reads acts s i w h stood
     ∙ ap (λ xs. joined (map string_bytes xs)) (sym c.deref.ensures.value)) c.in_err-put_lines.ensures.err
