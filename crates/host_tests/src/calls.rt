@@ -247,7 +247,7 @@ const CALLS: [(&str, &str, &str, &str, u8, &str, &str); 45] = [
     ("replay -x a.js", "", "", "", 2, "", USAGE),
     ("replay j -", "", "", "", 2, "", USAGE),
     ("replay - a.js", "", "", "", 2, "", USAGE),
-    ("replay --wait j a.js", "", "", "", 2, "", USAGE),
+    ("replay j --wait a.js", "", "", "", 2, "", USAGE),
     ("replay --help", "", "", "", 2, "", USAGE),
     ("--help", "", "", "", 2, "", USAGE),
     ("--version", "", "", "", 2, "", USAGE),

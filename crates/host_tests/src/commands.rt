@@ -72,14 +72,14 @@ fn two_lines(alloc: Global) -> Result<Host, Fail> {
     let Ok(script) = parse_script(alloc, source.as_slice(), "a.js", 1, &[]) else {
         return Err("no script".into());
     };
-    Ok(Host::start(alloc, vec![in alloc; script]?, VecDeque::new(alloc))?)
+    Ok(Host::start(alloc, vec![in alloc; script]?, VecDeque::new(alloc), false)?)
 }
 
 // Does what the letters say.
 fn bring(rt: &impl Abort, host: &mut Host, letters: &str) -> Result<(), Fail> {
     for letter in letters.bytes() {
         if letter == b'.' {
-            host.run(100)?;
+            host.run(100, 0)?;
         } else {
             let text = command(letter);
             assert!(rt; host.attached(1));
@@ -109,7 +109,7 @@ fn holds(
         made.push('|')?;
     }
     assert_eq!(rt; made.as_str(), *texts, "{letter} behind {before}");
-    assert_eq!(rt; host.run(100)?.steps, *steps, "{letter} behind {before}");
+    assert_eq!(rt; host.run(100, 0)?.steps, *steps, "{letter} behind {before}");
     Ok(())
 }
 

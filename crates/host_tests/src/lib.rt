@@ -4,6 +4,8 @@
 #[cfg(test)]
 mod calls;
 #[cfg(test)]
+mod clients;
+#[cfg(test)]
 mod commands;
 #[cfg(test)]
 mod conditions;
@@ -14,16 +16,24 @@ mod edges;
 #[cfg(test)]
 mod evaluations;
 #[cfg(test)]
+mod events;
+#[cfg(test)]
 mod inspecting;
 #[cfg(test)]
 mod kept;
 #[cfg(test)]
+mod limits;
+#[cfg(test)]
 mod objects;
+#[cfg(test)]
+mod refusals;
 #[cfg(test)]
 mod runs;
 #[cfg(test)]
 mod standing;
 #[cfg(test)]
 mod texts;
+#[cfg(test)]
+mod waiting;
 #[cfg(test)]
 mod watches;
