@@ -9,6 +9,8 @@ less the same replay without what is measured; node's is measured by node itself
 
 - *commands*: so many read and answered a second.
 - *previews*: a preview of an array of 100 numbers, in microseconds, with the release of its id.
+- *prints*: so many prints of two values told a second to a session that has the domain Runtime enabled; as many wait for it
+  as may.
 """
 
 import argparse
@@ -54,6 +56,10 @@ PREVIEW = "\n".join(
         "",
     ]
 )
+PRINTED = 65000
+PRINTS = "for (let i = 0; i < %d; i++) console.log(i, 'x');\n" % PRINTED
+TOLD = 'attach\ntell 1 {"id":1,"method":"Runtime.enable"}\nrun 4000000 1000\ntake 1\n'
+UNTOLD = 'attach\nrun 4000000 1000\ntake 1\n'
 
 
 def each(program, folder, piece, count, times):
@@ -82,8 +88,11 @@ def main():
     with tempfile.TemporaryDirectory() as folder:
         whole = each(os.path.abspath(asked.bin), folder, ROUND, count, asked.times)
         preview = each(os.path.abspath(asked.bin), folder, PREVIEW, count, asked.times)
+        told = seconds(os.path.abspath(asked.bin), folder, TOLD, PRINTS, asked.times)
+        untold = seconds(os.path.abspath(asked.bin), folder, UNTOLD, PRINTS, asked.times)
     print("commands: %d a second" % (8 / whole))
     print("preview of 100 elements: %.1f microseconds" % (preview * 1e6))
+    print("prints: %d told a second" % (PRINTED / (told - untold)))
     theirs = of_node(asked.node, count)
     if theirs is not None:
         print("beside node's inspector: %.2f times its commands, %.2f times its previews" % (theirs[0] / whole, theirs[1] / preview))
