@@ -1,0 +1,15 @@
+pub mod SeatLemmas
+pub mod AloneLemmas
+pub mod StopLemmas
+pub mod FallenLemmas
+pub mod RoomLemmas
+pub mod StepLemmas
+pub mod WatchLemmas
+pub mod MadeLemmas
+pub mod StandingLemmas
+pub mod PassLoops
+pub mod PassLemmas
+pub mod LongerLemmas
+pub mod BrokenLemmas
+pub mod TextLemmas
+pub mod SomeLemmas

@@ -1,0 +1,10 @@
+pub mod Seats
+pub mod Protocols
+pub mod Meanings
+pub mod Histories
+pub mod Stops
+pub mod Alone
+pub mod Texts
+pub mod Standing
+pub mod Runs
+pub mod Passes
