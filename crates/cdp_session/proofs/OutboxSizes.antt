@@ -2,7 +2,14 @@
 use Rattle.std.proofs.Common.{◌≡◌, ℕ, ◌+◌, ◌-◌, ◌<◌, ◌≤◌, List, [], ◌∷◌, ◌++◌, length, Bool, true, false, ◌&&◌, nat_le, nat_lt, refl, ap, sym, subst, ◌∙◌, arith}
 use Rattle.std.proofs.lemmas.Bool.{and_parts, leb-true, le-leb, ltb-true}
 use Rattle.std.proofs.lemmas.List.{length-append}
+use Rattle.json.specs.Print.{escape_byte}
 use Rattle.cdp_session.specs.Outboxes.{fits, bytes_of, most_texts, most_bytes, IsOutbox}
+use Rattle.cdp_session.specs.Results.{resumed_text}
+
+-- the bytes of the event of a resume
+pub resumed_size : length resumed_text ≡ 41
+unfolding escape_byte
+resumed_size = refl
 
 -- the bytes of texts behind others come to theirs
 bytes-append : (xs ys : List (List ℕ)) → bytes_of (xs ++ ys) ≡ bytes_of xs + bytes_of ys

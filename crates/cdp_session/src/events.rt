@@ -73,6 +73,9 @@ pub(crate) fn paused_text(
     event_text(alloc, "Debugger.paused", &params)
 }
 
+/// The bytes of the event `Debugger.resumed`.
+pub(crate) const RESUMED_SIZE: usize = 41;
+
 /// The event `Debugger.resumed`.
 pub(crate) fn resumed_text(alloc: Global) -> Result<String, AllocError>
     ensures { IfOk result (λ t. string_bytes t ≡ results.resumed_text) }

@@ -46,7 +46,7 @@ impl Outbox {
     }
 
     /// Whether a text of so many bytes may wait behind the others.
-    fn has_room(&self, size: usize) -> bool
+    pub(crate) fn has_room(&self, size: usize) -> bool
         ensures { (text : List ℕ) → size ≡ length text → result ≡ fits (self.now ++ text ∷ []) }
     {
         self.texts.len() < MOST_TEXTS && size <= MOST_BYTES - self.bytes

@@ -8,6 +8,7 @@ ghost use Rattle.breakpoints.specs.Breakpoints.{id_of};
 ghost use Rattle.breakpoints.specs.declared.breakpoint.Breakpoint.{Breakpoint};
 ghost use Rattle.stepping.specs.Causes.{first_cause};
 ghost use Rattle.cdp_session.specs.Conditions.{is_some_hit};
+ghost use Rattle.cdp_session.specs.Results.{resumed_text};
 ghost use Rattle.cdp_session.specs.Stops.{cause_of, hits_of, may_be_hit, may_name, resumed, stop_told, stopped};
 ghost use Rattle.cdp_session.specs.Consoles.{printed};
 ghost use Rattle.cdp_session.specs.Endings.{ended, ending_told};
@@ -19,7 +20,7 @@ use crate::conditions::{Condition, ids_hit};
 use crate::done::{Done, Fault};
 use crate::ending::Ending;
 use crate::ends::context_destroyed_text;
-use crate::events::resumed_text;
+use crate::events::{RESUMED_SIZE, resumed_text};
 use crate::outbox::Outbox;
 use crate::program::Program;
 use crate::refusing::{wants_enabled, wants_pause};
@@ -258,20 +259,33 @@ impl Session {
         self.send(text)
     }
 
+    /// Whether the event of a resume may wait behind the other texts.
+    #[tactic(auto, using(crate::proofs::OutboxSizes::resumed_size))]
+    fn has_room_to_resume(&self) -> bool
+        ensures { result ≡ fits (self.now.outbox ++ resumed_text ∷ []) }
+    {
+        self.outbox.has_room(RESUMED_SIZE)
+    }
+
     /// The program goes on: the objects of the stop end, and where the session has the debugger enabled it is told.
     ///
     /// # Errors
     ///
-    /// The text doesn't fit behind those that wait, or there is no memory for it. The session is to be dropped.
+    /// The text doesn't fit behind those that wait, which is found out before memory is asked for, or there is no memory for
+    /// it. The session is to be dropped.
     pub fn resumed(&mut self) -> Result<(), SessionEnd>
         ensures session { OnOk result (self.new ≡ resumed self.old) }
         ensures fits { fits self.old.outbox ≡ true → OnOk result (fits (resumed self.old).outbox ≡ true) }
         ensures over { IsErrOf result SessionEnd.Overrun → fits (resumed self.old).outbox ≡ false }
+        ensures memory { IsErrOf result SessionEnd.Memory → fits (resumed self.old).outbox ≡ true }
     {
         self.handles.release_group(backtrace());
         self.give_up_unheld();
         if !self.rules.enabled {
             return Ok(());
+        }
+        if !self.has_room_to_resume() {
+            return Err(SessionEnd::Overrun);
         }
         let text = resumed_text(self.alloc)?;
         self.send(text)
