@@ -1,6 +1,8 @@
 -- Machines in the words of programs: where they arrive, what they have printed, whether they are over, and what their steps are.
-use Rattle.std.proofs.Common.{◌≡◌, ℕ, zero, suc, ◌-◌, ◌<◌, ◌≤◌, List, [], ◌++◌, length, Bool, true, false, not, ◌||◌, is_some, if◌then◌else◌, refl, ap, sym, subst, ◌∙◌, arith, append_assoc, append-nil, Option, Some, None}
+use Rattle.std.proofs.Common.{◌≡◌, ℕ, zero, suc, ◌-◌, ◌<◌, ◌≤◌, List, [], ◌∷◌, ◌++◌, length, Bool, true, false, not, ◌||◌, is_some, if◌then◌else◌, refl, ap, sym, subst, ◌∙◌, arith, append_assoc, append-nil, Option, Some, None}
 use Rattle.std.specs.Option.{option_map}
+use Rattle.isolation.specs.declared.seat.Seat.{Seat}
+use Rattle.isolation.specs.declared.seat.Seat.TheVariants.{Attached, Lost, Left}
 use Rattle.js_tree.specs.declared.script.Script.{Script}
 use Rattle.js_heap.specs.declared.value.Addr.{Addr}
 use Rattle.js_heap.specs.BuiltIns.{script_scope}
@@ -38,7 +40,7 @@ use Rattle.cdp_host.specs.Arrivals.{arrival_at, at_the_end, is_uncaught, place_a
 use Rattle.cdp_host.specs.Standings.{standing_of}
 use Rattle.cdp_host.specs.Programs.{arrival_of, code_of, next, nexts, is_over, has_thrown, printed_of, prints_next}
 use Rattle.cdp_host.specs.Hosts.{Parts, machine_run, machine_arrival, run_with}
-use Rattle.cdp_host.specs.Ran.{Advances, may_stop, stops_at}
+use Rattle.cdp_host.specs.Ran.{Advances, may_stop, may_stop_seat, stops_at, stops_seat}
 use Rattle.cdp_host.specs.Watching.{prints_last}
 
 -- ---- arrivals
@@ -70,6 +72,10 @@ arrives_by scripts (Some ends.Lost) t s kept = absurd kept
 pub arrives : (scripts : List Script) (m : Machine) (h : Heap) (taken : List (List ℕ)) → IsKept m.ended → machine_arrival scripts m ≡ arrival_of scripts (machine_run m h taken)
 arrives scripts m h taken kept = arrives_by scripts m.ended (term_of m) (state_of m (heap_world m.names h) taken) kept
 
+or_parts : (a b : Bool) → (a || b) ≡ false → (a ≡ false) × (b ≡ false)
+or_parts true b is = absurd cc
+or_parts false b is = (refl, is)
+
 -- nobody may name a stop where a program is over
 unraised : (b : Bool) (e : Exceptions) → is_some (if b then None else if stops_at_raise e None then Some causes.Exception else None) ≡ false
 unraised true e = refl
@@ -77,14 +83,26 @@ unraised false throws.Never = refl
 unraised false throws.Uncaught = refl
 unraised false throws.All = refl
 
-pub unnamed-end : (s : State) (o : Option Session) → may_stop (at_the_end s) o ≡ false
-unnamed-end s None = refl
-unnamed-end s (Some x) = unraised (not x.rules.enabled || x.rules.skip) x.rules.exceptions
+unnamed_seat : (s : State) (seat : Seat Session) → may_stop_seat (at_the_end s) seat ≡ false
+unnamed_seat s (Attached x) = unraised (not x.rules.enabled || x.rules.skip) x.rules.exceptions
+unnamed_seat s (Lost loss is_reported is_told) = refl
+unnamed_seat s Left = refl
 
--- where it may name none, it names none, however the program stands
-never-named : (s : Standing) (a : Arrival) (o : Option Session) → may_stop a o ≡ false → stops_at s a o ≡ false
-never-named s a None never = refl
-never-named s a (Some x) never = never-causes s a x never
+pub unnamed-end : (s : State) (seats : List (Seat Session)) → may_stop (at_the_end s) seats ≡ false
+unnamed-end s [] = refl
+unnamed-end s (seat ∷ seats) = rw (unnamed_seat s seat) (unnamed-end s seats)
+
+-- where they may name none, they name none, however the program stands
+never_seat : (s : Standing) (a : Arrival) (seat : Seat Session) → may_stop_seat a seat ≡ false → stops_seat s a seat ≡ false
+never_seat s a (Attached x) never = never-causes s a x never
+never_seat s a (Lost loss is_reported is_told) never = refl
+never_seat s a Left never = refl
+
+pub never-named : (s : Standing) (a : Arrival) (seats : List (Seat Session)) → may_stop a seats ≡ false → stops_at s a seats ≡ false
+never-named s a [] never = refl
+never-named s a (seat ∷ seats) never =
+    let parts = or_parts (may_stop_seat a seat) (may_stop a seats) never in
+    rw (never_seat s a seat parts.0) (never-named s a seats parts.1)
 
 -- ---- texts printed
 
@@ -107,10 +125,10 @@ handed-over m n h texts taken is rest =
     ap (λ k. machine_run k h (taken ++ texts)) rest ∙ ap f (append-nil (taken ++ texts) ∙ ap (λ xs. taken ++ xs) is)
 
 -- so a stretch of steps leads to where the texts behind it are handed out
-pub advance-printed : (scripts : List Script) (session : Option Session) (most k : ℕ) (r : Run) (n o : Machine) (i : Heap) (texts before after taken : List (List ℕ)) → Advances scripts session most k r (machine_run n i (taken ++ before))
-    → texts ≡ n.context.printed → o ≡ record n { context = record n.context { printed = [] } } → after ≡ before ++ texts → Advances scripts session most k r (machine_run o i (taken ++ after))
-advance-printed scripts session most k r n o i texts before after taken steps is rest all =
-    let P : Run → Type 0 = Advances scripts session most k r in
+pub advance-printed : (scripts : List Script) (seats : List (Seat Session)) (most k : ℕ) (r : Run) (n o : Machine) (i : Heap) (texts before after taken : List (List ℕ)) → Advances scripts seats most k r (machine_run n i (taken ++ before))
+    → texts ≡ n.context.printed → o ≡ record n { context = record n.context { printed = [] } } → after ≡ before ++ texts → Advances scripts seats most k r (machine_run o i (taken ++ after))
+advance-printed scripts seats most k r n o i texts before after taken steps is rest all =
+    let P : Run → Type 0 = Advances scripts seats most k r in
     let e : machine_run n i (taken ++ before) ≡ machine_run o i (taken ++ after) =
     sym (handed-over n o i texts (taken ++ before) is rest) ∙ ap (machine_run o i) (append_assoc taken before texts ∙ ap (λ xs. taken ++ xs) (sym all)) in
     subst P e steps
@@ -181,13 +199,13 @@ pub same-program : (m n : Machine) → HasSameCode m n → program_of n ≡ prog
 same-program m n same = ap (λ t. trees.program_of n.names t) same.table ∙ ap (λ names. trees.program_of names m.table) same.names
 
 -- the question whether a session may name a stop, as it is put behind a step
-abbrev pub asked : List Script → Option Session → Term → List Frame → Bool
-asked scripts session t frames = may_stop (arrival_at scripts t frames) session
+abbrev pub asked : List Script → List (Seat Session) → Term → List Frame → Bool
+asked scripts seats t frames = may_stop (arrival_at scripts t frames) seats
 
-asked_there : (scripts : List Script) (session : Option Session) (r : Run) → asks_at (asked scripts session) r ≡ may_stop (arrival_of scripts r) session
+asked_there : (scripts : List Script) (seats : List (Seat Session)) (r : Run) → asks_at (asked scripts seats) r ≡ may_stop (arrival_of scripts r) seats
 unfolding arrival_of
-asked_there scripts session (running t s) = refl
-asked_there scripts session (over f s) = sym (unnamed-end s session)
+asked_there scripts seats (running t s) = refl
+asked_there scripts seats (over f s) = sym (unnamed-end s seats)
 
 nexts_are : (k : ℕ) (scripts : List Script) (r : Run) → steps_in k (code_of scripts) script_scope r ≡ nexts scripts k r
 unfolding next
@@ -222,12 +240,12 @@ none_ended (whys.Full what) most some counts = refl
 none_ended whys.Memory most some counts = refl
 
 -- what a machine's run says of it before and behind
-pub record HasRun (scripts : List Script) (session : Option Session) (most : ℕ) (m : Machine) (h : Heap) (n : Machine) (i : Heap) (k : ℕ) (why : Why) : Type 0 where
+pub record HasRun (scripts : List Script) (seats : List (Seat Session)) (most : ℕ) (m : Machine) (h : Heap) (n : Machine) (i : Heap) (k : ℕ) (why : Why) : Type 0 where
   pub runs : IsKept n.ended → (taken : List (List ℕ)) → machine_run n i taken ≡ steps_in k (program_of m) script_scope (machine_run m h taken)
   pub left : (taken : List (List ℕ)) → RunsFor k (program_of m) script_scope (machine_run m h taken)
   pub within : k ≤ most
   pub counted : CountsAs why k most
-  pub passed : (taken : List (List ℕ)) → HasPassed (asked scripts session) (passed_steps why k) (program_of m) script_scope (machine_run m h taken)
+  pub passed : (taken : List (List ℕ)) → HasPassed (asked scripts seats) (passed_steps why k) (program_of m) script_scope (machine_run m h taken)
   pub end : n.ended ≡ end_of_run why
   pub values : (taken : List (List ℕ)) → PrintsAs why (last_printed k (program_of m) script_scope (machine_run m h taken))
   pub silent : (taken : List (List ℕ)) → IsSilent (k - 1) (program_of m) script_scope (machine_run m h taken)
@@ -254,9 +272,9 @@ some_steps most zero n h i m why taken some counted end kept same goes =
 some_steps most (suc k) n h i m why taken some counted end kept same goes = omega arith
 
 -- it is a stretch of steps
-pub has-advanced : (scripts : List Script) (session : Option Session) (most : ℕ) (m : Machine) (h : Heap) (n : Machine) (i : Heap) (k : ℕ) (why : Why) → HasRun scripts session most m h n i k why
-    → program_of m ≡ code_of scripts → 0 < most → IsKept n.ended → ((taken : List (List ℕ)) → is_over (machine_run m h taken) ≡ false) → (taken : List (List ℕ)) → Advances scripts session most k (machine_run m h taken) (machine_run n i taken)
-has-advanced scripts session most m h n i k why ran code some kept goes taken =
+pub has-advanced : (scripts : List Script) (seats : List (Seat Session)) (most : ℕ) (m : Machine) (h : Heap) (n : Machine) (i : Heap) (k : ℕ) (why : Why) → HasRun scripts seats most m h n i k why
+    → program_of m ≡ code_of scripts → 0 < most → IsKept n.ended → ((taken : List (List ℕ)) → is_over (machine_run m h taken) ≡ false) → (taken : List (List ℕ)) → Advances scripts seats most k (machine_run m h taken) (machine_run n i taken)
+has-advanced scripts seats most m h n i k why ran code some kept goes taken =
     let r : Run = machine_run m h taken in
     let there : (j : ℕ) → steps_in j (program_of m) script_scope r ≡ nexts scripts j r = λ j. ap (λ p. steps_in j p script_scope r) code ∙ nexts_are j scripts r in
     record {
@@ -266,15 +284,15 @@ has-advanced scripts session most m h n i k why ran code some kept goes taken =
       silent = λ j below. sym (prints_there j scripts (program_of m) r code) ∙ (ran.silent taken).none j (omega (arith, below));
       passes = λ j first below.
           let low = all_but_last why k in
-          never-named (standing_of scripts (nexts scripts j r)) (arrival_of scripts (nexts scripts j r)) session
-          (sym (asked_there scripts session (nexts scripts j r)) ∙ ap (asks_at (asked scripts session)) (sym (there j)) ∙ (ran.passed taken).none j first (omega (arith, low)));
+          never-named (standing_of scripts (nexts scripts j r)) (arrival_of scripts (nexts scripts j r)) seats
+          (sym (asked_there scripts seats (nexts scripts j r)) ∙ ap (asks_at (asked scripts seats)) (sym (there j)) ∙ (ran.passed taken).none j first (omega (arith, low)));
     }
 
 -- the values that why it stopped tells are those of its last step
-pub has-printed : (scripts : List Script) (session : Option Session) (most : ℕ) (m : Machine) (h : Heap) (n : Machine) (i : Heap) (k : ℕ) (why : Why) (values : Option (List Value)) → HasRun scripts session most m h n i k why
+pub has-printed : (scripts : List Script) (seats : List (Seat Session)) (most : ℕ) (m : Machine) (h : Heap) (n : Machine) (i : Heap) (k : ℕ) (why : Why) (values : Option (List Value)) → HasRun scripts seats most m h n i k why
     → program_of m ≡ code_of scripts → 0 < most → IsKept n.ended → ((taken : List (List ℕ)) → is_over (machine_run m h taken) ≡ false) → ((o : Option (List Value)) → IsKept (end_of_run why) → PrintsAs why o → values ≡ o)
     → (taken : List (List ℕ)) → values ≡ prints_last scripts k (machine_run m h taken)
-has-printed scripts session most m h n i k why values ran code some kept goes tells taken =
+has-printed scripts seats most m h n i k why values ran code some kept goes tells taken =
     let r : Run = machine_run m h taken in
     tells (last_printed k (program_of m) script_scope r) (subst IsKept ran.end kept) (ran.values taken)
     ∙ last_there k scripts (program_of m) r (some_steps most k n h i m why taken some ran.counted ran.end kept (ran.runs kept taken) (goes taken)) code

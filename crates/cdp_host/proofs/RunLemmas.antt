@@ -1,193 +1,294 @@
--- Runs: one step behind others, the longest run, and where it stops.
-use Rattle.std.proofs.Common.{◌≡◌, ◌⊎◌, ℕ, zero, suc, ◌+◌, ◌<◌, ◌≤◌, List, Bool, true, false, ◌&&◌, not, refl, ap, sym, subst, ◌∙◌, inl, inr, arith, add-one, is_some, if◌then◌else◌}
-use Rattle.std.proofs.lemmas.Bool.{and_parts, not-true}
+-- What a host's loop of stretches comes to, what a run reports, and that a host stands for a history with the run behind it.
+use Rattle.std.proofs.Common.{◌≡◌, ◌⊎◌, ℕ, zero, suc, ◌+◌, ◌-◌, ◌<◌, ◌≤◌, List, [], ◌∷◌, ◌++◌, length, drop, Bool, true, false, ◌&&◌, not, nat_lt, inl, inr, refl, ap, sym, subst, ◌∙◌, append-nil, arith, if◌then◌else◌, is_some, Option, None}
+use Rattle.std.specs.Option.{option_map}
+use Rattle.std.proofs.Math.Seq.{drop-append_seam}
+use Rattle.std.proofs.lemmas.Bool.{lt-ltb, or_parts}
+use Rattle.isolation.specs.Histories.{Entry, FitsEntry, Ran}
+use Rattle.isolation.specs.Meanings.{is_enabled_seat, is_first, is_held, is_paused, is_ready, next_number, resume, resumed_seat, settle, with_seats}
+use Rattle.isolation.specs.Protocols.{Protocol}
+use Rattle.isolation.specs.Runs.{AllFit, HasMade, IsLongest}
+use Rattle.isolation.specs.Seats.{each, is_attached, reported, some, without}
+use Rattle.isolation.specs.Standing.{StandsAs, fallen_from, fallen_in, fell, less}
+use Rattle.isolation.specs.Texts.{Fits}
+use Rattle.isolation.specs.declared.phase.Phase.TheVariants.{Running}
+use Rattle.isolation.specs.declared.seat.Loss.TheVariants.{Overrun, Memory}
+use Rattle.isolation.specs.declared.seat.Seat.{Seat}
+use Rattle.isolation.specs.declared.seat.Seat.TheVariants.{Attached, Lost, Left}
+use Rattle.isolation.proofs.BrokenLemmas.{all-ran, everybody-listed, none-ran, stands-length}
+use Rattle.isolation.proofs.FallenLemmas.{fallen-none, without-none}
+use Rattle.isolation.proofs.MadeLemmas.{made-more, made-none}
+use Rattle.isolation.proofs.StandingLemmas.{fits-ran, stands-ran}
 use Rattle.js_tree.specs.declared.script.Script.{Script}
 use Rattle.js_semantics.specs.Run.{Run}
-use Rattle.cdp_host.specs.Programs.{plain, next, is_over}
-use Rattle.cdp_host.specs.Steps.{Step, step_of}
-use Rattle.cdp_host.specs.Meaning.{Meaning, is_held, is_paused, is_ready, is_woken, kept_behind, named_by, next_number, step, after_steps, watched, longest, IsLongest}
-use Rattle.cdp_host.specs.Ran.{HasMade}
-use Rattle.cdp_host.specs.Rules.{StopsExactly, is_first, is_named}
-use Rattle.cdp_host.specs.declared.watched.Watched.TheVariants.{Passed}
-use Rattle.cdp_host.proofs.ProgramLemmas.{plain-next}
-use Rattle.cdp_host.proofs.WatchLemmas.{AskSame, ask-refl, ask-some, ask-trans, named-same, passed-free, passed-same, watched-paused}
+use Rattle.cdp_session.specs.declared.situation.Pause.{Pause}
+use Rattle.cdp_session.specs.Sessions.{Session}
+use Rattle.cdp_host.specs.Histories.{Meaning, apply, whole}
+use Rattle.cdp_host.specs.Hosts.{HostState, Parts, RunsTo, Stands, beside, beside_behind, everybody, lost_for_memory, meaning_with, pause_behind, run_with}
+use Rattle.cdp_host.specs.Programs.{printed_of}
+use Rattle.cdp_host.specs.Protocols.{protocol}
+use Rattle.cdp_host.specs.Rules.{printed_between}
+use Rattle.cdp_host.specs.Watching.{losses_from}
+use Rattle.cdp_host.specs.declared.losses.SessionLost.{SessionLost}
+use Rattle.cdp_host.proofs.AdvanceLemmas.{free-beside, free-shut, ready-parts}
+use Rattle.cdp_host.proofs.HistoryLemmas.{stands-behind, stands-broken}
+use Rattle.cdp_host.proofs.PartLemmas.{run-printed}
 
--- ---- pauses
+-- ---- a stretch, as a host keeps it
 
--- the next step of a program, as its session sees it
-abbrev pub step_from : List Script → Meaning Run → Step
-step_from scripts m = step_of scripts (is_woken m.phase) m.program
+pub advanced : (a old : HostState) (scripts : List Script) (moment k : ℕ) (first : Bool) (seats news items : List (Seat Session)) (before : List (List ℕ))
+    → (stopped : Option ℕ) (stop : Option Pause) (stops : ℕ) (q : Run)
+    → a ≡ old → is_ready (protocol old.scripts) (meaning_with old before) ≡ true
+    → scripts ≡ a.scripts → first ≡ is_first a.meaning.phase → seats ≡ a.meaning.seats
+    → stop ≡ option_map (pause_behind a.meaning.stops) stopped → stops ≡ (if is_some stopped then next_number a.meaning.stops else a.meaning.stops) → items ≡ news
+    → HasMade (protocol scripts) moment (beside first a.meaning.stops seats (run_with before a.meaning.program)) (beside_behind stopped a.meaning.stops news q) k
+    → (let n : Meaning Run = record { program = q; phase = Running; stop = stop; stops = stops; shut = a.meaning.shut; seats = items } in
+    HasMade (protocol old.scripts) moment (meaning_with old before) n k)
+advanced a old scripts moment k first seats news items before stopped stop stops q is go runs begins sat stop_is stops_are put made =
+    let m : Meaning Run = meaning_with a before in
+    let r : Run = run_with before a.meaning.program in
+    let s : ℕ = a.meaning.stops in
+    let free : is_held m ≡ false = ap (λ h. is_held (meaning_with h before)) is ∙ (ready-parts old.scripts (meaning_with old before) go).0 in
+    let left : beside first s seats r ≡ meaning_with old before =
+    ap (λ b. beside b s seats r) begins
+    ∙ ap (λ ss. beside (is_first a.meaning.phase) s ss r) sat
+    ∙ sym (free-beside m free)
+    ∙ ap (λ h. meaning_with h before) is in
+    let f : Option Pause → ℕ → Bool → List (Seat Session) → Meaning Run = λ o i b ss. record { program = q; phase = Running; stop = o; stops = i; shut = b; seats = ss } in
+    let right : beside_behind stopped s news q ≡ f stop stops a.meaning.shut items =
+    ap (λ o. f o (if is_some stopped then next_number s else s) false news) (sym stop_is)
+    ∙ ap (λ i. f stop i false news) (sym stops_are)
+    ∙ ap (λ b. f stop stops b news) (sym (free-shut m free))
+    ∙ ap (λ ss. f stop stops a.meaning.shut ss) (sym put) in
+    let F : List Script → Type 0 = λ ss. HasMade (protocol ss) moment (beside first s seats r) (beside_behind stopped s news q) k in
+    let G : Meaning Run → Type 0 = λ n. HasMade (protocol old.scripts) moment n (beside_behind stopped s news q) k in
+    let H : Meaning Run → Type 0 = λ n. HasMade (protocol old.scripts) moment (meaning_with old before) n k in
+    subst H right (subst G left (subst F (runs ∙ ap (λ h. h.scripts) is) made))
 
--- behind a step a program is paused exactly where its session names the step and isn't lost
-pub step-paused : (scripts : List Script) (moment : ℕ) (m : Meaning Run) → is_paused (step scripts moment m) ≡ (named_by (step_from scripts m) m.session && is_some (step scripts moment m).session)
-step-paused scripts moment m = watched-paused scripts (next_number m.stops) moment m.stops (step_from scripts m) m.session
+-- ---- stretches behind one another
 
--- ---- steps behind others
+-- before the first stretch
+pub ran-none : (scripts : List Script) (moment : ℕ) (h : HostState) (most : ℕ) (printed taken : List (List ℕ)) → printed ≡ []
+    → HasMade (protocol scripts) moment (meaning_with h taken) (meaning_with h (taken ++ printed)) (most - most)
+ran-none scripts moment h most printed taken none =
+    let m : Meaning Run = meaning_with h taken in
+    let P : ℕ → Type 0 = λ k. HasMade (protocol scripts) moment m m k in
+    let Q : List (List ℕ) → Type 0 = λ ts. HasMade (protocol scripts) moment m (meaning_with h ts) (most - most) in
+    let e : 0 ≡ most - most = omega arith in
+    let same : taken ++ printed ≡ taken = ap (λ ts. taken ++ ts) none ∙ append-nil taken in
+    subst Q (sym same) (subst P e (made-none (protocol scripts) moment m))
 
--- one more step comes behind the others
-pub after_steps-suc : (n : ℕ) (scripts : List Script) (moment : ℕ) (m : Meaning Run) → after_steps scripts moment (suc n) m ≡ step scripts moment (after_steps scripts moment n m)
-after_steps-suc zero scripts moment m = refl
-after_steps-suc (suc n) scripts moment m = after_steps-suc n scripts moment (step scripts moment m)
+-- a stretch more
+pub ran-more : (scripts s : List Script) (moment : ℕ) (m n o : Meaning Run) (most left k : ℕ) → s ≡ scripts → left ≤ most → 0 < k → k ≤ left
+    → HasMade (protocol scripts) moment m n (most - left) → is_ready (protocol s) n ≡ true → HasMade (protocol s) moment n o k
+    → HasMade (protocol scripts) moment m o (most - (left - k))
+ran-more scripts s moment m n o most left k same within few small made go next =
+    let P : List Script → Type 0 = λ t. HasMade (protocol t) moment n o k in
+    let Q : ℕ → Type 0 = λ j. HasMade (protocol scripts) moment m o j in
+    let e : (most - left) + k ≡ most - (left - k) = omega arith in
+    subst Q e
+    (made-more (protocol scripts) moment (most - left) k m n o made (sym (ap (λ t. is_ready (protocol t) n) same) ∙ go) (subst P same next) few)
 
-after_steps-more : (n : ℕ) (scripts : List Script) (moment : ℕ) (m : Meaning Run) → after_steps scripts moment (n + 1) m ≡ step scripts moment (after_steps scripts moment n m)
-after_steps-more n scripts moment m = rw add-one (after_steps-suc n scripts moment m)
+-- why the loop ends
+ends_by : (left : ℕ) (b ready : Bool) → b ≡ false → (nat_lt 0 left && (not b && ready)) ≡ false → (left ≡ 0) ⊎ (ready ≡ false)
+ends_by zero b ready works stops = inl refl
+ends_by (suc left) b true works stops =
+    let above : nat_lt 0 (suc left) ≡ true = lt-ltb 0 (suc left) (omega arith) in
+    let all : (nat_lt 0 (suc left) && (not b && true)) ≡ true = rw (above, works) refl in
+    absurd cc
+ends_by (suc left) b false works stops = inr refl
 
-after_steps-sum : (j k : ℕ) (scripts : List Script) (moment : ℕ) (m : Meaning Run) → after_steps scripts moment (j + k) m ≡ after_steps scripts moment k (after_steps scripts moment j m)
-after_steps-sum zero k scripts moment m = let e : 0 + k ≡ k = omega arith in ap (λ n. after_steps scripts moment n m) e
-after_steps-sum (suc j) k scripts moment m = let e : suc j + k ≡ suc (j + k) = omega arith in ap (λ n. after_steps scripts moment n m) e ∙ after_steps-sum j k scripts moment (step scripts moment m)
+full_by : (scripts : List Script) (most left : ℕ) (n : Meaning Run) → left ≤ most → (left ≡ 0) ⊎ (is_ready (protocol scripts) n ≡ false)
+    → ((most - left) ≡ most) ⊎ (is_ready (protocol scripts) n ≡ false)
+full_by scripts most left n within (inl is) = inl (omega arith)
+full_by scripts most left n within (inr stays) = inr stays
 
--- ---- what was made
-
-pub made-none : (scripts : List Script) (moment : ℕ) (m : Meaning Run) → HasMade scripts moment m m 0
-made-none scripts moment m = record { reached = refl; ready = λ j below. absurd (omega arith) }
-
-ready-sum : (j k : ℕ) (scripts : List Script) (moment : ℕ) (m : Meaning Run) → ((i : ℕ) → i < j → is_ready (after_steps scripts moment i m) ≡ true)
-    → ((i : ℕ) → i < k → is_ready (after_steps scripts moment i (after_steps scripts moment j m)) ≡ true) → (i : ℕ) → i < j + k → is_ready (after_steps scripts moment i m) ≡ true
-ready-sum zero k scripts moment m first others i below = others i (omega arith)
-ready-sum (suc j) k scripts moment m first others zero below = first 0 (omega arith)
-ready-sum (suc j) k scripts moment m first others (suc i) below =
-    ready-sum j k scripts moment (step scripts moment m) (λ h small. first (suc h) (omega arith)) others i (omega arith)
-
--- steps behind steps
-pub made-more : (scripts : List Script) (moment : ℕ) (m n o : Meaning Run) (j k : ℕ) → HasMade scripts moment m n j → HasMade scripts moment n o k → HasMade scripts moment m o (j + k)
-made-more scripts moment m n o j k first others =
-    let P : Meaning Run → Type 0 = λ q. (i : ℕ) → i < k → is_ready (after_steps scripts moment i q) ≡ true in
+-- what the loop has made is the longest run
+pub ran-longest : (scripts s : List Script) (moment : ℕ) (m n : Meaning Run) (most left : ℕ) (b t : Bool) → s ≡ scripts
+    → HasMade (protocol scripts) moment m n (most - left) → left ≤ most → b ≡ false
+    → t ≡ (nat_lt 0 left && (not b && is_ready (protocol s) n)) → t ≡ false → IsLongest (protocol scripts) moment most m n (most - left)
+ran-longest scripts s moment m n most left b t same made within works test stops =
+    let ready : Bool = is_ready (protocol scripts) n in
+    let here : t ≡ (nat_lt 0 left && (not b && ready)) = test ∙ ap (λ ss. nat_lt 0 left && (not b && is_ready (protocol ss) n)) same in
     record {
-      reached = others.reached ∙ ap (after_steps scripts moment k) first.reached ∙ sym (after_steps-sum j k scripts moment m);
-      ready = ready-sum j k scripts moment m first.ready (subst P first.reached others.ready);
+      within = omega arith;
+      made = made;
+      full = full_by scripts most left n within (ends_by left b ready works (sym here ∙ stops));
     }
 
--- ---- the longest run
+-- ---- what steps print
 
--- a run after a step that may be made
-full_more : (scripts : List Script) (moment : ℕ) (most k : ℕ) (m : Meaning Run) → (k ≡ most) ⊎ (is_ready (after_steps scripts moment k (step scripts moment m)) ≡ false)
-    → (k + 1 ≡ suc most) ⊎ (is_ready (after_steps scripts moment (k + 1) m) ≡ false)
-full_more scripts moment most k m (inl is) = inl (omega arith)
-full_more scripts moment most k m (inr stays) = inr (rw (add-one) stays)
+-- where all texts were handed out before and behind them
+pub ran-prints : (p q : Parts) (printed : List (List ℕ)) → p.machine.context.printed ≡ [] → q.machine.context.printed ≡ []
+    → (taken : List (List ℕ)) → printed ≡ printed_between (run_with taken p) (run_with (taken ++ printed) q)
+ran-prints p q printed before after taken =
+    let first : printed_of (run_with taken p) ≡ taken = run-printed p taken ∙ ap (λ xs. taken ++ xs) before ∙ append-nil taken in
+    let last : printed_of (run_with (taken ++ printed) q) ≡ taken ++ printed =
+    run-printed q (taken ++ printed) ∙ ap (λ xs. (taken ++ printed) ++ xs) after ∙ append-nil (taken ++ printed) in
+    sym (drop-append_seam taken printed)
+    ∙ ap (λ xs. drop (length taken) xs) (sym last)
+    ∙ ap (λ xs. drop (length xs) (printed_of (run_with (taken ++ printed) q))) (sym first)
 
-ready_more : (scripts : List Script) (moment : ℕ) (k : ℕ) (m : Meaning Run) → is_ready m ≡ true → ((j : ℕ) → j < k → is_ready (after_steps scripts moment j (step scripts moment m)) ≡ true)
-    → (j : ℕ) → j < k + 1 → is_ready (after_steps scripts moment j m) ≡ true
-ready_more scripts moment k m go each zero below = go
-ready_more scripts moment k m go each (suc j) below = each j (omega arith)
+-- ---- seats
 
-more : (scripts : List Script) (moment : ℕ) (most k : ℕ) (m : Meaning Run) → is_ready m ≡ true → IsLongest scripts moment most (step scripts moment m) k → IsLongest scripts moment (suc most) m (k + 1)
-more scripts moment most k m go is =
-    record { within = omega (arith, is.within); ready = ready_more scripts moment k m go is.ready; full = full_more scripts moment most k m is.full }
+gone-fits : {C T Q X : Type 0} → (P : Protocol C T Q X) (seat : Seat X) → is_attached seat ≡ false → Fits P seat
+gone-fits P (Attached x) gone = absurd cc
+gone-fits P (Lost loss is_reported is_told) gone = tt
+gone-fits P Left gone = tt
 
-by_test : (scripts : List Script) (moment : ℕ) (most : ℕ) (m : Meaning Run) (b : Bool) → is_ready m ≡ b → IsLongest scripts moment most (step scripts moment m) (longest scripts moment most (step scripts moment m))
-    → IsLongest scripts moment (suc most) m (if b then longest scripts moment most (step scripts moment m) + 1 else 0)
-by_test scripts moment most m true go is = more scripts moment most (longest scripts moment most (step scripts moment m)) m go is
-by_test scripts moment most m false stay is = record { within = omega arith; ready = λ j below. absurd (omega arith); full = inr stay }
+-- where none is attached, no texts wait
+pub gone-fit : {C T Q X : Type 0} → (P : Protocol C T Q X) (seats : List (Seat X)) → some is_attached seats ≡ false → AllFit P seats
+gone-fit P [] none = tt
+gone-fit P (seat ∷ seats) none =
+    let parts = or_parts (is_attached seat) (some is_attached seats) none in
+    (gone-fits P seat parts.0, gone-fit P seats parts.1)
 
-pub longest-is : (most : ℕ) (scripts : List Script) (moment : ℕ) (m : Meaning Run) → IsLongest scripts moment most m (longest scripts moment most m)
-longest-is zero scripts moment m = record { within = omega arith; ready = λ j below. absurd (omega arith); full = inl refl }
-longest-is (suc most) scripts moment m = by_test scripts moment most m (is_ready m) refl (longest-is most scripts moment (step scripts moment m))
+reported-fits : {C T Q X : Type 0} → (P : Protocol C T Q X) (seat : Seat X) → Fits P seat → Fits P (reported seat)
+reported-fits P (Attached x) fit = fit
+reported-fits P (Lost loss is_reported is_told) fit = tt
+reported-fits P Left fit = tt
 
--- a longest run isn't followed by a further step that may be made
-no_further : (scripts : List Script) (moment : ℕ) (most j k : ℕ) (m : Meaning Run) → IsLongest scripts moment most m j → IsLongest scripts moment most m k → j < k → ⊥
-no_further scripts moment most j k m one other below =
-    elim (one.full) [
-      | inl is ↦ let within = other.within in omega arith
-      | inr stays ↦ let goes = other.ready j below in absurd cc
-    ]
+-- a report sends nothing
+pub reported-fit : {C T Q X : Type 0} → (P : Protocol C T Q X) (seats : List (Seat X)) → AllFit P seats → AllFit P (each reported seats)
+reported-fit P [] fit = tt
+reported-fit P (seat ∷ seats) fit = (reported-fits P seat fit.0, reported-fit P seats fit.1)
 
-not_less : (j k : ℕ) → (j < k → ⊥) → (k < j → ⊥) → j ≡ k
-not_less j k not_below not_above = grind arith
+-- ---- who fell
 
--- so there is one such length
-pub longest-one : (scripts : List Script) (moment : ℕ) (most j k : ℕ) (m : Meaning Run) → IsLongest scripts moment most m j → IsLongest scripts moment most m k → j ≡ k
-longest-one scripts moment most j k m one other = not_less j k (no_further scripts moment most j k m one other) (no_further scripts moment most k j m other one)
+-- those among the losses that wait for a run
+pub lost-fallen : (s : ℕ) (seats : List (Seat Session)) → lost_for_memory (losses_from s seats) ≡ fallen_from s seats
+lost-fallen s [] = refl
+lost-fallen s (Attached x ∷ seats) = lost-fallen (s + 1) seats
+lost-fallen s (Lost Overrun true is_told ∷ seats) = lost-fallen (s + 1) seats
+lost-fallen s (Lost Overrun false is_told ∷ seats) = lost-fallen (s + 1) seats
+lost-fallen s (Lost Memory true is_told ∷ seats) = lost-fallen (s + 1) seats
+lost-fallen s (Lost Memory false is_told ∷ seats) = ap (λ numbers. s ∷ numbers) (lost-fallen (s + 1) seats)
+lost-fallen s (Left ∷ seats) = lost-fallen (s + 1) seats
 
--- what was made is the longest run, where all is made or the program isn't ready any more
-pub made-longest : (scripts : List Script) (moment : ℕ) (m n : Meaning Run) (most k : ℕ) → HasMade scripts moment m n k → k ≤ most → (k ≡ most) ⊎ (is_ready n ≡ false) → IsLongest scripts moment most m k
-made-longest scripts moment m n most k made within full =
-    let P : Meaning Run → Type 0 = λ q. (k ≡ most) ⊎ (is_ready q ≡ false) in
-    record { within = within; ready = made.ready; full = subst P made.reached full }
+fell-reported : {X : Type 0} → (seat : Seat X) → fell (reported seat) ≡ false
+fell-reported (Attached x) = refl
+fell-reported (Lost Overrun is_reported is_told) = refl
+fell-reported (Lost Memory is_reported is_told) = refl
+fell-reported Left = refl
 
-pub is-longest : (scripts : List Script) (moment : ℕ) (most k : ℕ) (m : Meaning Run) → IsLongest scripts moment most m k → k ≡ longest scripts moment most m
-is-longest scripts moment most k m is = longest-one scripts moment most k (longest scripts moment most m) m is (longest-is most scripts moment m)
+none-reported : {X : Type 0} → (seats : List (Seat X)) → some fell (each reported seats) ≡ false
+none-reported [] = refl
+none-reported (seat ∷ seats) = rw (fell-reported seat) (none-reported seats)
 
--- ---- where a run stops
+-- behind a report none fell of whom no run has told
+pub reported-none : {X : Type 0} → (seats : List (Seat X)) → fallen_in (each reported seats) ≡ []
+reported-none seats = fallen-none (each reported seats) (none-reported seats)
 
--- whatever stops it, the program goes one step further
-pub step-program : (scripts : List Script) (moment : ℕ) (m : Meaning Run) → (step scripts moment m).program ≡ next scripts m.program
-step-program scripts moment m = refl
+fell-kept : (X : Type 0) → (x : X) (b : Bool) → fell {X = X} (if b then Attached x else Lost Overrun false false) ≡ false
+fell-kept X x true = refl
+fell-kept X x false = refl
 
--- so it goes its plain way
-pub after_steps-plain : (n : ℕ) (scripts : List Script) (moment : ℕ) (input : List (List ℕ)) (made : ℕ) (m : Meaning Run) → m.program ≡ plain made scripts input
-    → (after_steps scripts moment n m).program ≡ plain (made + n) scripts input
-after_steps-plain zero scripts moment input made m is = let e : made ≡ made + 0 = omega arith in is ∙ ap (λ k. plain k scripts input) e
-after_steps-plain (suc n) scripts moment input made m is =
-    let e : suc made + n ≡ made + suc n = omega arith in
-    after_steps-plain n scripts moment input (suc made) (step scripts moment m) (ap (next scripts) is ∙ plain-next made scripts input) ∙ ap (λ k. plain k scripts input) e
+fell-resumed : {C T Q X : Type 0} → (P : Protocol C T Q X) (seat : Seat X) → fell seat ≡ false → fell (resumed_seat P seat) ≡ false
+fell-resumed {C} {T} {Q} {X} P (Attached x) stays = fell-kept X (P.resumed x) (P.fits (P.resumed x))
+fell-resumed P (Lost loss is_reported is_told) stays = stays
+fell-resumed P Left stays = refl
 
--- a ready program isn't held
-ready-free : (m : Meaning Run) → is_ready m ≡ true → is_held m ≡ false
-ready-free m go = not-true (is_held m) (and_parts (not (is_held m)) (not (is_over m.program)) go).0
+none-resumed : {C T Q X : Type 0} → (P : Protocol C T Q X) (seats : List (Seat X)) → some fell seats ≡ false
+    → some fell (each (resumed_seat P) seats) ≡ false
+none-resumed P [] none = refl
+none-resumed P (seat ∷ seats) none =
+    let parts = or_parts (fell seat) (some fell seats) none in
+    rw (fell-resumed P seat parts.0) (none-resumed P seats parts.1)
 
--- a step behind which the program is ready let it pass
-step-passed : (scripts : List Script) (moment : ℕ) (m : Meaning Run) → is_ready (step scripts moment m) ≡ true → watched scripts (next_number m.stops) moment (step_from scripts m) m.session ≡ Passed
-step-passed scripts moment m go = passed-free m.stops m.attached m.lost (watched scripts (next_number m.stops) moment (step_from scripts m) m.session) (ready-free (step scripts moment m) go)
+none-resume-by : (scripts : List Script) (m : Meaning Run) (b : Bool) → some fell m.seats ≡ false
+    → some fell (if b then record m { stop = None; seats = each (resumed_seat (protocol scripts)) m.seats } else m).seats ≡ false
+none-resume-by scripts m true none = none-resumed (protocol scripts) m.seats none
+none-resume-by scripts m false none = none
 
--- before its last step the session of a run stays, and asks for the same
-pub quiet : (j : ℕ) (scripts : List Script) (moment : ℕ) (m : Meaning Run) (n : ℕ) → ((i : ℕ) → i < n → is_ready (after_steps scripts moment i m) ≡ true) → j < n → AskSame (after_steps scripts moment j m).session m.session
-quiet zero scripts moment m n ready below = ask-refl m.session
-quiet (suc j) scripts moment m n ready below =
-    let k : Meaning Run = after_steps scripts moment j m in
-    let now : after_steps scripts moment (suc j) m ≡ step scripts moment k = after_steps-suc j scripts moment m in
-    let P : Meaning Run → Type 0 = λ q. AskSame q.session m.session in
-    let passed = step-passed scripts moment k (ap is_ready (sym now) ∙ ready (suc j) below) in
-    subst P (sym now)
-    (ask-trans (kept_behind scripts (next_number k.stops) moment (step_from scripts k) k.session) k.session m.session
-    (passed-same scripts (next_number k.stops) moment (step_from scripts k) k.session passed).0 (quiet j scripts moment m n ready (omega (arith, below))))
+none-settle-by : (scripts : List Script) (m : Meaning Run) (b : Bool) → some fell m.seats ≡ false
+    → some fell (if b then m else resume (protocol scripts) m).seats ≡ false
+none-settle-by scripts m true none = none
+none-settle-by scripts m false none = none-resume-by scripts m (is_paused m) none
 
--- whether its next step is the first
-first_there : (j : ℕ) (scripts : List Script) (moment : ℕ) (m : Meaning Run) → is_woken (after_steps scripts moment j m).phase ≡ is_first m j
-first_there zero scripts moment m = refl
-first_there (suc j) scripts moment m = ap (λ k. is_woken k.phase) (after_steps-suc j scripts moment m)
+none-settle : (scripts : List Script) (m : Meaning Run) → some fell m.seats ≡ false → some fell (settle (protocol scripts) m).seats ≡ false
+none-settle scripts m none = none-settle-by scripts m (some (is_enabled_seat (protocol scripts)) m.seats) none
 
--- so its session names the same steps as the one at its beginning, in the words of the plain run
-names_there : (scripts : List Script) (input : List (List ℕ)) (moment made n : ℕ) (m : Meaning Run) → m.program ≡ plain made scripts input → ((i : ℕ) → i < n → is_ready (after_steps scripts moment i m) ≡ true)
-    → (j : ℕ) → j < n → named_by (step_from scripts (after_steps scripts moment j m)) (after_steps scripts moment j m).session ≡ is_named scripts input made m j
-names_there scripts input moment made n m is ready j below =
-    let k : Meaning Run = after_steps scripts moment j m in
-    named-same (step_from scripts k) k.session m.session (quiet j scripts moment m n ready below)
-    ∙ ap (λ b. named_by (step_of scripts b k.program) m.session) (first_there j scripts moment m)
-    ∙ ap (λ r. named_by (step_of scripts (is_first m j) r) m.session) (after_steps-plain j scripts moment input made m is)
+-- ---- a run, and the host behind it
 
-passes_none : (scripts : List Script) (input : List (List ℕ)) (moment made n : ℕ) (m : Meaning Run) → m.program ≡ plain made scripts input → ((i : ℕ) → i < n → is_ready (after_steps scripts moment i m) ≡ true)
-    → (j : ℕ) → j + 1 < n → is_named scripts input made m j ≡ false
-passes_none scripts input moment made n m is ready j below =
-    let k : Meaning Run = after_steps scripts moment j m in
-    let passed = step-passed scripts moment k (ap is_ready (sym (after_steps-more j scripts moment m)) ∙ ready (j + 1) below) in
-    sym (names_there scripts input moment made n m is ready j (omega (arith, below)))
-    ∙ (passed-same scripts (next_number k.stops) moment (step_from scripts k) k.session passed).1
+-- a host whose seats were reported, and then settled
+pub settled-as : (a h n : HostState) (scripts : List Script) (news : List (Seat Session)) (t : List (List ℕ)) → a ≡ h → h.scripts ≡ scripts
+    → news ≡ each reported a.meaning.seats
+    → meaning_with n t ≡ less n.meaning.seats (settle (protocol a.scripts) (with_seats news (meaning_with a t)))
+    → meaning_with n t ≡ less n.meaning.seats (settle (protocol scripts) (with_seats (each reported h.meaning.seats) (meaning_with h t)))
+settled-as a h n scripts news t is runs same means =
+    let f : List Script → List (Seat Session) → HostState → Meaning Run =
+    λ ss seats k. less n.meaning.seats (settle (protocol ss) (with_seats seats (meaning_with k t))) in
+    means
+    ∙ ap (λ seats. f a.scripts seats a) same
+    ∙ ap (λ k. f k.scripts (each reported k.meaning.seats) k) is
+    ∙ ap (λ ss. f ss (each reported h.meaning.seats) h) runs
 
-stops_last : (scripts : List Script) (input : List (List ℕ)) (moment made n : ℕ) (m : Meaning Run) → m.program ≡ plain made scripts input → ((i : ℕ) → i < n → is_ready (after_steps scripts moment i m) ≡ true)
-    → (j : ℕ) → j < n → is_paused (after_steps scripts moment (j + 1) m) ≡ (is_named scripts input made m j && is_some (after_steps scripts moment (j + 1) m).session)
-stops_last scripts input moment made n m is ready j below =
-    let k : Meaning Run = after_steps scripts moment j m in
-    let now : after_steps scripts moment (j + 1) m ≡ step scripts moment k = after_steps-more j scripts moment m in
-    ap is_paused now
-    ∙ step-paused scripts moment k
-    ∙ ap (λ b. b && is_some (step scripts moment k).session) (names_there scripts input moment made n m is ready j below)
-    ∙ ap (λ q. is_named scripts input made m j && is_some q.session) (sym now)
+-- where none fell the host is what it stands for
+all-there : (host m : Meaning Run) → host ≡ less host.seats m → fallen_in host.seats ≡ [] → host ≡ m
+all-there host m is none =
+    is ∙ ap (λ numbers. with_seats (without numbers m.seats) m) none ∙ ap (λ seats. with_seats seats m) (without-none m.seats)
 
-stops_there : (scripts : List Script) (input : List (List ℕ)) (moment made n : ℕ) (m : Meaning Run) → m.program ≡ plain made scripts input → ((i : ℕ) → i < n → is_ready (after_steps scripts moment i m) ≡ true)
-    → (j : ℕ) → n ≡ j + 1 → is_paused (after_steps scripts moment n m) ≡ (is_named scripts input made m j && is_some (after_steps scripts moment n m).session)
-stops_there scripts input moment made n m is ready j last =
-    let P : ℕ → Type 0 = λ k. is_paused (after_steps scripts moment k m) ≡ (is_named scripts input made m j && is_some (after_steps scripts moment k m).session) in
-    subst P (sym last) (stops_last scripts input moment made n m is ready j (omega (arith, last)))
+-- a host behind a run stands for what the run makes of what it stood for before
+pub runs-stand : (scripts : List Script) (moment most steps : ℕ) (host m n : Meaning Run) (printed : List (List ℕ)) (lost : List SessionLost)
+    → StandsAs host m → RunsTo scripts moment most host steps printed lost n
+    → StandsAs n (apply scripts m (Ran steps moment (lost_for_memory lost)))
+runs-stand scripts moment most steps host m n printed lost stands r =
+    let k : Meaning Run = r.middle in
+    let told_all : Meaning Run = with_seats (each reported k.seats) k in
+    let there : Meaning Run = settle (protocol scripts) told_all in
+    let behind = stands-ran (protocol scripts) moment steps host m k stands r.longest.made in
+    let none : fallen_in there.seats ≡ [] = fallen-none there.seats (none-settle scripts told_all (none-reported k.seats)) in
+    let same : there ≡ apply scripts m (Ran steps moment (fallen_in k.seats)) =
+    all-there there (apply scripts m (Ran steps moment (fallen_in k.seats))) behind.is none in
+    let listed : lost_for_memory lost ≡ fallen_in k.seats = ap lost_for_memory r.reports ∙ lost-fallen 1 k.seats in
+    record {
+      is = r.is ∙ ap (λ q. less n.seats q) (same ∙ ap (λ gone. apply scripts m (Ran steps moment gone)) (sym listed));
+      all_there = r.all_there;
+    }
 
--- steps that are made where the program is ready stop exactly where they are named
-pub ready-stops : (scripts : List Script) (input : List (List ℕ)) (moment made n : ℕ) (m : Meaning Run) → m.program ≡ plain made scripts input → ((j : ℕ) → j < n → is_ready (after_steps scripts moment j m) ≡ true)
-    → StopsExactly scripts input moment made m n
-ready-stops scripts input moment made n m is ready = record {
-  starts_ready = λ some. ready 0 some;
-  passes_none = passes_none scripts input moment made n m is ready;
-  keeps = λ j below. ask-some (after_steps scripts moment (j + 1) m).session m.session (quiet (j + 1) scripts moment m n ready below);
-  stops_there = stops_there scripts input moment made n m is ready;
-}
+-- and so for the history with the run behind it
+pub stands-run : (scripts : List Script) (input : List (List ℕ)) (wait : Bool) (old new : HostState) (history : List Entry)
+    → (moment most steps : ℕ) (printed : List (List ℕ)) (lost : List SessionLost)
+    → new.scripts ≡ old.scripts → old.broken ≡ false → new.broken ≡ false → new.meaning.program.machine.context.printed ≡ []
+    → ((taken : List (List ℕ)) → RunsTo old.scripts moment most (meaning_with old taken) steps printed lost (meaning_with new (taken ++ printed)))
+    → Stands scripts input wait old history → Stands scripts input wait new (history ++ Ran steps moment (lost_for_memory lost) ∷ [])
+stands-run scripts input wait old new history moment most steps printed lost same works still handed runs stood =
+    let m : Meaning Run = whole scripts input wait history in
+    let taken : List (List ℕ) = printed_of m.program in
+    let host : Meaning Run = meaning_with old taken in
+    let n : Meaning Run = meaning_with new (taken ++ printed) in
+    let entry : Entry = Ran steps moment (lost_for_memory lost) in
+    let before = stood.means works in
+    let R : List Script → Type 0 = λ ss. RunsTo ss moment most host steps printed lost n in
+    let r : RunsTo scripts moment most host steps printed lost n = subst R stood.runs (runs taken) in
+    let behind = runs-stand scripts moment most steps host m n printed lost before r in
+    let Q : List (List ℕ) → Type 0 = λ texts. StandsAs (meaning_with new texts) (apply scripts m entry) in
+    let out : printed_of (apply scripts m entry).program ≡ taken ++ printed =
+    ap (λ q. printed_of q.program) (sym behind.is)
+    ∙ run-printed new.meaning.program (taken ++ printed)
+    ∙ ap (λ xs. (taken ++ printed) ++ xs) handed
+    ∙ append-nil (taken ++ printed) in
+    stands-behind scripts input wait old new history entry stood same still
+    (fits-ran (protocol scripts) moment steps host m r.middle before r.longest.made)
+    (subst Q (sym out) behind)
 
-pub longest-stops : (scripts : List Script) (input : List (List ℕ)) (moment made most : ℕ) (m : Meaning Run) → m.program ≡ plain made scripts input → StopsExactly scripts input moment made m (longest scripts moment most m)
-longest-stops scripts input moment made most m is = ready-stops scripts input moment made (longest scripts moment most m) m is (longest-is most scripts moment m).ready
+no_steps : (scripts : List Script) (m : Meaning Run) (moment : ℕ) (gone : List ℕ) → FitsEntry (protocol scripts) m (Ran zero moment gone)
+no_steps scripts m moment gone = λ j small. absurd (omega (arith, small))
+
+-- a broken host makes no step
+pub stands-none : (scripts : List Script) (input : List (List ℕ)) (wait : Bool) (host : HostState) (history : List Entry) (moment : ℕ) (gone : List ℕ)
+    → host.broken ≡ true → Stands scripts input wait host history → Stands scripts input wait host (history ++ Ran zero moment gone ∷ [])
+stands-none scripts input wait host history moment gone fails stood =
+    let m : Meaning Run = whole scripts input wait history in
+    stands-broken scripts input wait host host history (Ran zero moment gone) stood refl fails (no_steps scripts m moment gone)
+    (none-ran (protocol scripts) moment gone m (stood.alone fails))
+
+-- a run that breaks its host loses everybody
+pub stands-fails : (scripts : List Script) (input : List (List ℕ)) (wait : Bool) (old new : HostState) (history : List Entry) (moment : ℕ)
+    → new.scripts ≡ old.scripts → old.broken ≡ false → new.broken ≡ true
+    → Stands scripts input wait old history → Stands scripts input wait new (history ++ Ran zero moment (everybody old) ∷ [])
+stands-fails scripts input wait old new history moment same works fails stood =
+    let m : Meaning Run = whole scripts input wait history in
+    let host : Meaning Run = meaning_with old (printed_of m.program) in
+    let many : length old.meaning.seats ≡ length m.seats = stands-length host m (stood.means works) in
+    stands-broken scripts input wait old new history (Ran zero moment (everybody old)) stood same fails (no_steps scripts m moment (everybody old))
+    (all-ran (protocol scripts) moment (everybody old) m (everybody-listed (length old.meaning.seats) m many))

@@ -11,19 +11,18 @@ use Rattle.js_machine.specs.declared.machine.Started.{Started}
 use Rattle.js_machine.specs.Machines.{IsKept}
 use Rattle.js_machine.specs.Starts.{IsStarted}
 use Rattle.cdp_host.specs.Programs.{code_of, start, printed_of}
-use Rattle.cdp_host.specs.Meaning.{Meaning, begin, phase_of}
+use Rattle.isolation.specs.Meanings.{phase_of}
+use Rattle.cdp_host.specs.Histories.{Meaning, begin}
 use Rattle.pure_eval.specs.Workspaces.{Workspace, begun}
-use Rattle.cdp_session.specs.Sessions.{Session, fresh}
-use Rattle.cdp_host.specs.Histories.{Attach}
-use Rattle.cdp_host.specs.Hosts.{Parts, AreLines, HostState, IsSound, after, machine_run}
+use Rattle.cdp_host.specs.Hosts.{Parts, AreLines, IsSound, machine_run}
 use Rattle.cdp_host.proofs.ProgramLemmas.{start-prints}
 use Rattle.cdp_host.proofs.PartLemmas.{run-printed}
 
 -- it means the beginning
 pub start-means : (scripts : List Script) (input : List (List ℕ)) (wait : Bool) (s : Started) → IsStarted (terms_of_scripts scripts) input s
-    → (let m : Meaning Run = record { program = machine_run s.machine s.heap []; phase = phase_of wait; stop = None; stops = 0; attached = 0; session = None; lost = None } in m ≡ begin scripts input wait)
+    → (let m : Meaning Run = record { program = machine_run s.machine s.heap []; phase = phase_of wait; stop = None; stops = 0; shut = false; seats = [] } in m ≡ begin scripts input wait)
 unfolding start
-start-means scripts input wait s is = let f : Run → Meaning Run = λ r. record { program = r; phase = phase_of wait; stop = None; stops = 0; attached = 0; session = None; lost = None } in ap f is.run
+start-means scripts input wait s is = let f : Run → Meaning Run = λ r. record { program = r; phase = phase_of wait; stop = None; stops = 0; shut = false; seats = [] } in ap f is.run
 
 started_prints : (scripts : List Script) (input : List (List ℕ)) (s : Started) → IsStarted (terms_of_scripts scripts) input s → s.machine.context.printed ≡ []
 started_prints scripts input s is =
@@ -31,7 +30,7 @@ started_prints scripts input s is =
     sym (run-printed p []) ∙ ap (λ m. printed_of m.program) (start-means scripts input false s is) ∙ start-prints scripts input
 
 pub start-sound : (scripts : List Script) (input lines : List (List ℕ)) (spots : List (List Spot)) (s : Started) → IsStarted (terms_of_scripts scripts) input s → AreLines scripts lines → spots ≡ map break_locations scripts
-    → IsSound scripts lines spots s.machine false None
+    → IsSound scripts lines spots s.machine false []
 unfolding code_of
 start-sound scripts input lines spots s is located found =
     let K : Option End → Type 0 = IsKept in
@@ -49,15 +48,5 @@ start-sound scripts input lines spots s is located found =
 pub code-begun : (scripts : List Script) (terms placed : Terms) (w : Workspace) → terms ≡ terms_of_scripts scripts → placed ≡ placed_scripts terms → w ≡ begun (program_from 1 placed) → w ≡ begun (code_of scripts)
 unfolding code_of
 code-begun scripts terms placed w made put is = is ∙ ap (λ ts. begun (program_from 1 ts)) (put ∙ ap placed_scripts made)
-
--- a host with its first session is one with the entry that attaches it
-pub attaches : (host now : HostState) (r : Session) (w : Workspace) → host ≡ now → now.meaning.attached ≡ 0 → r ≡ fresh 1 w → w ≡ begun (code_of host.scripts)
-    → (let m : HostState = record host { meaning = record host.meaning { attached = 1; session = Some r } } in m ≡ after now Attach)
-attaches host now r w same none is made =
-    let f : ℕ → Session → HostState = λ n x. record host { meaning = record host.meaning { attached = n; session = Some x } } in
-    let one : 1 ≡ host.meaning.attached + 1 = ap (λ n. n + 1) (sym (ap (λ h. h.meaning.attached) same ∙ none)) in
-    ap (f 1) (is ∙ ap (fresh 1) made)
-    ∙ ap (λ n. f n (fresh n (begun (code_of host.scripts)))) one
-    ∙ ap (λ h. after h Attach) same
 
 pub ruleset starts = (start-means, start-sound)

@@ -1,6 +1,13 @@
 -- What a host is.
-use Rattle.std.specs.Prelude.{◌≡◌, ◌-◌, List, [], ℕ, map, length, All, Bool, true, false, if◌then◌else◌, Option, Some, None}
+use Rattle.std.specs.Prelude.{◌≡◌, ◌-◌, ◌+◌, ◌++◌, ◌∷◌, List, [], ℕ, map, length, All, Bool, true, false, is_some, if◌then◌else◌, Option, Some, None}
 use Rattle.std.specs.Option.{option_map}
+use Rattle.isolation.specs.Histories.{Entry}
+use Rattle.isolation.specs.Meanings.{is_paused, mapped, next_number, settle, with_seats}
+use Rattle.isolation.specs.Runs.{AllFit, IsLongest}
+use Rattle.isolation.specs.Seats.{each, is_attached, numbers_from, reported, some}
+use Rattle.isolation.specs.Standing.{LeavesAs, StandsAs, fallen_in, less}
+use Rattle.isolation.specs.declared.phase.Phase.TheVariants.{Woken, Running}
+use Rattle.isolation.specs.declared.seat.Seat.{Seat}
 use Rattle.js_tree.specs.declared.script.Script.{Script}
 use Rattle.js_heap.specs.declared.value.Value.{Value}
 use Rattle.js_semantics.specs.Run.{Run}
@@ -12,20 +19,21 @@ use Rattle.js_machine.specs.Standing.{source_of, until_end, holds_until_end}
 use Rattle.locations.specs.declared.spot.Spot.{Spot}
 use Rattle.locations.specs.Locations.{break_locations}
 use Rattle.stepping.specs.declared.arrival.Arrival.{Arrival}
-use Rattle.cdp_session.specs.Outboxes.{fits}
+use Rattle.cdp_session.specs.declared.situation.Pause.{Pause}
 use Rattle.cdp_session.specs.Sessions.{Session}
 use Rattle.cdp_session.specs.Situations.{Standing}
 use Rattle.cdp_host.specs.Arrivals.{place_at, is_uncaught, starts_of, IsShort}
+use Rattle.cdp_host.specs.Histories.{IsHistory, Meaning, whole}
 use Rattle.cdp_host.specs.Programs.{code_of, printed_of}
-use Rattle.cdp_host.specs.Meaning.{Meaning, at_program, lost_from, mapped, pause_from, stops_from}
+use Rattle.cdp_host.specs.Protocols.{protocol}
+use Rattle.cdp_host.specs.Rules.{printed_between}
 use Rattle.cdp_host.specs.Standings.{ending_of, standing_of}
-use Rattle.cdp_host.specs.Steps.{Step}
-use Rattle.cdp_host.specs.Histories.{Entry, changed, whole}
 use Rattle.cdp_host.specs.States.{state_of}
-use Rattle.cdp_host.specs.declared.phase.Phase.TheVariants.{Woken, Running}
+use Rattle.cdp_host.specs.Steps.{Step}
+use Rattle.cdp_host.specs.Watching.{is_for_memory, losses_from}
+use Rattle.cdp_host.specs.declared.losses.SessionLost.{SessionLost}
 use Rattle.cdp_host.specs.declared.state.State.{State}
 use Rattle.cdp_host.specs.declared.state.State.TheVariants.{Broken}
-use Rattle.cdp_host.specs.declared.watched.Watched.{Watched}
 
 -- a program as a host keeps it
 pub record Parts : Type 0 where
@@ -67,30 +75,26 @@ machine_step scripts m h values first = record {
   first = first;
 }
 
--- what a machine and its heap mean with what is kept beside them, behind these printed texts
-abbrev pub meant : Machine → Heap → Meaning (Unit {0}) → List (List ℕ) → Meaning Run
-meant m h beside taken = at_program (machine_run m h taken) beside
+-- ---- what is kept beside a program
 
--- what a host keeps beside a program that isn't held, where its next step is the first behind a wake, or not
-abbrev pub beside : Bool → ℕ → ℕ → Option Session → Meaning (Unit {0})
-beside woken stops attached session = record { program = tt; phase = if woken then Woken else Running; stop = None; stops = stops; attached = attached; session = session; lost = None }
+-- all but the program of a host that isn't held, where its next step is the first of a program that waited, or isn't
+abbrev pub beside : Bool → ℕ → List (Seat Session) → Run → Meaning Run
+beside first stops seats r = record { program = r; phase = if first then Woken else Running; stop = None; stops = stops; shut = false; seats = seats }
 
--- the same behind a step that did this
-abbrev pub beside_behind : Watched → ℕ → ℕ → Option Session → Meaning (Unit {0})
-beside_behind w stops attached session = record {
-  program = tt;
+-- the stop behind so many, with so many calls active
+abbrev pub pause_behind : ℕ → ℕ → Pause
+pause_behind stops depth = record { number = next_number stops; depth = depth }
+
+-- the same behind a step that stopped the program with so many calls active, or didn't stop it
+abbrev pub beside_behind : Option ℕ → ℕ → List (Seat Session) → Run → Meaning Run
+beside_behind stopped stops seats r = record {
+  program = r;
   phase = Running;
-  stop = pause_from stops w;
-  stops = stops_from stops w;
-  attached = attached;
-  session = session;
-  lost = lost_from attached None w;
+  stop = option_map (pause_behind stops) stopped;
+  stops = if is_some stopped then next_number stops else stops;
+  shut = false;
+  seats = seats;
 }
-
--- the texts that wait for a session, if one is attached, are as many and as long as they may be
-abbrev pub TextsFit : Option Session → Type 0
-TextsFit None = Unit {0}
-TextsFit (Some x) = fits x.outbox ≡ true
 
 -- the numbers are where the lines of scripts begin whose positions are of 32 bits
 pub record AreLines (scripts : List Script) (lines : List (List ℕ)) : Type 0 where
@@ -111,25 +115,60 @@ meaning_with host taken = mapped (run_with taken) host.meaning
 abbrev pub state_at : HostState → List (List ℕ) → State
 state_at host taken = if host.broken then Broken else state_of (meaning_with host taken)
 
--- a host with one more entry that makes no steps
-abbrev pub after : HostState → Entry → HostState
-after host entry = record host { meaning = changed (parts_standing host.scripts) host.scripts host.meaning entry }
+-- ---- standing for a history
+
+-- no session is attached
+abbrev pub NoneAttached : List (Seat Session) → Type 0
+NoneAttached seats = some is_attached seats ≡ false
 
 -- A host stands for a history of its scripts with this input, where they may be to wait, whose runs have handed out all that they
--- printed; a broken one for each history that leaves no session.
+-- printed: it is what the history means, but for sessions that a resume lost for want of memory, of which the next run tells. A
+-- broken one stands for each history that leaves no session.
 pub record Stands (scripts : List Script) (input : List (List ℕ)) (wait : Bool) (host : HostState) (history : List Entry) : Type 0 where
   pub runs : host.scripts ≡ scripts
-  pub means : host.broken ≡ false → meaning_with host (printed_of (whole scripts input wait history).program) ≡ whole scripts input wait history
-  pub alone : host.broken ≡ true → (whole scripts input wait history).session ≡ None
+  pub fits : IsHistory scripts input wait history
+  pub means : host.broken ≡ false → StandsAs (meaning_with host (printed_of (whole scripts input wait history).program)) (whole scripts input wait history)
+  pub alone : host.broken ≡ true → NoneAttached (whole scripts input wait history).seats
+
+-- what a call with this entry, which makes no steps, leaves of a host
+pub record Leaves (old : HostState) (entry : Entry) (new : HostState) : Type 0 where
+  pub runs : new.scripts ≡ old.scripts
+  pub works : new.broken ≡ old.broken
+  pub means : (taken : List (List ℕ)) → (is_paused old.meaning ≡ true → fallen_in old.meaning.seats ≡ [])
+      → LeavesAs (protocol old.scripts) (meaning_with old taken) entry (meaning_with new taken)
+
+-- a host that stands for a history stands for it with this entry behind a call
+abbrev pub CarriesOn : HostState → Entry → HostState → Type 0
+CarriesOn old entry new = (scripts : List Script) (input : List (List ℕ)) (wait : Bool) (history : List Entry)
+    → Stands scripts input wait old history → Stands scripts input wait new (history ++ entry ∷ [])
+
+-- the numbers of all sessions that a host ever had
+abbrev pub everybody : HostState → List ℕ
+everybody host = numbers_from 1 (length host.meaning.seats)
+
+-- the numbers of those among these that were lost for want of memory
+abbrev pub lost_for_memory : List SessionLost → List ℕ
+lost_for_memory [] = []
+lost_for_memory (lost ∷ losses) = if is_for_memory lost.loss then lost.session ∷ lost_for_memory losses else lost_for_memory losses
+
+-- What a run of at most so many steps at a moment does to a host that works: it makes the longest run, reports the losses, and goes on
+-- where no session is left that has the debugger enabled. That may lose sessions for want of memory, of which the next run tells.
+pub record RunsTo (scripts : List Script) (moment most : ℕ) (m : Meaning Run) (steps : ℕ) (printed : List (List ℕ)) (lost : List SessionLost) (n : Meaning Run) : Type 0 where
+  pub middle : Meaning Run
+  pub longest : IsLongest (protocol scripts) moment most m middle steps
+  pub prints : printed ≡ printed_between m.program middle.program
+  pub reports : lost ≡ losses_from 1 middle.seats
+  pub is : n ≡ less n.seats (settle (protocol scripts) (with_seats (each reported middle.seats) middle))
+  pub all_there : is_paused n ≡ true → fallen_in n.seats ≡ []
 
 -- What holds of every host: its machine has the code of its scripts, and beside them stand where their lines begin and where
 -- their break locations are. Until want of memory breaks it, all texts were handed out and the machine isn't given up; then it
 -- has no session. The texts that wait fit.
-pub record IsSound (scripts : List Script) (starts : List (List ℕ)) (found : List (List Spot)) (machine : Machine) (broken : Bool) (session : Option Session) : Type 0 where
+pub record IsSound (scripts : List Script) (starts : List (List ℕ)) (found : List (List Spot)) (machine : Machine) (broken : Bool) (seats : List (Seat Session)) : Type 0 where
   pub lines : AreLines scripts starts
   pub spots : found ≡ map break_locations scripts
   pub code : program_of machine ≡ code_of scripts
   pub handed : broken ≡ false → machine.context.printed ≡ []
   pub kept : broken ≡ false → IsKept machine.ended
-  pub alone : broken ≡ true → session ≡ None
-  pub fit : TextsFit session
+  pub alone : broken ≡ true → NoneAttached seats
+  pub fit : AllFit (protocol scripts) seats

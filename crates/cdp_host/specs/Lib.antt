@@ -3,10 +3,11 @@ pub mod Programs
 pub mod Places
 pub mod Standings
 pub mod Steps
-pub mod Meaning
+pub mod Protocols
 pub mod Histories
 pub mod States
 pub mod Ran
 pub mod Rules
-pub mod Hosts
 pub mod Watching
+pub mod Hosts
+pub mod Foreign

@@ -1,17 +1,20 @@
 //! Steps of a program that a session may stop.
 
-ghost use Rattle.std.specs.Prelude.{◌≡◌, ◌++◌, ◌<◌, ◌≤◌, ◌^◌, ℕ, List, [], true, false, IfOk, OnOk, None, Option, Some};
+ghost use Rattle.std.specs.Prelude.{◌≡◌, ◌++◌, ◌<◌, ◌≤◌, ◌^◌, ℕ, List, [], length, true, false, is_some, IfOk, IfSome, OnOk, None, Option, Some};
 ghost use Rattle.std.specs.Option.{option_map};
+ghost use Rattle.isolation.specs.Passes.{Behind, Over, any_set};
+ghost use Rattle.isolation.specs.Runs.{AllFit, HasMade};
+ghost use Rattle.isolation.specs.Seats.{some, waits_for_report};
 ghost use Rattle.js_heap.specs.declared.value.Value.{Value};
 ghost use Rattle.js_code.specs.Trees.{IsTable};
 ghost use Rattle.js_machine.specs.Machines.{HasSameCode, IsKept, end_of_run, program_of};
 ghost use Rattle.js_steps.specs.Points.{term_at, IsAt};
 ghost use Rattle.cdp_host.specs.Arrivals.{arrival_at};
 ghost use Rattle.js_steps.specs.Prints.{PrintsAs};
-ghost use Rattle.cdp_host.specs.Hosts.{beside, beside_behind, machine_run, machine_step, meant, AreLines, TextsFit};
-ghost use Rattle.cdp_host.specs.Meaning.{kept_behind, watched};
+ghost use Rattle.cdp_host.specs.Hosts.{beside, beside_behind, machine_arrival, machine_run, machine_step, AreLines};
 ghost use Rattle.cdp_host.specs.Programs.{code_of, is_over};
-ghost use Rattle.cdp_host.specs.Ran.{may_stop, Advances, HasMade, IsStretch};
+ghost use Rattle.cdp_host.specs.Protocols.{protocol};
+ghost use Rattle.cdp_host.specs.Ran.{may_stop, may_stop_seat, Advances, IsStretch};
 ghost use Rattle.cdp_host.specs.Watching.{prints_last, values_held};
 
 use crate::arrival::{arrival_at, arrival_of};
@@ -19,13 +22,13 @@ use crate::debuggee::Debuggee;
 use crate::endings::ending_of;
 use crate::stops::next_number;
 use crate::stretch::Stretch;
-use crate::watched::Watched;
 use crate::watching::{Step, let_watch};
 use breakpoints::script_spots::ScriptSpots;
 use cdp_session::session::Session;
 use cdp_session::situation::Situation;
 use cdp_text::line_table::LineTable;
 use cdp_text::units::Units;
+use isolation::Seat;
 use js_code::table::NodeTable;
 use js_frames::arrivals::arrival;
 use js_frames::throws::thrown;
@@ -39,34 +42,74 @@ use js_steps::task::Point;
 use js_tree::script::Script;
 use js_world::heap::BaseHeap;
 use std::alloc::AllocError;
+use stepping::arrival::Arrival;
 
-/// Asks for a stop where the session may name one: the conditions of its breakpoints are evaluated behind the stretch.
+/// Asks for a stop where a session may name one: the conditions of its breakpoints are evaluated behind the stretch.
 #[derive(Clone, Copy)]
 struct Watch<'s> {
     scripts: &'s [Script],
     lines: &'s [LineTable],
-    session: &'s Option<Session>,
+    seats: &'s [Seat<Session>],
     ghost located: { AreLines scripts.now lines.now },
 }
 
 impl Asks for Watch<'_> {
-    ghost stops = { λ watch term frames. may_stop (arrival_at watch.scripts.now term frames) watch.session.now };
+    ghost stops = { λ watch term frames. may_stop (arrival_at watch.scripts.now term frames) watch.seats.now };
 
     fn asks(&self, table: &NodeTable, context: &Context, stack: &Stack, point: Point) -> bool {
-        match self.session {
-            Some(session) => {
-                !session.is_silent() && self.may_be_named(session, table, context, stack, point)
-            }
-            None => false,
+        some_listen(self.seats) && self.may_be_named(table, context, stack, point)
+    }
+}
+
+/// Whether the session of a seat may name a stop anywhere.
+fn listens(seat: &Seat<Session>) -> bool
+    ensures { result ≡ false → (a : Arrival) → may_stop_seat a seat.now ≡ false }
+{
+    match seat {
+        Seat::Attached(session) => !session.is_silent(),
+        Seat::Lost { .. } | Seat::Left => false,
+    }
+}
+
+/// Whether some session may name a stop anywhere.
+fn some_listen(seats: &[Seat<Session>]) -> bool
+    ensures { result ≡ false → (a : Arrival) → may_stop a seats.now ≡ false }
+{
+    for seat in seats {
+        if listens(seat) {
+            return true;
         }
     }
+    false
+}
+
+/// Whether the session of a seat names a stop behind a step that leads to this arrival, or would if the conditions of its
+/// breakpoints held.
+fn may_name(seat: &Seat<Session>, arrival: &Arrival) -> bool
+    ensures { result ≡ may_stop_seat arrival.now seat.now }
+{
+    match seat {
+        Seat::Attached(session) => session.may_name(arrival),
+        Seat::Lost { .. } | Seat::Left => false,
+    }
+}
+
+/// Whether some session does.
+fn some_may_name(seats: &[Seat<Session>], arrival: &Arrival) -> bool
+    ensures { result ≡ may_stop arrival.now seats.now }
+{
+    for seat in seats {
+        if may_name(seat, arrival) {
+            return true;
+        }
+    }
+    false
 }
 
 impl Watch<'_> {
     /// Whether a session may name a stop where a machine stands. Where it neither arrives nor raised, none does.
     fn may_be_named(
         &self,
-        session: &Session,
         table: &NodeTable,
         context: &Context,
         stack: &Stack,
@@ -74,22 +117,22 @@ impl Watch<'_> {
     ) -> bool
         requires table { IsTable table.now }
         requires at { IsAt table.now stack.now point }
-        ensures { (ts : List (List ℕ)) → result ≡ may_stop (arrival_at self.now.scripts.now (term_at ts table.now stack.now point) context.now.frames) (Some session.now) }
+        ensures { (ts : List (List ℕ)) → result ≡ may_stop (arrival_at self.now.scripts.now (term_at ts table.now stack.now point) context.now.frames) self.now.seats.now }
     {
         let mark = arrival(table, self.scripts, context, stack, point);
         if mark.is_none() && thrown(stack, point).is_none() {
             return false;
         }
         let arrival = arrival_at(self.scripts, self.lines, table, context, stack, point);
-        session.may_name(&arrival)
+        some_may_name(self.seats, &arrival)
     }
 }
 
-/// How many steps were made, and what the last of them did to the session.
+/// How many steps were made, and how many calls were active where the last of them stopped the program, if it did.
 #[derive(Clone, Copy, Debug)]
 pub(crate) struct Advanced {
     pub(crate) steps: u64,
-    pub(crate) watched: Watched,
+    pub(crate) stopped: Option<usize>,
 }
 
 /// The values that were printed, where that is why a run stops.
@@ -102,14 +145,14 @@ fn printed_values(why: Why) -> Option<Vec<Value>>
     }
 }
 
-/// Makes steps until a rule of the session may name a stop, until a raise, a print or the end, or until so many are made.
+/// Makes steps until a rule of a session may name a stop, until a raise, a print or the end, or until so many are made.
 /// Where there is no memory for one of them, the machine is given up.
 fn run_machine(
     machine: &mut Machine,
     heap: &mut BaseHeap,
     scripts: &[Script],
     lines: &[LineTable],
-    session: &Option<Session>,
+    seats: &[Seat<Session>],
     most: u64,
 ) -> Stretch
     requires going { machine.old.ended ≡ None }
@@ -117,14 +160,14 @@ fn run_machine(
     requires code { program_of machine.old ≡ code_of scripts.now }
     requires lines { AreLines scripts.now lines.now }
     requires some { 0 < most }
-    ensures advances { IsKept machine.new.ended → (taken : List (List ℕ)) → Advances scripts.now session.now most result.steps (machine_run machine.old heap.old taken) (machine_run machine.new heap.new taken) }
+    ensures advances { IsKept machine.new.ended → (taken : List (List ℕ)) → Advances scripts.now seats.now most result.steps (machine_run machine.old heap.old taken) (machine_run machine.new heap.new taken) }
     ensures prints { IsKept machine.new.ended → (taken : List (List ℕ)) → values_held result ≡ prints_last scripts.now result.steps (machine_run machine.old heap.old taken) }
     ensures code { HasSameCode machine.old machine.new }
 {
     let watch = Watch {
         scripts,
         lines,
-        session,
+        seats,
     };
     let Ran { steps, why } = machine.run(heap, most, &watch);
     Stretch {
@@ -146,7 +189,7 @@ fn is_lost(machine: &Machine) -> bool
     }
 }
 
-/// Makes steps, at least one, until a rule of the session may name a stop, until a raise, a print or the end, or until so many
+/// Makes steps, at least one, until a rule of a session may name a stop, until a raise, a print or the end, or until so many
 /// are made.
 ///
 /// # Errors
@@ -157,7 +200,7 @@ fn make_steps(
     heap: &mut BaseHeap,
     scripts: &[Script],
     lines: &[LineTable],
-    session: &Option<Session>,
+    seats: &[Seat<Session>],
     most: u64,
 ) -> Result<Stretch, AllocError>
     requires going { machine.old.ended ≡ None }
@@ -165,12 +208,12 @@ fn make_steps(
     requires code { program_of machine.old ≡ code_of scripts.now }
     requires lines { AreLines scripts.now lines.now }
     requires some { 0 < most }
-    ensures advances { IfOk result (λ made. (taken : List (List ℕ)) → Advances scripts.now session.now most made.steps (machine_run machine.old heap.old taken) (machine_run machine.new heap.new taken)) }
+    ensures advances { IfOk result (λ made. (taken : List (List ℕ)) → Advances scripts.now seats.now most made.steps (machine_run machine.old heap.old taken) (machine_run machine.new heap.new taken)) }
     ensures prints { IfOk result (λ made. (taken : List (List ℕ)) → values_held made ≡ prints_last scripts.now made.steps (machine_run machine.old heap.old taken)) }
     ensures kept { OnOk result (IsKept machine.new.ended) }
     ensures code { HasSameCode machine.old machine.new }
 {
-    let made = run_machine(machine, heap, scripts, lines, session, most);
+    let made = run_machine(machine, heap, scripts, lines, seats, most);
     if is_lost(machine) {
         return Err(AllocError);
     }
@@ -187,7 +230,7 @@ fn make_steps_and_print(
     heap: &mut BaseHeap,
     scripts: &[Script],
     lines: &[LineTable],
-    session: &Option<Session>,
+    seats: &[Seat<Session>],
     most: u64,
     printed: &mut Vec<Units>,
 ) -> Result<Stretch, AllocError>
@@ -196,23 +239,19 @@ fn make_steps_and_print(
     requires code { program_of machine.old ≡ code_of scripts.now }
     requires lines { AreLines scripts.now lines.now }
     requires some { 0 < most }
-    ensures advances { IfOk result (λ made. (taken : List (List ℕ)) → Advances scripts.now session.now most made.steps (machine_run machine.old heap.old (taken ++ printed.old.items)) (machine_run machine.new heap.new (taken ++ printed.new.items))) }
+    ensures advances { IfOk result (λ made. (taken : List (List ℕ)) → Advances scripts.now seats.now most made.steps (machine_run machine.old heap.old (taken ++ printed.old.items)) (machine_run machine.new heap.new (taken ++ printed.new.items))) }
     ensures prints { IfOk result (λ made. (taken : List (List ℕ)) → values_held made ≡ prints_last scripts.now made.steps (machine_run machine.old heap.old taken)) }
     ensures kept { OnOk result (IsKept machine.new.ended) }
     ensures handed { OnOk result (machine.new.context.printed ≡ []) }
     ensures code { HasSameCode machine.old machine.new }
 {
-    let made = make_steps(machine, heap, scripts, lines, session, most)?;
+    let made = make_steps(machine, heap, scripts, lines, seats, most)?;
     printed.append(&mut machine.take_printed())?;
     Ok(made)
 }
 
-/// Lets the session watch the step that led a machine to where it is, and that printed these values; the stop that the session
-/// may name has this number.
-///
-/// # Errors
-///
-/// There is no memory for a text or for the evaluation of a condition. The session is dropped.
+/// Lets all sessions watch the step that led a machine to where it is, and that printed these values; the stop that one of them
+/// may name has this number. Answers how many calls are active where the program stops, if it does.
 fn watch_machine(
     machine: &Machine,
     heap: &BaseHeap,
@@ -223,15 +262,17 @@ fn watch_machine(
     moment: u64,
     first: bool,
     values: Option<Vec<Value>>,
-    session: &mut Option<Session>,
-) -> Result<Watched, AllocError>
+    seats: &mut [Seat<Session>],
+    named: &mut [bool],
+) -> Option<usize>
     requires kept { IsKept machine.now.ended }
     requires lines { AreLines scripts.now lines.now }
     requires moment { moment < 2 ^ 53 }
-    requires fit { TextsFit session.old }
-    ensures watched { IfOk result (λ w. w ≡ watched scripts.now number moment (machine_step scripts.now machine.now heap.now (option_map (λ vs. vs.items) values) first) session.old) }
-    ensures session { OnOk result (session.new ≡ kept_behind scripts.now number moment (machine_step scripts.now machine.now heap.now (option_map (λ vs. vs.items) values) first) session.old) }
-    ensures fit { OnOk result (TextsFit session.new) }
+    requires fit { AllFit (protocol scripts.now) seats.old }
+    requires flags { length named.old ≡ length seats.old }
+    ensures depth { IfSome result (λ depth. depth ≡ (machine_arrival scripts.now machine.now).depth) }
+    ensures behind { Over (Behind (protocol scripts.now) (is_some result) number moment (machine_step scripts.now machine.now heap.now (option_map (λ vs. vs.items) values) first)) seats.old seats.new named.new }
+    ensures any { is_some result ≡ any_set named.new }
 {
     let step = Step {
         arrival: arrival_of(machine, scripts, lines),
@@ -251,7 +292,11 @@ fn watch_machine(
         paused: None,
         program: &program,
     };
-    let_watch(session, &situation, number, &step, moment)
+    if let_watch(seats, named, &situation, number, &step, moment) {
+        Some(step.arrival.depth)
+    } else {
+        None
+    }
 }
 
 /// How many steps a stretch may have: the first step of a program that a client let begin is a stretch of its own.
@@ -264,13 +309,13 @@ fn most_of(first: bool, most: u64) -> u64
     if first { 1 } else { most }
 }
 
-/// Makes steps of a program that isn't held, at least one, until it stops, raises, prints or ends, until its session is lost, or
+/// Makes steps of a program that isn't held, at least one, until it stops, raises, prints or ends, until a session is lost, or
 /// until so many are made; what it prints comes behind the other texts. There were so many stops before; `first` says that the
-/// next step is the first of a program that a client let begin.
+/// next step is the first of a program that waited for a client.
 ///
 /// # Errors
 ///
-/// There is no memory. The machine and the session are given up.
+/// There is no memory for a step. The machine is given up.
 pub(crate) fn advance(
     machine: &mut Machine,
     heap: &mut BaseHeap,
@@ -279,7 +324,8 @@ pub(crate) fn advance(
     spots: &ScriptSpots,
     first: bool,
     stops: u64,
-    session: &mut Option<Session>,
+    seats: &mut [Seat<Session>],
+    named: &mut [bool],
     most: u64,
     moment: u64,
     printed: &mut Vec<Units>,
@@ -290,21 +336,26 @@ pub(crate) fn advance(
     requires lines { AreLines scripts.now lines.now }
     requires some { 0 < most }
     requires moment { moment < 2 ^ 53 }
-    requires fit { TextsFit session.old }
-    ensures made { IfOk result (λ a. (taken : List (List ℕ)) (attached : ℕ) → HasMade scripts.now moment (meant machine.old heap.old (beside first stops attached session.old) (taken ++ printed.old.items)) (meant machine.new heap.new (beside_behind a.watched stops attached session.new) (taken ++ printed.new.items)) a.steps) }
+    requires fit { AllFit (protocol scripts.now) seats.old }
+    requires all_told { some waits_for_report seats.old ≡ false }
+    requires flags { length named.old ≡ length seats.old }
+    ensures made { IfOk result (λ a. (taken : List (List ℕ)) → HasMade (protocol scripts.now) moment
+        (beside first stops seats.old (machine_run machine.old heap.old (taken ++ printed.old.items)))
+        (beside_behind a.stopped stops seats.new (machine_run machine.new heap.new (taken ++ printed.new.items))) a.steps) }
     ensures counts { IfOk result (λ a. IsStretch most a.steps) }
     ensures kept { OnOk result (IsKept machine.new.ended) }
     ensures handed { OnOk result (machine.new.context.printed ≡ []) }
-    ensures fit { OnOk result (TextsFit session.new) }
+    ensures fit { OnOk result (AllFit (protocol scripts.now) seats.new) }
+    ensures flags { length named.new ≡ length seats.new }
     ensures code { HasSameCode machine.old machine.new }
 {
     let most = most_of(first, most);
     let Stretch { steps, values } = make_steps_and_print(
-        machine, heap, scripts, lines, session, most, printed,
+        machine, heap, scripts, lines, seats, most, printed,
     )?;
     let number = next_number(stops);
-    let watched = watch_machine(
-        machine, heap, scripts, lines, spots, number, moment, first, values, session,
-    )?;
-    Ok(Advanced { steps, watched })
+    let stopped = watch_machine(
+        machine, heap, scripts, lines, spots, number, moment, first, values, seats, named,
+    );
+    Ok(Advanced { steps, stopped })
 }

@@ -1,34 +1,40 @@
 //! The host and its calls, each of which is one entry of its history.
 
-ghost use Rattle.std.specs.Prelude.{◌≡◌, ◌++◌, ◌∷◌, [], Option, ◌==◌, ◌&&◌, ◌||◌, ◌<◌, ◌≤◌, ◌^◌, not, ℕ, List, Bool, IfOk, OnOk, OnErr, IsErr, IsTrue, None, Some, map, string_bytes, true, false, is_some, if◌then◌else◌, nat_lt, ◌↔◌};
-ghost use Rattle.js_tree.specs.declared.script.Script.{Script as AnyScript};
-ghost use Rattle.stepping.specs.declared.rules.StepKind.{StepKind};
-ghost use Rattle.cdp_json.specs.Messages.{refusal_text};
-ghost use Rattle.cdp_json.specs.declared.refusal.Refusal.{Refusal};
-ghost use Rattle.cdp_session.specs.Replies.{outcome_of, IsRefused};
-ghost use Rattle.cdp_session.specs.Sessions.{Session as Kept, sent};
+ghost use Rattle.std.specs.Prelude.{◌≡◌, ◌++◌, ◌∷◌, ◌+◌, ◌&&◌, ◌||◌, ◌<◌, ◌^◌, [], not, ℕ, List, Bool, IfOk, OnOk, OnErr, IsErr, map, length, string_bytes, true, false, nat_lt};
+ghost use Rattle.isolation.specs.Histories.{Attach, Tell, Take, Detach, Ran as RanEntry, Shut, asked, waiting};
+ghost use Rattle.isolation.specs.Meanings.{is_held, is_paused, is_ready, resume, settle, waits};
+ghost use Rattle.isolation.specs.Runs.{HasMade, IsLongest};
+ghost use Rattle.isolation.specs.Seats.{is_attached, put, reported, each, seat_of, some, waits_for_report};
+ghost use Rattle.isolation.specs.Standing.{less};
+ghost use Rattle.isolation.specs.declared.seat.Seat.TheVariants.{Attached, Left};
+ghost use Rattle.cdp_session.specs.Replies.{answer_of};
+ghost use Rattle.cdp_session.specs.Sessions.{Session as Kept};
 ghost use Rattle.pure_eval.specs.Workspaces.{begun};
-ghost use Rattle.cdp_host.specs.Programs.{code_of, plain, is_over, has_thrown};
-ghost use Rattle.cdp_host.specs.Meaning.{begin, is_attached, is_held, is_paused, is_ready, is_woken, situation, after_steps, longest, waits, IsLongest};
-ghost use Rattle.cdp_host.specs.Histories.{Entry, Attach, Tell, Take, Detach, Ran as RanEntry, overruns, reported};
-ghost use Rattle.cdp_host.specs.Hosts.{Stands, after, meaning_with, parts_standing, state_at};
-ghost use Rattle.cdp_host.specs.Ran.{HasMade, IsStretch};
-ghost use Rattle.cdp_host.specs.Rules.{StopsAtFirst, StopsExactly, StepsAlone, printed_in};
-ghost use Rattle.cdp_host.specs.States.{outbox_of};
-ghost use Rattle.cdp_host.specs.Watching.{told_as};
+ghost use Rattle.cdp_host.specs.Histories.{begin};
+ghost use Rattle.cdp_host.specs.Programs.{code_of, is_over, has_thrown};
+ghost use Rattle.cdp_host.specs.Protocols.{asks_to_resume, asks_to_wake, protocol, situation, texts_fit};
+ghost use Rattle.cdp_host.specs.Hosts.{CarriesOn, Leaves, NoneAttached, RunsTo, Stands, everybody, lost_for_memory, meaning_with, parts_standing, state_at};
+ghost use Rattle.cdp_host.specs.Ran.{IsStretch};
+ghost use Rattle.cdp_host.specs.Rules.{printed_between};
+ghost use Rattle.cdp_host.specs.Watching.{AnswersIn, loss_told, losses_from};
 
 use crate::advance::{Advanced, advance};
 use crate::debuggee::Debuggee;
 use crate::lines::lines_of_all;
-use crate::phase::Phase;
+use crate::losses::SessionLost;
+use crate::seats::{
+    break_all, is_attached, losses_of, report_all, resume_all, some_enabled, some_wait_for_report,
+};
 use crate::state::State;
-use crate::stops::{is_woken, lost_from, pause_from, phase_of, stops_from, waits};
-use crate::telling::{Answered, answer, lost_behind, phase_behind, stop_behind};
+use crate::stops::{is_first, pause_behind, phase_of, stops_behind, waits, woken};
+use crate::telling::{Answered, answer, leave, place_of, take, tell_loss};
 use breakpoints::script_spots::ScriptSpots;
+use cdp_session::asks::Asks;
 use cdp_session::session::Session;
 use cdp_session::situation::{Pause, Situation};
 use cdp_text::line_table::LineTable;
 use cdp_text::units::Units;
+use isolation::{Phase, Seat};
 use js_machine::machine::{Machine, Started};
 use js_machine::scripts::terms_of_scripts;
 use js_programs::literals::placed_scripts;
@@ -41,7 +47,7 @@ use std::alloc::{AllocError, Global};
 use std::collections::VecDeque;
 use std::marker::Model;
 
-/// A program and the session that debugs it.
+/// A program and the sessions that debug it.
 #[derive(Drop)]
 pub struct Host {
     alloc: Global,
@@ -53,10 +59,9 @@ pub struct Host {
     phase: Phase,
     stop: Option<Pause>,
     stops: u64,
-    attached: u64,
-    session: Option<Session>,
-    // a session that was lost, until a run tells it
-    lost: Option<u64>,
+    shut: bool,
+    // what became of the sessions, in the order of their numbers, which count from 1
+    seats: Vec<Seat<Session>>,
     broken: bool,
 }
 
@@ -72,11 +77,11 @@ impl Model for Host {
 
     ghost view = { λ a. record {
       scripts = a.scripts.items;
-      meaning = record { program = record { machine = a.machine; heap = a.heap }; phase = a.phase; stop = a.stop; stops = a.stops; attached = a.attached; session = a.session; lost = a.lost };
+      meaning = record { program = record { machine = a.machine; heap = a.heap }; phase = a.phase; stop = a.stop; stops = a.stops; shut = a.shut; seats = a.seats.items };
       broken = a.broken;
     } };
 
-    ghost invariant = { λ a. IsSound a.scripts.items a.lines.items a.spots a.machine a.broken a.session };
+    ghost invariant = { λ a. IsSound a.scripts.items a.lines.items a.spots a.machine a.broken a.seats.items };
 }
 
 /// What the evaluations of a session begin with, for a program of these scripts and names.
@@ -95,9 +100,9 @@ pub struct Ran {
     pub steps: u64,
     /// The texts that they printed, in order.
     pub printed: Vec<Units>,
-    /// The number of a session that was lost, since more texts would have waited for it than may: at the last step, or
-    /// before the run, by the event of a resume.
-    pub lost: Option<u64>,
+    /// The sessions that were lost, in the order of their numbers: at the last step, or before the run, by the event of a
+    /// resume.
+    pub lost: Vec<SessionLost>,
 }
 
 /// The steps that were made, and the texts that they printed.
@@ -118,15 +123,15 @@ pub enum Told {
     Memory,
 }
 
-/// What a host tells of a command of which this became.
-fn told_as(answered: Answered) -> Told
-    ensures { result ≡ told_as answered }
+/// So many flags, none of which is set.
+fn unset_flags(alloc: Global, count: usize) -> Result<Vec<bool>, AllocError>
+    ensures { IfOk result (λ flags. length flags.items ≡ count) }
 {
-    match answered {
-        Answered::Stays(_) | Answered::GoesOn | Answered::Lost => Told::Kept,
-        Answered::Overran => Told::Overrun,
-        Answered::Failed => Told::Memory,
+    let mut flags = Vec::new(alloc);
+    for _ in 0..count {
+        flags.push(false)?;
     }
+    Ok(flags)
 }
 
 impl Host {
@@ -137,7 +142,7 @@ impl Host {
     ///
     /// There is no memory, also where the scripts have more string literals than there are addresses, or a source that is
     /// too long for positions of 32 bits; no parsed script has one.
-    #[tactic(auto, using(crate::proofs::StartLemmas::starts, crate::proofs::HistoryLemmas::stands))]
+
     pub fn start(
         alloc: Global,
         scripts: Vec<Script>,
@@ -162,42 +167,19 @@ impl Host {
             phase: phase_of(wait),
             stop: None,
             stops: 0,
-            attached: 0,
-            session: None,
-            lost: None,
+            shut: false,
+            seats: Vec::new(alloc),
             broken: false,
         })
     }
 
-    /// Attaches the first session and answers its number, 1.
-    ///
-    /// # Errors
-    ///
-    /// The host is broken, or there is no memory for what the session's evaluations begin with. Nothing has changed.
-    #[tactic(auto, using(crate::proofs::HistoryLemmas::stands))]
-    pub fn attach(&mut self) -> Result<u64, AllocError>
-        requires { self.old.meaning.attached ≡ 0 }
-        ensures number { IfOk result (λ s. s ≡ 1) }
-        ensures host { OnOk result (self.new ≡ after self.old Attach) }
-        ensures broken { self.old.broken ≡ true → IsErr result }
-        ensures err { OnErr result (self.new ≡ self.old) }
-        ensures stands { OnOk result ((scripts : List AnyScript) (input : List (List ℕ)) (wait : Bool) (history : List Entry) → Stands scripts input wait self.old history
-            → Stands scripts input wait self.new (history ++ Attach ∷ [])) }
-    {
-        if self.broken {
-            return Err(AllocError);
-        }
-        let workspace = workspace_of(self.alloc, self.scripts.as_slice(), self.machine.names())?;
-        self.attached = 1;
-        self.session = Some(Session::new(self.alloc, self.attached, workspace));
-        Ok(1)
-    }
+    // ---- what it tells
 
     /// How many sessions were attached so far, detached ones included.
     pub fn sessions(&self) -> u64
-        ensures { result ≡ self.now.meaning.attached }
+        ensures { result ≡ length self.now.meaning.seats }
     {
-        self.attached
+        self.seats.len() as u64
     }
 
     /// How many stops there were so far; the count stays at 2^62.
@@ -209,9 +191,12 @@ impl Host {
 
     /// Whether this session is attached.
     pub fn attached(&self, s: u64) -> bool
-        ensures { result ≡ is_attached self.now.meaning s }
+        ensures { result ≡ is_attached (seat_of s self.now.meaning.seats) }
     {
-        self.session.is_some() && s == self.attached
+        match place_of(self.seats.as_slice(), s) {
+            Some(index) => is_attached(&self.seats[index]),
+            None => false,
+        }
     }
 
     /// The first state that holds, in the order in which `State` lists them.
@@ -220,6 +205,8 @@ impl Host {
     {
         if self.broken {
             State::Broken
+        } else if self.shut {
+            State::Shut
         } else if self.has_thrown() {
             State::Threw
         } else if self.is_over() {
@@ -233,47 +220,107 @@ impl Host {
         }
     }
 
-    /// Hands out the texts that wait for this session, in order; none of them waits any more. Takes no memory.
-    #[tactic(auto, using(crate::proofs::HistoryLemmas::stands))]
-    pub fn take(&mut self, s: u64) -> Vec<String>
-        requires { is_attached self.old.meaning s ≡ true }
-        ensures texts { map string_bytes result.items ≡ outbox_of self.old.meaning }
-        ensures host { self.new ≡ after self.old (Take s) }
-        ensures stands { (scripts : List AnyScript) (input : List (List ℕ)) (wait : Bool) (history : List Entry) → Stands scripts input wait self.old history
-            → Stands scripts input wait self.new (history ++ Take s ∷ []) }
+    // ---- sessions
+
+    /// Attaches a session and answers its number; the numbers count from 1, and none is given twice.
+    ///
+    /// # Errors
+    ///
+    /// The host is broken, or there is no memory for the session. Nothing has changed.
+    pub fn attach(&mut self) -> Result<u64, AllocError>
+        ensures number { IfOk result (λ s. s ≡ length self.old.meaning.seats + 1) }
+        ensures leaves { OnOk result (Leaves self.old Attach self.new) }
+        ensures broken { self.old.broken ≡ true → IsErr result }
+        ensures err { OnErr result (self.new ≡ self.old) }
+        ensures stands { OnOk result (CarriesOn self.old Attach self.new) }
     {
-        let Some(mut session) = self.session.take() else {
-            return Vec::new(self.alloc);
-        };
-        let texts = session.take();
-        self.session = Some(session);
-        texts
+        if self.broken {
+            return Err(AllocError);
+        }
+        let workspace = workspace_of(self.alloc, self.scripts.as_slice(), self.machine.names())?;
+        let number = self.sessions() + 1;
+        let session = Session::new(self.alloc, number, workspace);
+        self.seats.push(Seat::Attached(session))?;
+        Ok(number)
+    }
+
+    /// Hands out the texts that wait for this session, in order; none of them waits any more. Takes no memory.
+    pub fn take(&mut self, s: u64) -> Vec<String>
+        requires { is_attached (seat_of s self.old.meaning.seats) ≡ true }
+        ensures texts { map string_bytes result.items ≡ waiting (protocol self.old.scripts) (seat_of s self.old.meaning.seats) }
+        ensures leaves { Leaves self.old (Take s) self.new }
+        ensures stands { CarriesOn self.old (Take s) self.new }
+    {
+        take(self.alloc, self.seats.as_mut_slice(), s)
     }
 
     /// Answers a text of this session: its reply or refusal, and then its events, come behind the texts that wait
     /// (JSON-RPC 2.0, section 5; Chrome DevTools Protocol, domains Debugger and Runtime). A refused command changes nothing else.
-    /// A session is detached whose texts don't fit, and after want of memory; a paused program goes on then. Where the event of
-    /// a resume alone doesn't fit, the session is lost, and the next run tells it.
-    #[tactic(auto, using(crate::proofs::HistoryLemmas::stands))]
+    /// A session is detached whose texts don't fit, and after want of memory. A paused program goes on where the command asks for
+    /// that, or where no session is left that has the debugger enabled. Each session is told then; one for which the event of
+    /// that doesn't fit, or for which there is no memory, is lost, and the next run tells of it.
     pub fn tell(&mut self, s: u64, text: &str) -> Told
-        requires { is_attached self.old.meaning s ≡ true }
-        ensures kept { result ≡ Told.Kept → self.new ≡ after self.old (Tell s text.now) }
-        ensures overrun { result ≡ Told.Overrun → self.new ≡ after self.old (Tell s text.now) }
-        ensures memory { result ≡ Told.Memory → self.new ≡ after self.old (Detach s) }
+        requires { is_attached (seat_of s self.old.meaning.seats) ≡ true }
+        ensures kept { result ≡ Told.Kept → Leaves self.old (Tell s text.now) self.new }
+        ensures overrun { result ≡ Told.Overrun → Leaves self.old (Tell s text.now) self.new }
+        ensures memory { result ≡ Told.Memory → Leaves self.old (Detach s) self.new }
         // the texts of the answer fit, or don't
-        ensures fits { result ≡ Told.Kept → overruns (parts_standing self.old.scripts) self.old.scripts text.now self.old.meaning ≡ false }
-        ensures over { result ≡ Told.Overrun → overruns (parts_standing self.old.scripts) self.old.scripts text.now self.old.meaning ≡ true }
-        // a refused command changes only the texts that wait
-        ensures refused { result ≡ Told.Kept → (x : Kept) (id : Option ℕ) (refusal : Refusal) → self.old.meaning.session ≡ Some x
-            → outcome_of (situation (parts_standing self.old.scripts) self.old.scripts self.old.meaning) x text.now ≡ IsRefused id refusal
-            → self.new.meaning ≡ record self.old.meaning { session = Some (sent (refusal_text id refusal ∷ []) x) } }
-        ensures works { self.new.broken ≡ self.old.broken }
-        ensures stands_kept { result ≡ Told.Kept → (scripts : List AnyScript) (input : List (List ℕ)) (wait : Bool) (history : List Entry) → Stands scripts input wait self.old history
-            → Stands scripts input wait self.new (history ++ Tell s text.now ∷ []) }
-        ensures stands_overrun { result ≡ Told.Overrun → (scripts : List AnyScript) (input : List (List ℕ)) (wait : Bool) (history : List Entry) → Stands scripts input wait self.old history
-            → Stands scripts input wait self.new (history ++ Tell s text.now ∷ []) }
-        ensures stands_memory { result ≡ Told.Memory → (scripts : List AnyScript) (input : List (List ℕ)) (wait : Bool) (history : List Entry) → Stands scripts input wait self.old history
-            → Stands scripts input wait self.new (history ++ Detach s ∷ []) }
+        ensures fits { result ≡ Told.Kept → (x : Kept) → seat_of s self.old.meaning.seats ≡ Attached x
+            → texts_fit (answer_of (situation self.old.scripts self.old.meaning.stop (parts_standing self.old.scripts self.old.meaning.program)) x text.now).session ≡ true }
+        ensures over { result ≡ Told.Overrun → (x : Kept) → seat_of s self.old.meaning.seats ≡ Attached x
+            → texts_fit (answer_of (situation self.old.scripts self.old.meaning.stop (parts_standing self.old.scripts self.old.meaning.program)) x text.now).session ≡ false }
+        ensures stands_kept { result ≡ Told.Kept → CarriesOn self.old (Tell s text.now) self.new }
+        ensures stands_overrun { result ≡ Told.Overrun → CarriesOn self.old (Tell s text.now) self.new }
+        ensures stands_memory { result ≡ Told.Memory → CarriesOn self.old (Detach s) self.new }
+    {
+        match self.answer(s, text) {
+            Answered::Kept(asks) => {
+                self.follow(asks);
+                Told::Kept
+            }
+            Answered::Overran => {
+                self.settle();
+                Told::Overrun
+            }
+            Answered::Failed => {
+                self.settle();
+                Told::Memory
+            }
+        }
+    }
+
+    /// Detaches this session, if it is attached; a paused program goes on where no session is left that has the debugger
+    /// enabled. Where it was lost by a run or by a resume, its loss is answered, once. Takes no memory but for the event of a
+    /// resume.
+    pub fn detach(&mut self, s: u64) -> Option<SessionLost>
+        ensures told { result ≡ loss_told s (seat_of s self.old.meaning.seats) }
+        ensures stands { CarriesOn self.old (Detach s) self.new }
+    {
+        if self.attached(s) {
+            self.leave(s);
+            None
+        } else {
+            self.tell_loss(s)
+        }
+    }
+
+    /// The program makes no further step. Takes no memory.
+    pub fn shut(&mut self)
+        ensures leaves { Leaves self.old Shut self.new }
+        ensures stands { CarriesOn self.old Shut self.new }
+    {
+        self.shut = true;
+    }
+}
+
+impl Host {
+    /// Answers a text of this session, and lets the program be.
+    fn answer(&mut self, s: u64, text: &str) -> Answered
+        requires { is_attached (seat_of s self.old.meaning.seats) ≡ true }
+        ensures answers { (x : Kept) → seat_of s self.old.meaning.seats ≡ Attached x
+            → AnswersIn result (answer_of (situation self.old.scripts self.old.meaning.stop (parts_standing self.old.scripts self.old.meaning.program)) x text.now) s self.old.meaning.seats self.new.meaning.seats }
+        ensures same { self.new ≡ record self.old { meaning = record self.old.meaning { seats = self.new.meaning.seats } } }
+        ensures works { self.old.broken ≡ false }
     {
         let program = Debuggee {
             machine: &self.machine,
@@ -287,47 +334,134 @@ impl Host {
             paused: self.stop,
             program: &program,
         };
-        let answered = answer(&mut self.session, &situation, text);
-        self.phase = phase_behind(self.phase, answered);
-        self.stop = stop_behind(self.stop, answered);
-        self.lost = lost_behind(self.attached, self.lost, answered);
-        told_as(answered)
+        answer(self.seats.as_mut_slice(), s, &situation, text)
+    }
+
+    /// Does what a command asks of the program.
+    fn follow(&mut self, asks: Asks)
+        requires { self.old.broken ≡ false }
+        ensures means { (taken : List (List ℕ)) → meaning_with self.new taken ≡ less self.new.meaning.seats (asked (protocol self.old.scripts) (asks_to_resume asks) (asks_to_wake asks) (meaning_with self.old taken)) }
+        ensures stays { is_paused self.new.meaning ≡ true → (self.new.meaning.seats ≡ self.old.meaning.seats) × (self.new.meaning.stop ≡ self.old.meaning.stop) }
+        ensures scripts { self.new.scripts ≡ self.old.scripts }
+        ensures works { self.new.broken ≡ self.old.broken }
+    {
+        match asks {
+            Asks::Resume => self.resume(),
+            Asks::Wake => self.begin(),
+            Asks::Nothing => self.settle(),
+            Asks::Leave => self.settle(),
+        }
+    }
+
+    /// A program that waits for a client begins.
+    fn begin(&mut self)
+        requires { self.old.broken ≡ false }
+        ensures means { (taken : List (List ℕ)) → meaning_with self.new taken ≡ less self.new.meaning.seats (asked (protocol self.old.scripts) false true (meaning_with self.old taken)) }
+        ensures stays { is_paused self.new.meaning ≡ true → (self.new.meaning.seats ≡ self.old.meaning.seats) × (self.new.meaning.stop ≡ self.old.meaning.stop) }
+        ensures scripts { self.new.scripts ≡ self.old.scripts }
+        ensures works { self.new.broken ≡ self.old.broken }
+    {
+        self.phase = woken(self.phase);
+        self.settle();
+    }
+
+    /// Detaches this session.
+    fn leave(&mut self, s: u64)
+        requires { is_attached (seat_of s self.old.meaning.seats) ≡ true }
+        ensures leaves { Leaves self.old (Detach s) self.new }
+        ensures works { self.old.broken ≡ false }
+    {
+        leave(self.seats.as_mut_slice(), s);
+        self.settle();
+    }
+
+    /// Tells the owner of this session of its loss, if it was lost and that wasn't told.
+    fn tell_loss(&mut self, s: u64) -> Option<SessionLost>
+        requires { is_attached (seat_of s self.old.meaning.seats) ≡ false }
+        ensures told { result ≡ loss_told s (seat_of s self.old.meaning.seats) }
+        ensures stands { CarriesOn self.old (Detach s) self.new }
+    {
+        tell_loss(self.seats.as_mut_slice(), s)
+    }
+
+    /// A paused program goes on, and all sessions are told.
+    fn resume(&mut self)
+        requires { self.old.broken ≡ false }
+        ensures means { (taken : List (List ℕ)) → meaning_with self.new taken ≡ less self.new.meaning.seats (resume (protocol self.old.scripts) (meaning_with self.old taken)) }
+        ensures goes { is_paused self.new.meaning ≡ false }
+        ensures scripts { self.new.scripts ≡ self.old.scripts }
+        ensures works { self.new.broken ≡ self.old.broken }
+    {
+        if self.stop.is_some() {
+            self.stop = None;
+            resume_all(self.seats.as_mut_slice());
+        }
+    }
+
+    /// A paused program goes on where no session has the debugger enabled.
+    fn settle(&mut self)
+        requires { self.old.broken ≡ false }
+        ensures means { (taken : List (List ℕ)) → meaning_with self.new taken ≡ less self.new.meaning.seats (settle (protocol self.old.scripts) (meaning_with self.old taken)) }
+        ensures stays { is_paused self.new.meaning ≡ true → self.new ≡ self.old }
+        ensures scripts { self.new.scripts ≡ self.old.scripts }
+        ensures works { self.new.broken ≡ self.old.broken }
+    {
+        if !some_enabled(self.seats.as_slice()) {
+            self.resume();
+        }
     }
 }
 
 impl Host {
     /// Makes the longest run of at most `n` steps at a moment, in milliseconds since the epoch: it ends earlier only where the
-    /// program isn't ready any more. It tells of a session that was lost. A run that makes no step needs no memory. After an
-    /// error the host is broken and its session is detached.
+    /// program isn't ready any more. It tells of the sessions that were lost. After an error the host is broken and all sessions
+    /// are lost.
+    ///
+    /// # Errors
+    ///
+    /// There is no memory for a step or for the lists of the answer.
     pub fn run(&mut self, n: u64, moment: u64) -> Result<Ran, AllocError>
         requires { moment < 2 ^ 53 }
-        // The program is so many steps further, and what they printed is handed out.
-        ensures host { IfOk result (λ ran. (taken : List (List ℕ)) → meaning_with self.new (taken ++ ran.printed.items) ≡ reported (after_steps self.old.scripts moment ran.steps (meaning_with self.old taken))) }
-        ensures printed { self.old.broken ≡ false → IfOk result (λ ran. (taken : List (List ℕ)) → ran.printed.items ≡ printed_in self.old.scripts moment ran.steps (meaning_with self.old taken)) }
-        ensures lost { IfOk result (λ ran. (taken : List (List ℕ)) → ran.lost ≡ (after_steps self.old.scripts moment ran.steps (meaning_with self.old taken)).lost) }
+        ensures runs { self.old.broken ≡ false → IfOk result (λ ran. (taken : List (List ℕ))
+            → RunsTo self.old.scripts moment n (meaning_with self.old taken) ran.steps ran.printed.items ran.lost.items (meaning_with self.new (taken ++ ran.printed.items))) }
         ensures same { IfOk result (λ ran. self.new.broken ≡ self.old.broken) }
         ensures scripts { self.new.scripts ≡ self.old.scripts }
         ensures broken { self.old.broken ≡ true → IfOk result (λ ran. ran.steps ≡ 0) }
-        ensures longest { self.old.broken ≡ false → IfOk result (λ ran. (taken : List (List ℕ)) → ran.steps ≡ longest self.old.scripts moment n (meaning_with self.old taken)) }
-        ensures is_longest { self.old.broken ≡ false → IfOk result (λ ran. (taken : List (List ℕ)) → IsLongest self.old.scripts moment n (meaning_with self.old taken) ran.steps) }
-        ensures stops { self.old.broken ≡ false → IfOk result (λ ran. (taken input : List (List ℕ)) (made : ℕ) → (meaning_with self.old taken).program ≡ plain made self.old.scripts input
-            → StopsExactly self.old.scripts input moment made (meaning_with self.old taken) ran.steps) }
-        // Where the session asks for one step and for nothing else, the program stops at the first arrival that ends it.
-        ensures steps { self.old.broken ≡ false → IfOk result (λ ran. (taken input : List (List ℕ)) (made : ℕ) → (meaning_with self.old taken).program ≡ plain made self.old.scripts input
-            → is_woken self.old.meaning.phase ≡ false → (x : Kept) (kind : StepKind) (depth : ℕ) → self.old.meaning.session ≡ Some x → StepsAlone x kind depth
-            → StopsAtFirst kind depth self.old.scripts input moment made (meaning_with self.old taken) ran.steps) }
-        ensures err { OnErr result ((self.new.broken ≡ true) × (self.new.meaning.session ≡ None)) }
-        ensures sessions { self.new.meaning.attached ≡ self.old.meaning.attached }
-        // a run that makes no step needs no memory
+        ensures err { OnErr result ((self.new.broken ≡ true) × NoneAttached self.new.meaning.seats) }
         ensures err_works { OnErr result (self.old.broken ≡ false) }
-        ensures err_steps { OnErr result ((taken : List (List ℕ)) → 0 < longest self.old.scripts moment n (meaning_with self.old taken)) }
-        ensures stands { IfOk result (λ ran. (scripts : List AnyScript) (input : List (List ℕ)) (wait : Bool) (history : List Entry) → Stands scripts input wait self.old history
-            → Stands scripts input wait self.new (history ++ RanEntry ran.steps moment ∷ [])) }
-        ensures stands_err { OnErr result ((scripts : List AnyScript) (input : List (List ℕ)) (wait : Bool) (history : List Entry) → Stands scripts input wait self.old history
-            → Stands scripts input wait self.new (history ++ Detach self.old.meaning.attached ∷ [])) }
+        ensures stands { IfOk result (λ ran. CarriesOn self.old (RanEntry ran.steps moment (lost_for_memory ran.lost.items)) self.new) }
+        ensures stands_err { OnErr result (CarriesOn self.old (RanEntry 0 moment (everybody self.old)) self.new) }
+    {
+        if self.broken {
+            return Ok(Ran {
+                steps: 0,
+                printed: Vec::new(self.alloc),
+                lost: Vec::new(self.alloc),
+            });
+        }
+        match self.try_run(n, moment) {
+            Ok(ran) => Ok(ran),
+            Err(error) => {
+                self.broken = true;
+                break_all(self.seats.as_mut_slice());
+                Err(error)
+            }
+        }
+    }
+
+    /// The same of a host that works. After an error it may not.
+    fn try_run(&mut self, n: u64, moment: u64) -> Result<Ran, AllocError>
+        requires moment { moment < 2 ^ 53 }
+        requires works { self.old.broken ≡ false }
+        ensures runs { IfOk result (λ ran. (taken : List (List ℕ))
+            → RunsTo self.old.scripts moment n (meaning_with self.old taken) ran.steps ran.printed.items ran.lost.items (meaning_with self.new (taken ++ ran.printed.items))) }
+        ensures same { IfOk result (λ ran. self.new.broken ≡ false) }
+        ensures scripts { self.new.scripts ≡ self.old.scripts }
     {
         let Made { steps, printed } = self.make(n, moment)?;
-        let lost = self.lost.take();
+        let lost = losses_of(self.alloc, self.seats.as_slice())?;
+        report_all(self.seats.as_mut_slice());
+        self.settle();
         Ok(Ran {
             steps,
             printed,
@@ -335,25 +469,20 @@ impl Host {
         })
     }
 
-    /// The same without telling of a lost session.
+    /// The same without reporting the losses.
     fn make(&mut self, n: u64, moment: u64) -> Result<Made, AllocError>
-        requires { moment < 2 ^ 53 }
-        ensures host { IfOk result (λ ran. (taken : List (List ℕ)) → meaning_with self.new (taken ++ ran.printed.items) ≡ after_steps self.old.scripts moment ran.steps (meaning_with self.old taken)) }
-        ensures printed { self.old.broken ≡ false → IfOk result (λ ran. (taken : List (List ℕ)) → ran.printed.items ≡ printed_in self.old.scripts moment ran.steps (meaning_with self.old taken)) }
-        ensures same { IfOk result (λ ran. self.new.broken ≡ self.old.broken) }
-        ensures handed { IfOk result (λ ran. self.new.broken ≡ false → self.new.meaning.program.machine.context.printed ≡ []) }
+        requires moment { moment < 2 ^ 53 }
+        requires works { self.old.broken ≡ false }
+        ensures makes { IfOk result (λ ran. (taken : List (List ℕ)) → IsLongest (protocol self.old.scripts) moment n (meaning_with self.old taken) (meaning_with self.new (taken ++ ran.printed.items)) ran.steps) }
+        ensures printed { IfOk result (λ ran. (taken : List (List ℕ)) → ran.printed.items ≡ printed_between (meaning_with self.old taken).program (meaning_with self.new (taken ++ ran.printed.items)).program) }
+        ensures same { IfOk result (λ ran. self.new.broken ≡ false) }
         ensures scripts { self.new.scripts ≡ self.old.scripts }
-        ensures broken { self.old.broken ≡ true → IfOk result (λ ran. ran.steps ≡ 0) }
-        ensures is_longest { self.old.broken ≡ false → IfOk result (λ ran. (taken : List (List ℕ)) → IsLongest self.old.scripts moment n (meaning_with self.old taken) ran.steps) }
-        ensures err { OnErr result ((self.new.broken ≡ true) × (self.new.meaning.session ≡ None)) }
-        ensures sessions { self.new.meaning.attached ≡ self.old.meaning.attached }
-        ensures err_works { OnErr result (self.old.broken ≡ false) }
-        ensures err_steps { OnErr result ((taken : List (List ℕ)) → 0 < longest self.old.scripts moment n (meaning_with self.old taken)) }
     {
         let mut printed = Vec::new(self.alloc);
+        let mut named = unset_flags(self.alloc, self.seats.len())?;
         let mut left = n;
         while self.may_step(left) {
-            left -= self.advance(left, moment, &mut printed)?;
+            left -= self.advance(left, moment, &mut printed, named.as_mut_slice())?;
         }
         Ok(Made {
             steps: n - left,
@@ -361,25 +490,26 @@ impl Host {
         })
     }
 
-    /// Makes steps, at least one, until the program stops, raises, prints or ends, until its session is lost, or until so many
-    /// are made; what it prints comes behind the other texts. After an error the host is broken and its session is detached.
+    /// Makes steps, at least one, until the program stops, raises, prints or ends, until a session is lost, or until so many
+    /// are made; what it prints comes behind the other texts. After an error the host is broken and all sessions are lost.
     fn advance(
         &mut self,
         most: u64,
         moment: u64,
         printed: &mut Vec<Units>,
+        named: &mut [bool],
     ) -> Result<u64, AllocError>
         requires works { self.old.broken ≡ false }
-        requires ready { (taken : List (List ℕ)) → is_ready (meaning_with self.old taken) ≡ true }
+        requires ready { (taken : List (List ℕ)) → is_ready (protocol self.old.scripts) (meaning_with self.old taken) ≡ true }
         requires some { 0 < most }
         requires moment { moment < 2 ^ 53 }
-        ensures made { IfOk result (λ steps. (taken : List (List ℕ)) → HasMade self.old.scripts moment (meaning_with self.old (taken ++ printed.old.items)) (meaning_with self.new (taken ++ printed.new.items)) steps) }
+        requires flags { length named.old ≡ length self.old.meaning.seats }
+        ensures made { IfOk result (λ steps. (taken : List (List ℕ)) → HasMade (protocol self.old.scripts) moment (meaning_with self.old (taken ++ printed.old.items)) (meaning_with self.new (taken ++ printed.new.items)) steps) }
         ensures counts { IfOk result (λ steps. IsStretch most steps) }
         ensures same { OnOk result (self.new.broken ≡ false) }
         ensures handed { OnOk result (self.new.meaning.program.machine.context.printed ≡ []) }
+        ensures flags { OnOk result (length named.new ≡ length self.new.meaning.seats) }
         ensures scripts { self.new.scripts ≡ self.old.scripts }
-        ensures sessions { self.new.meaning.attached ≡ self.old.meaning.attached }
-        ensures err { OnErr result ((self.new.broken ≡ true) × (self.new.meaning.session ≡ None)) }
     {
         match advance(
             &mut self.machine,
@@ -387,23 +517,23 @@ impl Host {
             self.scripts.as_slice(),
             self.lines.as_slice(),
             &self.spots,
-            is_woken(self.phase),
+            is_first(self.phase),
             self.stops,
-            &mut self.session,
+            self.seats.as_mut_slice(),
+            named,
             most,
             moment,
             printed,
         ) {
-            Ok(Advanced { steps, watched }) => {
+            Ok(Advanced { steps, stopped }) => {
                 self.phase = Phase::Running;
-                self.stop = pause_from(self.stops, watched);
-                self.stops = stops_from(self.stops, watched);
-                self.lost = lost_from(self.attached, None, watched);
+                self.stop = pause_behind(self.stops, stopped);
+                self.stops = stops_behind(self.stops, stopped);
                 Ok(steps)
             }
             Err(error) => {
                 self.broken = true;
-                self.session = None;
+                break_all(self.seats.as_mut_slice());
                 Err(error)
             }
         }
@@ -411,14 +541,14 @@ impl Host {
 
     /// Whether one of so many steps that are left may be made.
     fn may_step(&self, left: u64) -> bool
-        ensures { (taken : List (List ℕ)) → result ≡ (nat_lt 0 left && (not self.now.broken && is_ready (meaning_with self.now taken))) }
+        ensures { (taken : List (List ℕ)) → result ≡ (nat_lt 0 left && (not self.now.broken && is_ready (protocol self.now.scripts) (meaning_with self.now taken))) }
     {
         left > 0 && self.is_ready()
     }
 
     /// Whether the next step may be made.
     fn is_ready(&self) -> bool
-        ensures { (taken : List (List ℕ)) → result ≡ (not self.now.broken && is_ready (meaning_with self.now taken)) }
+        ensures { (taken : List (List ℕ)) → result ≡ (not self.now.broken && is_ready (protocol self.now.scripts) (meaning_with self.now taken)) }
     {
         !self.broken && self.goes_on()
     }
@@ -430,16 +560,23 @@ impl Host {
         self.stop.is_some()
     }
 
-    /// Whether the program is paused, or waits for a client, or a session was lost and no run has told it.
+    /// Whether the program is paused, or waits for a client, or was shut, or a session was lost and no run has told of it.
     fn is_held(&self) -> bool
         ensures { result ≡ is_held self.now.meaning }
     {
-        self.is_paused() || waits(self.phase) || self.lost.is_some()
+        self.is_paused() || (waits(self.phase) || self.is_shut_or_owes_a_report())
+    }
+
+    /// Whether the program was shut, or a session was lost and no run has told of it.
+    fn is_shut_or_owes_a_report(&self) -> bool
+        ensures { result ≡ (self.now.meaning.shut || some waits_for_report self.now.meaning.seats) }
+    {
+        self.shut || some_wait_for_report(self.seats.as_slice())
     }
 
     /// Whether the program is neither held nor over.
     fn goes_on(&self) -> bool
-        ensures { self.now.broken ≡ false → (taken : List (List ℕ)) → result ≡ is_ready (meaning_with self.now taken) }
+        ensures { self.now.broken ≡ false → (taken : List (List ℕ)) → result ≡ is_ready (protocol self.now.scripts) (meaning_with self.now taken) }
     {
         !self.is_held() && !self.is_over()
     }

@@ -5,6 +5,8 @@
 pub enum State {
     /// A run met want of memory: the host makes no further step and attaches nobody.
     Broken,
+    /// The program was shut: it makes no further step.
+    Shut,
     /// The run has ended by a throw that no `catch` took.
     Threw,
     /// The run has ended.

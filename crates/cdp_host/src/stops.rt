@@ -1,13 +1,12 @@
 //! What a host keeps beside its program behind a step.
 
-ghost use Rattle.std.specs.Prelude.{◌≡◌};
-ghost use Rattle.cdp_host.specs.Histories.{woken_by};
-ghost use Rattle.cdp_host.specs.Meaning.{is_woken, lost_from, next_number, pause_from, phase_of, stops_from, waits};
+ghost use Rattle.std.specs.Prelude.{◌≡◌, is_some, if◌then◌else◌};
+ghost use Rattle.std.specs.Option.{option_map};
+ghost use Rattle.isolation.specs.Meanings.{is_first, next_number, phase_of, waits, woken};
+ghost use Rattle.cdp_host.specs.Hosts.{pause_behind};
 
-use crate::phase::Phase;
-use crate::watched::Watched;
-use cdp_session::asks::Asks;
 use cdp_session::situation::Pause;
+use isolation::Phase;
 
 /// The greatest number of a stop.
 const GREATEST_STOP: u64 = 1 << 62;
@@ -23,36 +22,26 @@ pub(crate) fn next_number(stops: u64) -> u64
     }
 }
 
-/// The pause behind so many stops, where a step did this.
-pub(crate) fn pause_from(stops: u64, watched: Watched) -> Option<Pause>
-    ensures { result ≡ pause_from stops watched }
+/// The stop behind so many, where a step stopped the program with so many calls active.
+pub(crate) fn pause_behind(stops: u64, stopped: Option<usize>) -> Option<Pause>
+    ensures { result ≡ option_map (pause_behind stops) stopped }
 {
-    match watched {
-        Watched::Stopped(depth) => Some(Pause {
+    match stopped {
+        Some(depth) => Some(Pause {
             number: next_number(stops),
             depth,
         }),
-        Watched::Passed | Watched::Lost => None,
+        None => None,
     }
 }
 
-/// How many stops there are behind so many, where a step did this.
-pub(crate) fn stops_from(stops: u64, watched: Watched) -> u64
-    ensures { result ≡ stops_from stops watched }
+/// How many stops there are behind so many, where a step stopped the program or didn't.
+pub(crate) fn stops_behind(stops: u64, stopped: Option<usize>) -> u64
+    ensures { result ≡ (if is_some stopped then next_number stops else stops) }
 {
-    match watched {
-        Watched::Stopped(_) => next_number(stops),
-        Watched::Passed | Watched::Lost => stops,
-    }
-}
-
-/// Which session is lost, where a step did this; the one that is attached has this number, and this one was lost before.
-pub(crate) fn lost_from(attached: u64, lost: Option<u64>, watched: Watched) -> Option<u64>
-    ensures { result ≡ lost_from attached lost watched }
-{
-    match watched {
-        Watched::Lost => Some(attached),
-        Watched::Passed | Watched::Stopped(_) => lost,
+    match stopped {
+        Some(_) => next_number(stops),
+        None => stops,
     }
 }
 
@@ -75,22 +64,22 @@ pub(crate) fn waits(phase: Phase) -> bool
     }
 }
 
-/// Whether the next step is the first of a program that a client let begin.
-pub(crate) fn is_woken(phase: Phase) -> bool
-    ensures { result ≡ is_woken phase }
+/// Whether the next step is the first of a program that waited for a client.
+pub(crate) fn is_first(phase: Phase) -> bool
+    ensures { result ≡ is_first phase }
 {
     match phase {
-        Phase::Woken => true,
-        Phase::Waiting | Phase::Running => false,
+        Phase::Waiting | Phase::Woken => true,
+        Phase::Running => false,
     }
 }
 
-/// How far a program has begun behind a command that asks for this.
-pub(crate) fn woken_by(asks: Asks, phase: Phase) -> Phase
-    ensures { result ≡ woken_by asks phase }
+/// A program that waits begins.
+pub(crate) fn woken(phase: Phase) -> Phase
+    ensures { result ≡ woken phase }
 {
-    match (asks, phase) {
-        (Asks::Wake, Phase::Waiting) => Phase::Woken,
-        _ => phase,
+    match phase {
+        Phase::Waiting | Phase::Woken => Phase::Woken,
+        Phase::Running => Phase::Running,
     }
 }

@@ -1,141 +1,163 @@
-//! A command of the session that is attached.
+//! What one session is told, and what it hands out.
 
-ghost use Rattle.std.specs.Prelude.{◌≡◌, ◌≢◌, true, false, is_some, IfOk, OnOk, IsErrOf, None, Some};
-ghost use Rattle.cdp_session.specs.Outboxes.{fits};
+ghost use Rattle.std.specs.Prelude.{◌≡◌, [], true, IfSome, IfNone, List, map, string_bytes};
+ghost use Rattle.isolation.specs.Seats.{is_attached, put, seat_of};
+ghost use Rattle.isolation.specs.declared.seat.Seat.TheVariants.{Attached, Left};
 ghost use Rattle.cdp_session.specs.Replies.{answer_of};
-ghost use Rattle.cdp_session.specs.Sessions.{Session as Kept};
+ghost use Rattle.cdp_session.specs.Sessions.{Session as Kept, emptied};
 ghost use Rattle.cdp_session.specs.Situations.{HasSpots, seen};
-ghost use Rattle.cdp_host.specs.Histories.{goes_on};
-ghost use Rattle.cdp_host.specs.Hosts.{TextsFit};
-ghost use Rattle.cdp_host.specs.Watching.{answered_by, lost_behind, phase_behind, session_left, session_told, stop_behind};
+ghost use Rattle.cdp_host.specs.Watching.{AnswersAs, AnswersIn, IsPlace, is_forgotten, loss_told, owner_told};
 
-use crate::phase::Phase;
-use crate::stops::woken_by;
+use crate::losses::SessionLost;
 use cdp_session::asks::Asks;
 use cdp_session::program::Program;
 use cdp_session::session::Session;
 use cdp_session::session_end::SessionEnd;
-use cdp_session::situation::{Pause, Situation};
+use cdp_session::situation::Situation;
+use isolation::{Loss, Seat};
+use std::alloc::Global;
 
-/// What became of a command.
+/// What became of a text.
 #[derive(Clone, Copy, Debug, PartialEq, Eq)]
 pub(crate) enum Answered {
-    /// The program stays where it is; the command asks for this.
-    Stays(Asks),
-    /// The program goes on, and the session was told so.
-    GoesOn,
-    /// The program goes on, and the event of that didn't fit: the session is lost.
-    Lost,
+    /// It was answered, and asks this of the program.
+    Kept(Asks),
     /// The texts of the answer didn't fit: the session is detached.
     Overran,
-    /// There was no memory for a text: the session is detached.
+    /// There was no memory for the answer: the session is detached.
     Failed,
 }
 
-/// Whether a paused program goes on for this. One session at most is attached, so no other one keeps it paused.
-fn goes_on(asks: Asks) -> bool
-    ensures { result ≡ goes_on asks }
+/// The place of the seat of the session of this number, if it has one.
+pub(crate) fn place_of(seats: &[Seat<Session>], s: u64) -> Option<usize>
+    ensures some { IfSome result (λ i. IsPlace s i seats.now) }
+    ensures none { IfNone result (seat_of s seats.now ≡ Left) }
 {
-    match asks {
-        Asks::Nothing | Asks::Wake => false,
-        Asks::Resume | Asks::Leave => true,
+    let index = (s as usize).checked_sub(1)?;
+    if index < seats.len() {
+        Some(index)
+    } else {
+        None
     }
 }
 
-/// Answers a text of a session, and tells it of a resume that its command asks for. Where it is lost, it is to be dropped.
-///
-/// # Errors
-///
-/// The texts of the answer don't fit, or there is no memory for a text. The session is to be dropped.
-fn tell_session<P: Program>(
-    session: &mut Session,
-    situation: &Situation<'_, P>,
-    text: &str,
-) -> Result<Answered, SessionEnd>
-    requires { HasSpots situation.now }
-    ensures answered { IfOk result (λ a. a ≡ answered_by situation.now.paused (answer_of (seen P.standing situation.now) session.old text.now)) }
-    ensures session { IfOk result (λ a. a ≢ Answered.Lost → session.new ≡ session_told situation.now.paused (answer_of (seen P.standing situation.now) session.old text.now)) }
-    ensures kept { IfOk result (λ a. a ≢ Answered.Lost → fits session.new.outbox ≡ true) }
-    ensures fits { OnOk result (fits (answer_of (seen P.standing situation.now) session.old text.now).session.outbox ≡ true) }
-    ensures over { IsErrOf result SessionEnd.Overrun → fits (answer_of (seen P.standing situation.now) session.old text.now).session.outbox ≡ false }
-{
-    let asks = session.tell(situation, text)?;
-    if situation.paused.is_none() || !goes_on(asks) {
-        return Ok(Answered::Stays(asks));
-    }
-    match session.resumed() {
-        Ok(()) => Ok(Answered::GoesOn),
-        Err(SessionEnd::Overrun) => Ok(Answered::Lost),
-        Err(SessionEnd::Memory) => Err(SessionEnd::Memory),
-    }
-}
-
-/// Whether the session is to be dropped.
-fn is_lost(answered: Answered) -> bool
-    ensures lost { result ≡ true → answered ≡ Answered.Lost }
-    ensures kept { result ≡ false → answered ≢ Answered.Lost }
-{
-    match answered {
-        Answered::Lost => true,
-        Answered::Stays(_) | Answered::GoesOn | Answered::Overran | Answered::Failed => false,
-    }
-}
-
-/// Answers a text of the session that is attached, and tells it of a resume that its command asks for. It stays attached where
-/// all that it is told fits.
-pub(crate) fn answer<P: Program>(
-    session: &mut Option<Session>,
+/// Answers a text of the session of a seat. It is detached where the texts of the answer don't fit, or where there is no memory
+/// for them.
+fn answer_seat<P: Program>(
+    seat: &mut Seat<Session>,
     situation: &Situation<'_, P>,
     text: &str,
 ) -> Answered
-    requires spots { HasSpots situation.now }
-    requires there { is_some session.old ≡ true }
-    ensures answered { result ≢ Answered.Failed → (x : Kept) → session.old ≡ Some x → result ≡ answered_by situation.now.paused (answer_of (seen P.standing situation.now) x text.now) }
-    ensures session { result ≢ Answered.Failed → (x : Kept) → session.old ≡ Some x → session.new ≡ session_left situation.now.paused (answer_of (seen P.standing situation.now) x text.now) }
-    ensures failed { result ≡ Answered.Failed → session.new ≡ None }
-    ensures fit { TextsFit session.new }
+    requires { HasSpots situation.now }
+    ensures { (x : Kept) → seat.old ≡ Attached x → AnswersAs result (answer_of (seen P.standing situation.now) x text.now) seat.new }
 {
-    let Some(mut telling) = session.take() else {
+    let Seat::Attached(session) = seat else {
         return Answered::Failed;
     };
-    match tell_session(&mut telling, situation, text) {
-        Ok(answered) => {
-            if !is_lost(answered) {
-                *session = Some(telling);
-            }
-            answered
+    match session.tell(situation, text) {
+        Ok(asks) => Answered::Kept(asks),
+        Err(SessionEnd::Overrun) => {
+            *seat = Seat::Left;
+            Answered::Overran
         }
-        Err(SessionEnd::Overrun) => Answered::Overran,
-        Err(SessionEnd::Memory) => Answered::Failed,
+        Err(SessionEnd::Memory) => {
+            *seat = Seat::Left;
+            Answered::Failed
+        }
     }
 }
 
-/// How far a program has begun behind a command.
-pub(crate) fn phase_behind(phase: Phase, answered: Answered) -> Phase
-    ensures { result ≡ phase_behind phase answered }
+/// Answers a text of the session of this number.
+pub(crate) fn answer<P: Program>(
+    seats: &mut [Seat<Session>],
+    s: u64,
+    situation: &Situation<'_, P>,
+    text: &str,
+) -> Answered
+    requires { HasSpots situation.now }
+    ensures { (x : Kept) → seat_of s seats.old ≡ Attached x → AnswersIn result (answer_of (seen P.standing situation.now) x text.now) s seats.old seats.new }
 {
-    match answered {
-        Answered::Stays(asks) => woken_by(asks, phase),
-        Answered::GoesOn | Answered::Lost | Answered::Overran | Answered::Failed => phase,
+    match place_of(seats, s) {
+        Some(index) => answer_seat(&mut seats[index], situation, text),
+        None => Answered::Failed,
     }
 }
 
-/// Where a program is paused behind a command, if it is.
-pub(crate) fn stop_behind(stop: Option<Pause>, answered: Answered) -> Option<Pause>
-    ensures { result ≡ stop_behind stop answered }
+/// Hands out the texts that wait for the session of a seat.
+fn take_seat(alloc: Global, seat: &mut Seat<Session>) -> Vec<String>
+    ensures texts { (x : Kept) → seat.old ≡ Attached x → map string_bytes result.items ≡ x.outbox }
+    ensures seat { (x : Kept) → seat.old ≡ Attached x → seat.new ≡ Attached (emptied x) }
 {
-    match answered {
-        Answered::Stays(_) => stop,
-        Answered::GoesOn | Answered::Lost | Answered::Overran | Answered::Failed => None,
+    match seat {
+        Seat::Attached(session) => session.take(),
+        Seat::Lost { .. } | Seat::Left => Vec::new(alloc),
     }
 }
 
-/// Which session is lost behind a command; the one that is attached has this number.
-pub(crate) fn lost_behind(attached: u64, lost: Option<u64>, answered: Answered) -> Option<u64>
-    ensures { result ≡ lost_behind attached lost answered }
+/// Hands out the texts that wait for the session of this number.
+pub(crate) fn take(alloc: Global, seats: &mut [Seat<Session>], s: u64) -> Vec<String>
+    ensures texts { (x : Kept) → seat_of s seats.old ≡ Attached x → map string_bytes result.items ≡ x.outbox }
+    ensures seats { (x : Kept) → seat_of s seats.old ≡ Attached x → seats.new ≡ put s (Attached (emptied x)) seats.old }
 {
-    match answered {
-        Answered::Lost => Some(attached),
-        Answered::Stays(_) | Answered::GoesOn | Answered::Overran | Answered::Failed => lost,
+    match place_of(seats, s) {
+        Some(index) => take_seat(alloc, &mut seats[index]),
+        None => Vec::new(alloc),
+    }
+}
+
+/// Detaches the session of this number.
+pub(crate) fn leave(seats: &mut [Seat<Session>], s: u64)
+    ensures { seats.new ≡ put s Left seats.old }
+{
+    if let Some(index) = place_of(seats, s) {
+        seats[index] = Seat::Left;
+    }
+}
+
+/// Tells the owner of a seat of the loss of its session, if it was lost and that wasn't told. Of a loss that its owner was told
+/// before a run reported it, for want of memory in a resume, no run tells.
+fn tell_loss_of(session: u64, seat: &mut Seat<Session>) -> Option<SessionLost>
+    ensures told { result ≡ loss_told session seat.old }
+    ensures seat { seat.new ≡ owner_told seat.old }
+{
+    let Seat::Lost {
+        loss,
+        reported,
+        told,
+    } = seat
+    else {
+        return None;
+    };
+    let lost = SessionLost {
+        session,
+        loss: *loss,
+    };
+    let is_new = !*told;
+    if is_forgotten(*loss, *reported) {
+        *seat = Seat::Left;
+    } else {
+        *told = true;
+    }
+    if is_new { Some(lost) } else { None }
+}
+
+/// Whether a loss leaves no trace once its owner was told of it.
+fn is_forgotten(loss: Loss, reported: bool) -> bool
+    ensures { result ≡ is_forgotten loss reported }
+{
+    match loss {
+        Loss::Memory => !reported,
+        Loss::Overrun => false,
+    }
+}
+
+/// Tells the owner of the seat of this number of the loss of its session, if it was lost and that wasn't told.
+pub(crate) fn tell_loss(seats: &mut [Seat<Session>], s: u64) -> Option<SessionLost>
+    ensures told { result ≡ loss_told s (seat_of s seats.old) }
+    ensures seats { seats.new ≡ put s (owner_told (seat_of s seats.old)) seats.old }
+{
+    match place_of(seats, s) {
+        Some(index) => tell_loss_of(s, &mut seats[index]),
+        None => None,
     }
 }

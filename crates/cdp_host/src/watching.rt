@@ -1,20 +1,22 @@
-//! How a session watches the steps of a program.
+//! How sessions watch the steps of a program.
 
-ghost use Rattle.std.specs.Prelude.{◌≡◌, ◌<◌, ◌^◌, true, false, IfOk, OnOk, IsErrOf, None, Some, if◌then◌else◌};
-ghost use Rattle.std.specs.Option.{option_map_or};
+ghost use Rattle.std.specs.Prelude.{◌≡◌, ◌<◌, ◌^◌, length, true, false, IfOk, OnOk, IsErrOf, None};
+ghost use Rattle.isolation.specs.Passes.{Behind, HearsOf, Over, Watches, any_set};
+ghost use Rattle.isolation.specs.Runs.{AllFit};
+ghost use Rattle.isolation.specs.Texts.{Fits};
 ghost use Rattle.cdp_session.specs.Outboxes.{fits};
 ghost use Rattle.cdp_session.specs.Situations.{seen};
-ghost use Rattle.cdp_host.specs.Hosts.{TextsFit};
-ghost use Rattle.cdp_host.specs.Meaning.{kept_behind, watched};
+ghost use Rattle.cdp_host.specs.Protocols.{protocol};
 ghost use Rattle.cdp_host.specs.Steps.{end_told, is_started, names, print_told, session_behind, told};
 ghost use Rattle.cdp_host.specs.Watching.{step_seen};
 
-use crate::watched::Watched;
+use crate::seats::lost_by;
 use cdp_session::ending::Ending;
 use cdp_session::program::Program;
 use cdp_session::session::Session;
 use cdp_session::session_end::SessionEnd;
 use cdp_session::situation::Situation;
+use isolation::Seat;
 use js_heap::value::Value;
 use std::alloc::AllocError;
 use stepping::arrival::Arrival;
@@ -120,7 +122,7 @@ fn names<P: Program>(
     Ok(cause.is_some() || is_started(session, situation, step))
 }
 
-/// Tells a session of a step, and of the stop of this number where it names one; answers the depth of the stop, if it names one.
+/// Tells a session of a step, and of the stop of this number where it names one; answers whether it names one.
 ///
 /// # Errors
 ///
@@ -131,9 +133,9 @@ fn watch<P: Program>(
     number: u64,
     step: &Step,
     moment: u64,
-) -> Result<Option<usize>, SessionEnd>
+) -> Result<bool, SessionEnd>
     requires { moment < 2 ^ 53 }
-    ensures depth { IfOk result (λ depth. depth ≡ (if names (step_seen P.standing situation.now step.now) session.old then Some step.now.arrival.depth else None)) }
+    ensures named { IfOk result (λ named. named ≡ names (step_seen P.standing situation.now step.now) session.old) }
     ensures session { OnOk result (session.new ≡ session_behind (seen P.standing situation.now) number moment (step_seen P.standing situation.now step.now) session.old) }
     ensures fits { fits session.old.outbox ≡ true → OnOk result (fits (session_behind (seen P.standing situation.now) number moment (step_seen P.standing situation.now step.now) session.old).outbox ≡ true) }
     ensures over { IsErrOf result SessionEnd.Overrun → fits (session_behind (seen P.standing situation.now) number moment (step_seen P.standing situation.now step.now) session.old).outbox ≡ false }
@@ -141,51 +143,135 @@ fn watch<P: Program>(
     tell_step(session, situation, step, moment)?;
     let named = names(session, situation, step)?;
     if !named {
-        return Ok(None);
+        return Ok(false);
     }
     session.stopped(situation, number, &step.arrival)?;
-    Ok(Some(step.arrival.depth))
+    Ok(true)
 }
 
-/// What a step did to a session that watched it, and that named a stop at this depth or none.
-fn watched_at(depth: Option<usize>) -> Watched
-    ensures { result ≡ option_map_or Watched.Stopped depth Watched.Passed }
-{
-    match depth {
-        Some(depth) => Watched::Stopped(depth),
-        None => Watched::Passed,
-    }
-}
+// ---- seats
 
-/// Lets the session that is attached, if one is, watch a step: it is told of the step, and stops the program where it names a
-/// stop, which has this number. A session whose texts don't fit is lost.
-///
-/// # Errors
-///
-/// There is no memory for a text or for the evaluation of a condition. The session is dropped.
-pub(crate) fn let_watch<P: Program>(
-    session: &mut Option<Session>,
+/// Lets the session of a seat, if one is attached there, watch a step: it is told of the step, and of the stop of this number
+/// where it names one. Answers whether it does. It is lost where its texts don't fit, or where there is no memory for them.
+fn watch_seat<P: Program>(
+    seat: &mut Seat<Session>,
     situation: &Situation<'_, P>,
     number: u64,
     step: &Step,
     moment: u64,
-) -> Result<Watched, AllocError>
+) -> bool
     requires moment { moment < 2 ^ 53 }
     requires going { situation.now.paused ≡ None }
-    requires fit { TextsFit session.old }
-    ensures watched { IfOk result (λ w. w ≡ watched situation.now.scripts.now number moment (step_seen P.standing situation.now step.now) session.old) }
-    ensures session { OnOk result (session.new ≡ kept_behind situation.now.scripts.now number moment (step_seen P.standing situation.now step.now) session.old) }
-    ensures fit { OnOk result (TextsFit session.new) }
+    requires fit { Fits (protocol situation.now.scripts.now) seat.old }
+    ensures { Watches (protocol situation.now.scripts.now) number moment (step_seen P.standing situation.now step.now) seat.old seat.new result }
 {
-    let Some(mut watching) = session.take() else {
-        return Ok(Watched::Passed);
+    let Seat::Attached(session) = seat else {
+        return false;
     };
-    match watch(&mut watching, situation, number, step, moment) {
-        Ok(depth) => {
-            *session = Some(watching);
-            Ok(watched_at(depth))
+    match watch(session, situation, number, step, moment) {
+        Ok(named) => named,
+        Err(end) => {
+            *seat = lost_by(end);
+            false
         }
-        Err(SessionEnd::Overrun) => Ok(Watched::Lost),
-        Err(SessionEnd::Memory) => Err(AllocError),
     }
+}
+
+/// Lets all attached sessions watch a step, and notes for each whether it names a stop. Answers whether one does.
+fn watch_all<P: Program>(
+    seats: &mut [Seat<Session>],
+    named: &mut [bool],
+    situation: &Situation<'_, P>,
+    number: u64,
+    step: &Step,
+    moment: u64,
+) -> bool
+    requires moment { moment < 2 ^ 53 }
+    requires going { situation.now.paused ≡ None }
+    requires fit { AllFit (protocol situation.now.scripts.now) seats.old }
+    requires flags { length named.old ≡ length seats.old }
+    ensures watched { Over (Watches (protocol situation.now.scripts.now) number moment (step_seen P.standing situation.now step.now)) seats.old seats.new named.new }
+    ensures any { result ≡ any_set named.new }
+{
+    for index in 0..seats.len() {
+        named[index] = watch_seat(&mut seats[index], situation, number, step, moment);
+    }
+    is_any_set(named)
+}
+
+/// Whether one of these is set.
+fn is_any_set(flags: &[bool]) -> bool
+    ensures { result ≡ any_set flags.now }
+{
+    for flag in flags {
+        if *flag {
+            return true;
+        }
+    }
+    false
+}
+
+/// Tells the session of a seat, if one is attached there, of the stop of this number, unless it named it. It is lost where the
+/// text doesn't fit, or where there is no memory for it.
+fn stop_seat<P: Program>(
+    seat: &mut Seat<Session>,
+    named: bool,
+    situation: &Situation<'_, P>,
+    number: u64,
+    step: &Step,
+)
+    requires going { situation.now.paused ≡ None }
+    requires fit { Fits (protocol situation.now.scripts.now) seat.old }
+    ensures { HearsOf (protocol situation.now.scripts.now) number (step_seen P.standing situation.now step.now) seat.old seat.new named }
+{
+    if named {
+        return;
+    }
+    if let Seat::Attached(session) = seat {
+        if let Err(end) = session.stopped(situation, number, &step.arrival) {
+            *seat = lost_by(end);
+        }
+    }
+}
+
+/// Tells all attached sessions of the stop of this number but those that named it.
+fn stop_all<P: Program>(
+    seats: &mut [Seat<Session>],
+    named: &[bool],
+    situation: &Situation<'_, P>,
+    number: u64,
+    step: &Step,
+)
+    requires going { situation.now.paused ≡ None }
+    requires fit { AllFit (protocol situation.now.scripts.now) seats.old }
+    requires flags { length named.now ≡ length seats.old }
+    ensures { Over (HearsOf (protocol situation.now.scripts.now) number (step_seen P.standing situation.now step.now)) seats.old seats.new named.now }
+{
+    for index in 0..seats.len() {
+        stop_seat(&mut seats[index], named[index], situation, number, step);
+    }
+}
+
+/// Lets all attached sessions watch a step: each is told of the step, and the program stops, with a stop of this number, exactly
+/// where one names it that isn't lost at it; all are told of the stop then. Answers whether it stops.
+pub(crate) fn let_watch<P: Program>(
+    seats: &mut [Seat<Session>],
+    named: &mut [bool],
+    situation: &Situation<'_, P>,
+    number: u64,
+    step: &Step,
+    moment: u64,
+) -> bool
+    requires moment { moment < 2 ^ 53 }
+    requires going { situation.now.paused ≡ None }
+    requires fit { AllFit (protocol situation.now.scripts.now) seats.old }
+    requires flags { length named.old ≡ length seats.old }
+    ensures behind { Over (Behind (protocol situation.now.scripts.now) result number moment (step_seen P.standing situation.now step.now)) seats.old seats.new named.new }
+    ensures any { result ≡ any_set named.new }
+{
+    let stops = watch_all(seats, named, situation, number, step, moment);
+    if stops {
+        stop_all(seats, named, situation, number, step);
+    }
+    stops
 }

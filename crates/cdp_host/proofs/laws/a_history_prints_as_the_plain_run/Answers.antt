@@ -1,5 +1,5 @@
-use Rattle.cdp_host.proofs.RuleLemmas.{whole-prints}
+use Rattle.cdp_host.proofs.LawLemmas.{prints-plainly}
 use Rattle.cdp_host.proofs.laws.a_history_prints_as_the_plain_run.Goals as goal
 
 pub returns : goal.returns
-returns c = whole-prints
+returns c = prints-plainly

@@ -1,7 +1,7 @@
-use Rattle.cdp_host.specs.Meaning.{begin}
-use Rattle.cdp_host.proofs.ProgramLemmas.{plain-start}
-use Rattle.cdp_host.proofs.RuleLemmas.{fits-stops}
+use Rattle.isolation.proofs.StopLemmas.{stops-exactly}
+use Rattle.cdp_host.specs.Programs.{start}
+use Rattle.cdp_host.specs.Protocols.{protocol}
 use Rattle.cdp_host.proofs.laws.runs_stop_exactly_where_named.Goals as goal
 
 pub returns : goal.returns
-returns c = λ scripts input wait history fits. fits-stops history scripts input 0 (begin scripts input wait) (plain-start scripts input) fits
+returns c = λ scripts input wait history fits. stops-exactly (protocol scripts) (start scripts input) wait history fits

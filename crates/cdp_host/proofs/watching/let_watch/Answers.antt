@@ -1,16 +1,26 @@
-use Rattle.std.proofs.Common.{Option, ap, subst, sym, ◌∙◌}
-use Rattle.cdp_session.specs.Situations.{Situation, seen}
-use Rattle.cdp_session.specs.declared.situation.Pause.{Pause}
-use Rattle.cdp_host.specs.Hosts.{TextsFit}
+use Rattle.std.proofs.Common.{subst, sym, ◌∙◌}
+use Rattle.isolation.specs.Passes.{Behind, Over}
+use Rattle.isolation.proofs.PassLemmas.{behind-passed, behind-stopped}
+use Rattle.cdp_host.specs.Protocols.{protocol}
 use Rattle.cdp_host.specs.Watching.{step_seen}
-use Rattle.cdp_host.proofs.WatchLemmas.{watched-kept}
+use Rattle.cdp_host.proofs.SeatLemmas.{watched-fit}
 use Rattle.cdp_host.proofs.watching.let_watch.Goals as goal
 
-pub returns-in-Ok-clause-watched : goal.returns-in-Ok-clause-watched
-returns-in-Ok-clause-watched g c =
-    let s = seen g.P.Program.standing c.args.situation.now in
+pub stop_all-requires-clause-fit : goal.stop_all-requires-clause-fit
+stop_all-requires-clause-fit g c =
+    watched-fit (protocol c.args.situation.now.scripts.now) c.args.number c.args.moment (step_seen g.P.Program.standing c.args.situation.now c.args.step.now)
+    c.args.seats.now c.watch_all-stops.new.seats c.watch_all-stops.new.named c.watch_all-stops.ensures.watched
+
+pub returns-then-stops-clause-behind : goal.returns-then-stops-clause-behind
+returns-then-stops-clause-behind g c =
+    let P = protocol c.args.situation.now.scripts.now in
     let step = step_seen g.P.Program.standing c.args.situation.now c.args.step.now in
-    let had = sym c.take.ensures.value ∙ c.in-Some.is in
-    let f : Option Pause → Situation = λ p. record { scripts = c.args.situation.now.scripts.now; paused = p; standing = g.P.Program.standing c.args.situation.now.program.now } in
-    watched-kept c.args.situation.now.scripts.now s c.args.number c.args.moment step c.in-Some.watching c.args.session.now c.in-Ok.depth c.watched_at.result (ap f c.requires.going) had
-    c.watched_at.ensures c.in-Ok.ensures.depth (c.in-Ok.ensures.fits (subst TextsFit had c.requires.fit))
+    subst (λ stops. Over (Behind P stops c.args.number c.args.moment step) c.args.seats.now c.stop_all.new.seats c.watch_all-stops.new.named) (sym c.if-stops.true)
+    (behind-stopped P c.args.number c.args.moment step c.args.seats.now c.watch_all-stops.new.seats c.stop_all.new.seats c.watch_all-stops.new.named c.watch_all-stops.ensures.watched c.stop_all.ensures)
+
+pub returns-else-stops-clause-behind : goal.returns-else-stops-clause-behind
+returns-else-stops-clause-behind g c =
+    let P = protocol c.args.situation.now.scripts.now in
+    let step = step_seen g.P.Program.standing c.args.situation.now c.args.step.now in
+    subst (λ stops. Over (Behind P stops c.args.number c.args.moment step) c.args.seats.now c.watch_all-stops.new.seats c.watch_all-stops.new.named) (sym c.if-stops.false)
+    (behind-passed P c.args.number c.args.moment step c.args.seats.now c.watch_all-stops.new.seats c.watch_all-stops.new.named c.watch_all-stops.ensures.watched (sym c.watch_all-stops.ensures.any ∙ c.if-stops.false))

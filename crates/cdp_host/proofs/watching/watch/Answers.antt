@@ -1,4 +1,4 @@
-use Rattle.std.proofs.Common.{rules, ◌≡◌, true, false, if◌then◌else◌, ap, sym, ◌∙◌, Some, None}
+use Rattle.std.proofs.Common.{rules, ◌≡◌, true, false, ap, sym, ◌∙◌}
 use Rattle.cdp_session.specs.Outboxes.{fits}
 use Rattle.cdp_session.specs.Situations.{seen}
 use Rattle.cdp_session.specs.Stops.{stopped}
@@ -16,12 +16,12 @@ returns-in_err-tell_step-clause-over g c = λ is.
 
 -- ---- it names no stop
 
-pub returns-then-not-named-clause-depth : goal.returns-then-not-named-clause-depth
-returns-then-not-named-clause-depth g c =
+pub returns-then-not-named-clause-named : goal.returns-then-not-named-clause-named
+returns-then-not-named-clause-named g c =
     let s = seen g.P.Program.standing c.args.situation.now in
     let step = step_seen g.P.Program.standing c.args.situation.now c.args.step.now in
     let named = names-told s c.args.moment step c.args.session.now c.tell_step.new.session c.in_ok-named.named false c.in_ok-tell_step.ensures.session c.in_ok-named.ensures.named c.if-not-named.true in
-    ap (λ b. if b then Some c.args.step.now.arrival.depth else None) (sym named)
+    sym named
 
 pub returns-then-not-named-clause-session : goal.returns-then-not-named-clause-session
 returns-then-not-named-clause-session g c =
@@ -48,12 +48,12 @@ returns-in_err-stopped-clause-over g c = λ is.
     let over : fits (stopped s c.args.number c.args.step.now.arrival c.names.new.session).outbox ≡ false = search rules in
     ap (λ y. fits y.outbox) (sym (ap (stopped s c.args.number c.args.step.now.arrival) there ∙ behind-named s c.args.number c.args.moment step c.args.session.now named)) ∙ over
 
-pub returns-clause-depth : goal.returns-clause-depth
-returns-clause-depth g c =
+pub returns-clause-named : goal.returns-clause-named
+returns-clause-named g c =
     let s = seen g.P.Program.standing c.args.situation.now in
     let step = step_seen g.P.Program.standing c.args.situation.now c.args.step.now in
     let named = names-told s c.args.moment step c.args.session.now c.tell_step.new.session c.in_ok-named.named true c.in_ok-tell_step.ensures.session c.in_ok-named.ensures.named c.if-not-named.false in
-    ap (λ b. if b then Some c.args.step.now.arrival.depth else None) (sym named)
+    sym named
 
 pub returns-clause-session : goal.returns-clause-session
 returns-clause-session g c =

@@ -1,6 +1,7 @@
-use Rattle.std.proofs.Common.{◌-◌, ◌≡◌, ◌++◌, ◌≤◌, true, false, List, [], ℕ}
+use Rattle.std.proofs.Common.{◌-◌, ◌≡◌, ◌++◌, ◌≤◌, false, length, List, [], ℕ}
+use Rattle.isolation.specs.Runs.{HasMade}
 use Rattle.cdp_host.specs.Hosts.{meaning_with}
-use Rattle.cdp_host.specs.Ran.{HasMade}
+use Rattle.cdp_host.specs.Protocols.{protocol}
 use Rattle.cdp_host.proofs.host.Host.make.Given as goal
 
 -- so many steps were made, and what they printed is kept
@@ -8,11 +9,10 @@ abbrev pub invariant-loop-self : goal.invariant-loop-self
 invariant-loop-self l = record {
   within : l.left ≤ l.n;
   scripts : l.self.scripts ≡ l.fn.self.scripts;
-  same : l.self.broken ≡ l.fn.self.broken;
-  sessions : l.self.meaning.attached ≡ l.fn.self.meaning.attached;
-  handed : l.self.broken ≡ false → l.self.meaning.program.machine.context.printed ≡ [];
-  stays : l.self.broken ≡ true → l.left ≡ l.n;
-  made : (taken : List (List ℕ)) → HasMade l.fn.self.scripts l.moment (meaning_with l.fn.self taken) (meaning_with l.self (taken ++ l.printed.items)) (l.n - l.left);
+  same : l.self.broken ≡ false;
+  handed : l.self.meaning.program.machine.context.printed ≡ [];
+  flags : length l.named.items ≡ length l.self.meaning.seats;
+  made : (taken : List (List ℕ)) → HasMade (protocol l.fn.self.scripts) l.moment (meaning_with l.fn.self taken) (meaning_with l.self (taken ++ l.printed.items)) (l.n - l.left);
 }
 
 abbrev pub decreases-loop-self : goal.decreases-loop-self

@@ -1,33 +1,42 @@
-use Rattle.std.proofs.Common.{◌++◌, ◌∷◌, [], subst, sym}
-use Rattle.cdp_host.specs.Histories.{Ran}
-use Rattle.cdp_host.specs.Hosts.{meaning_with, Stands}
-use Rattle.cdp_host.proofs.HistoryLemmas.{stands-broken, stands-ran, telling}
-use Rattle.cdp_host.proofs.RanLemmas.{at-error}
-use Rattle.cdp_host.proofs.RunLemmas.{is-longest, ready-stops}
-use Rattle.cdp_host.proofs.StepLemmas.{steps-stop}
+use Rattle.std.proofs.Common.{◌≡◌, false, refl, ap, sym, subst, ◌∙◌, arith}
+use Rattle.std.specs.Vec.{with_items}
+use Rattle.std.proofs.lemmas.List.{with_items_is}
+use Rattle.cdp_host.specs.Hosts.{NoneAttached, lost_for_memory}
+use Rattle.cdp_host.specs.Protocols.{protocol}
+use Rattle.cdp_host.proofs.RunLemmas.{gone-fit, stands-fails, stands-none, stands-run}
 use Rattle.cdp_host.proofs.host.Host.run.Goals as goal
 
-pub returns-clause-longest : goal.returns-clause-longest
-returns-clause-longest c = λ works taken.
-    is-longest c.args.self.now.scripts c.args.moment c.args.n _ (meaning_with c.args.self.now taken) (c.in_ok-steps.ensures.is_longest works taken)
+pub returns-then-self-clause-stands : goal.returns-then-self-clause-stands
+returns-then-self-clause-stands c = λ scripts input wait history stood.
+    stands-none scripts input wait c.args.self.now history c.args.moment (lost_for_memory c.new-then-self.result.items)
+    (sym (ap (λ h. h.broken) c.self.view_is) ∙ c.if-self.true) stood
 
-pub returns-clause-stops : goal.returns-clause-stops
-returns-clause-stops c = λ works taken input made is.
-    ready-stops c.args.self.now.scripts input c.args.moment made _ (meaning_with c.args.self.now taken) is (c.in_ok-steps.ensures.is_longest works taken).ready
+pub invariant_of-self : goal.invariant_of-self
+invariant_of-self c =
+    let a = c.self-2.inside in
+    let seats : (with_items a.seats c.break_all.new.seats).items ≡ c.break_all.new.seats =
+    with_items_is a.seats c.break_all.new.seats (omega (arith, c.break_all.auto.seats, c.as_mut_slice.ensures.len)) in
+    let none : NoneAttached (with_items a.seats c.break_all.new.seats).items = subst (λ ss. NoneAttached ss) (sym seats) c.break_all.ensures in
+    record {
+      lines = c.self-2.invariant.lines;
+      spots = c.self-2.invariant.spots;
+      code = c.self-2.invariant.code;
+      handed = λ works. absurd cc;
+      kept = λ works. absurd cc;
+      alone = λ _. none;
+      fit = gone-fit (protocol a.scripts.items) (with_items a.seats c.break_all.new.seats).items none;
+    }
 
-pub returns-clause-steps : goal.returns-clause-steps
-returns-clause-steps c = λ works taken input made is first x kind depth session alone.
-    steps-stop c.args.self.now.scripts input c.args.moment made _ (meaning_with c.args.self.now taken) x kind depth
-    (ready-stops c.args.self.now.scripts input c.args.moment made _ (meaning_with c.args.self.now taken) is (c.in_ok-steps.ensures.is_longest works taken).ready) first session alone
+pub returns-in-Ok-clause-stands : goal.returns-in-Ok-clause-stands
+returns-in-Ok-clause-stands c = λ scripts input wait history stood.
+    let works : c.args.self.now.broken ≡ false = sym (ap (λ h. h.broken) c.self.view_is) ∙ c.if-self.false in
+    let still : c.try_run.new.self.broken ≡ false = c.in-Ok.ensures.same in
+    stands-run scripts input wait c.args.self.now c.try_run.new.self history c.args.moment c.args.n c.in-Ok.ran.steps c.in-Ok.ran.printed.items c.in-Ok.ran.lost.items
+    c.in-Ok.ensures.scripts works still
+    (sym (ap (λ h. h.meaning.program.machine.context.printed) c.self-2.view_is) ∙ c.self-2.invariant.handed (ap (λ h. h.broken) c.self-2.view_is ∙ still))
+    c.in-Ok.ensures.runs stood
 
-pub returns-clause-stands : goal.returns-clause-stands
-returns-clause-stands c = λ scripts input wait history stood.
-    let r = c.in_ok-steps.ensures in
-    let ran = stands-ran scripts input wait c.args.self.now c.make.new.self history c.args.moment c.in_ok-steps.field-0.steps c.in_ok-steps.field-0.printed.items
-    (record { scripts = r.scripts; same = r.same; handed = r.handed; means = r.host; stays = r.broken }) stood in
-    rw (c.take-lost.ensures.after) (subst (λ h. Stands scripts input wait (telling h) (history ++ Ran c.in_ok-steps.field-0.steps c.args.moment ∷ [])) (sym c.self.view_is) ran)
-
-pub returns-in_err-steps-clause-stands_err : goal.returns-in_err-steps-clause-stands_err
-returns-in_err-steps-clause-stands_err c = at-error c.from_residual.result _ λ scripts input wait history stood.
-    let r = c.in_err-steps.ensures in
-    stands-broken scripts input wait c.args.self.now c.make.new.self history r.scripts r.err.0 r.err_works stood
+pub returns-in-Err-clause-stands_err : goal.returns-in-Err-clause-stands_err
+returns-in-Err-clause-stands_err c = λ scripts input wait history stood.
+    let works : c.args.self.now.broken ≡ false = sym (ap (λ h. h.broken) c.self.view_is) ∙ c.if-self.false in
+    stands-fails scripts input wait c.args.self.now _ history c.args.moment (ap (λ h. h.scripts) c.self-2.view_is ∙ c.in-Err.ensures.scripts) works refl stood

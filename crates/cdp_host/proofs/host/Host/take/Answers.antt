@@ -1,18 +1,30 @@
-use Rattle.std.proofs.Common.{ap, sym, ◌∙◌}
-use Rattle.cdp_session.specs.Outboxes.{fits}
-use Rattle.cdp_host.proofs.RuleLemmas.{none-fit}
-use Rattle.cdp_host.proofs.TellLemmas.{works-attached}
+use Rattle.std.proofs.Common.{◌≡◌, ◌++◌, take, drop, length, true, sym, subst}
+use Rattle.isolation.specs.Seats.{is_attached, seat_of}
+use Rattle.cdp_host.specs.Hosts.{HostState}
+use Rattle.cdp_host.proofs.CallLemmas.{sound-seats, take-back, take-fit, take-leaves, take-stands, works-at}
 use Rattle.cdp_host.proofs.host.Host.take.Goals as goal
 
-pub invariant_of-self-2 : goal.invariant_of-self-2
-invariant_of-self-2 c =
-    let works = works-attached c.self.inside.broken c.self.inside.session c.in-Some.session c.self.invariant.alone (sym c.take.ensures.value ∙ c.in-Some.is) in
-    record {
-      lines = c.self.invariant.lines;
-      spots = c.self.invariant.spots;
-      code = c.self.invariant.code;
-      handed = c.self.invariant.handed;
-      kept = c.self.invariant.kept;
-      alone = λ fails. absurd cc;
-      fit = ap (λ x. fits x.outbox) c.take-texts.ensures.rest ∙ none-fit;
-    }
+pub invariant_of-self : goal.invariant_of-self
+invariant_of-self c =
+    let a = c.self.inside in
+    let held : is_attached (seat_of c.args.s a.seats.items) ≡ true = subst (λ o. is_attached (seat_of c.args.s o.meaning.seats) ≡ true) (sym c.self.view_is) c.requires in
+    let rest = drop (length c.take.new.seats) a.seats.items in
+    sound-seats a.scripts.items a.lines.items a.spots a.machine a.broken a.seats.items (take a.seats.len (c.take.new.seats ++ rest)) c.self.invariant
+    (works-at c.args.s a.broken a.seats.items c.self.invariant.alone held)
+    (take-fit a.scripts.items c.args.s a.seats.items (take a.seats.len (c.take.new.seats ++ rest)) held
+    (take-back a.seats.len c.args.s a.seats.items c.as_mut_slice.result.now c.take.new.seats rest c.as_mut_slice.ensures.value (sym c.as_mut_slice.ensures.len) c.take.ensures.seats)
+    c.self.invariant.fit)
+
+pub returns-clause-leaves : goal.returns-clause-leaves
+returns-clause-leaves c =
+    let a = c.self.inside in
+    let h : HostState = record { scripts = a.scripts.items; meaning = record { program = record { machine = a.machine; heap = a.heap }; phase = a.phase; stop = a.stop; stops = a.stops; shut = a.shut; seats = a.seats.items }; broken = a.broken } in
+    let rest = drop (length c.take.new.seats) a.seats.items in
+    take-leaves h c.args.self.now c.args.s (take a.seats.len (c.take.new.seats ++ rest)) c.self.view_is c.requires
+    (take-back a.seats.len c.args.s a.seats.items c.as_mut_slice.result.now c.take.new.seats rest c.as_mut_slice.ensures.value (sym c.as_mut_slice.ensures.len) c.take.ensures.seats)
+
+pub returns-clause-stands : goal.returns-clause-stands
+returns-clause-stands c =
+    let a = c.self.inside in
+    let h : HostState = record { scripts = a.scripts.items; meaning = record { program = record { machine = a.machine; heap = a.heap }; phase = a.phase; stop = a.stop; stops = a.stops; shut = a.shut; seats = a.seats.items }; broken = a.broken } in
+    take-stands h c.args.self.now _ c.args.s c.self.view_is c.self.invariant.alone c.requires (returns-clause-leaves c)

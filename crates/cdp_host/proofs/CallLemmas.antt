@@ -1,0 +1,154 @@
+-- Calls that change one seat, or add one.
+use Rattle.std.proofs.Common.{◌≡◌, ℕ, ◌+◌, List, [], ◌∷◌, ◌++◌, length, take as first, Bool, true, false, refl, ap, sym, subst, ◌∙◌}
+use Rattle.isolation.specs.Histories.{Attach, Entry, Take, apply, take, waiting}
+use Rattle.isolation.specs.Meanings.{with_seats}
+use Rattle.isolation.specs.Runs.{AllFit}
+use Rattle.isolation.specs.Seats.{is_attached, put, seat_of, some}
+use Rattle.isolation.specs.Standing.{fell, less}
+use Rattle.isolation.specs.declared.seat.Seat.{Seat}
+use Rattle.isolation.specs.declared.seat.Seat.TheVariants.{Attached, Lost, Left}
+use Rattle.isolation.proofs.BrokenLemmas.{none-at}
+use Rattle.isolation.proofs.FallenLemmas.{fallen-none, fell-put, less-self, none-fallen}
+use Rattle.js_tree.specs.declared.script.Script.{Script}
+use Rattle.js_machine.specs.Machines.{Machine}
+use Rattle.locations.specs.declared.spot.Spot.{Spot}
+use Rattle.pure_eval.specs.Workspaces.{Workspace, begun}
+use Rattle.cdp_session.specs.Outboxes.{fits}
+use Rattle.cdp_session.specs.Replies.{Answer}
+use Rattle.cdp_session.specs.Sessions.{Session, emptied, fresh}
+use Rattle.cdp_host.specs.Hosts.{CarriesOn, HostState, IsSound, Leaves, NoneAttached, meaning_with}
+use Rattle.cdp_host.specs.Programs.{code_of}
+use Rattle.cdp_host.specs.Protocols.{protocol}
+use Rattle.cdp_host.specs.Watching.{AnswersIn}
+use Rattle.cdp_host.specs.declared.telling.Answered.{Answered}
+use Rattle.cdp_host.specs.declared.telling.Answered.TheVariants.{Kept, Overran, Failed}
+use Rattle.cdp_host.proofs.HistoryLemmas.{stands-call}
+use Rattle.cdp_host.proofs.PlacedLemmas.{fell-more, fit-more, fit-put, put-back}
+
+-- ---- who is attached
+
+-- an attached seat is that of a session
+pub whose : {X : Type 0} → (seat : Seat X) → is_attached seat ≡ true → (x : X) × (seat ≡ Attached x)
+whose (Attached x) held = (x, refl)
+whose (Lost loss is_reported is_told) held = absurd cc
+whose Left held = absurd cc
+
+works-by : {X : Type 0} → (s : ℕ) (b : Bool) (seats : List (Seat X)) → (b ≡ true → some is_attached seats ≡ false) → is_attached (seat_of s seats) ≡ true → b ≡ false
+works-by s true seats alone held = let gone = none-at s seats (alone refl) in absurd cc
+works-by s false seats alone held = refl
+
+-- a host works that has somebody attached
+pub works-at : {X : Type 0} → (s : ℕ) (b : Bool) (seats : List (Seat X)) → (b ≡ true → some is_attached seats ≡ false) → is_attached (seat_of s seats) ≡ true → b ≡ false
+works-at s b seats alone held = works-by s b seats alone held
+
+-- ---- what holds of every host, with other seats
+
+pub sound-seats : (scripts : List Script) (starts : List (List ℕ)) (found : List (List Spot)) (machine : Machine) (b : Bool) (seats news : List (Seat Session))
+    → IsSound scripts starts found machine b seats → b ≡ false → AllFit (protocol scripts) news → IsSound scripts starts found machine b news
+sound-seats scripts starts found machine b seats news sound works fit = record {
+  lines = sound.lines;
+  spots = sound.spots;
+  code = sound.code;
+  handed = sound.handed;
+  kept = sound.kept;
+  alone = λ fails. absurd cc;
+  fit = fit;
+}
+
+pub nothing-fits : fits [] ≡ true
+unfolding fits
+nothing-fits = refl
+
+-- the texts that wait fit behind an answer
+pub answer-fit : (scripts : List Script) (w : Answered) (answer : Answer) (s : ℕ) (seats news : List (Seat Session)) → AnswersIn w answer s seats news
+    → AllFit (protocol scripts) seats → AllFit (protocol scripts) news
+answer-fit scripts (Kept asks) answer s seats news is fit = subst (AllFit (protocol scripts)) (sym is.0) (fit-put (protocol scripts) s (Attached answer.session) seats is.2 fit)
+answer-fit scripts Overran answer s seats news is fit = subst (AllFit (protocol scripts)) (sym is.0) (fit-put (protocol scripts) s Left seats tt fit)
+answer-fit scripts Failed answer s seats news is fit = subst (AllFit (protocol scripts)) (sym is) (fit-put (protocol scripts) s Left seats tt fit)
+
+-- and behind a take
+pub take-fit : (scripts : List Script) (s : ℕ) (seats news : List (Seat Session)) → is_attached (seat_of s seats) ≡ true
+    → ((x : Session) → seat_of s seats ≡ Attached x → news ≡ put s (Attached (emptied x)) seats) → AllFit (protocol scripts) seats → AllFit (protocol scripts) news
+take-fit scripts s seats news held are fit =
+    let it = whose (seat_of s seats) held in
+    subst (AllFit (protocol scripts)) (sym (are it.0 it.1)) (fit-put (protocol scripts) s (Attached (emptied it.0)) seats nothing-fits fit)
+
+-- and with one session more
+pub attach-fit : (scripts : List Script) (x : Session) (n : ℕ) (w : Workspace) (seats news : List (Seat Session)) → x ≡ fresh n w → news ≡ seats ++ Attached x ∷ []
+    → AllFit (protocol scripts) seats → AllFit (protocol scripts) news
+attach-fit scripts x n w seats news is are fit =
+    subst (AllFit (protocol scripts)) (sym are) (fit-more (protocol scripts) (Attached x) seats (ap (λ y. fits y.outbox) is ∙ nothing-fits) fit)
+
+-- ---- seats that were lent
+
+-- what became of a text, where the seats are given back
+pub answers-back : (w : Answered) (answer : Answer) (n s : ℕ) (seats lent news rest : List (Seat Session)) → lent ≡ seats → n ≡ length lent
+    → AnswersIn w answer s lent news → AnswersIn w answer s seats (first n (news ++ rest))
+answers-back (Kept asks) answer n s seats lent news rest same full is =
+    (put-back n s (Attached answer.session) lent news rest full is.0 ∙ ap (put s (Attached answer.session)) same, is.1, is.2)
+answers-back Overran answer n s seats lent news rest same full is = (put-back n s Left lent news rest full is.0 ∙ ap (put s Left) same, is.1)
+answers-back Failed answer n s seats lent news rest same full is = put-back n s Left lent news rest full is ∙ ap (put s Left) same
+
+pub take-back : (n s : ℕ) (seats lent news rest : List (Seat Session)) → lent ≡ seats → n ≡ length lent
+    → ((x : Session) → seat_of s lent ≡ Attached x → news ≡ put s (Attached (emptied x)) lent)
+    → (x : Session) → seat_of s seats ≡ Attached x → first n (news ++ rest) ≡ put s (Attached (emptied x)) seats
+take-back n s seats lent news rest same full are x is =
+    put-back n s (Attached (emptied x)) lent news rest full (are x (ap (seat_of s) same ∙ is)) ∙ ap (put s (Attached (emptied x))) same
+
+-- ---- what a call leaves
+
+-- a host with other seats
+abbrev pub seated : HostState → List (Seat Session) → HostState
+seated h seats = record h { meaning = record h.meaning { seats = seats } }
+
+-- an entry that leads to other seats, where nobody falls
+seats-leave : (h : HostState) (entry : Entry) (news : List (Seat Session))
+    → ((taken : List (List ℕ)) → with_seats news (meaning_with h taken) ≡ apply (protocol h.scripts) (meaning_with h taken) entry)
+    → (some fell h.meaning.seats ≡ false → some fell news ≡ false) → Leaves h entry (seated h news)
+seats-leave h entry news leads stay = record {
+  runs = refl;
+  works = refl;
+  means = λ taken none. record {
+    is = sym (less-self (with_seats news (meaning_with h taken))) ∙ ap (less news) (leads taken);
+    all_there = λ paused. fallen-none news (stay (none-fallen h.meaning.seats (none paused)));
+  };
+}
+
+take-here : (h : HostState) (s : ℕ) (news : List (Seat Session)) (x : Session) → seat_of s h.meaning.seats ≡ Attached x
+    → news ≡ put s (Attached (emptied x)) h.meaning.seats → Leaves h (Take s) (seated h news)
+take-here h s news x is are =
+    seats-leave h (Take s) news
+    (λ taken. ap (λ ss. with_seats ss (meaning_with h taken)) are ∙ ap (take (protocol h.scripts) s (meaning_with h taken)) (sym is))
+    (λ none. subst (λ ss. some fell ss ≡ false) (sym are) (fell-put s (Attached (emptied x)) h.meaning.seats refl none))
+
+pub take-leaves : (h old : HostState) (s : ℕ) (news : List (Seat Session)) → h ≡ old → is_attached (seat_of s old.meaning.seats) ≡ true
+    → ((x : Session) → seat_of s h.meaning.seats ≡ Attached x → news ≡ put s (Attached (emptied x)) h.meaning.seats) → Leaves old (Take s) (seated h news)
+take-leaves h old s news same held are =
+    let it = whose (seat_of s h.meaning.seats) (subst (λ o. is_attached (seat_of s o.meaning.seats) ≡ true) (sym same) held) in
+    subst (λ o. Leaves o (Take s) (seated h news)) same (take-here h s news it.0 it.1 (are it.0 it.1))
+
+pub take-texts : (h old : HostState) (s : ℕ) (texts : List (List ℕ)) → h ≡ old → is_attached (seat_of s old.meaning.seats) ≡ true
+    → ((x : Session) → seat_of s h.meaning.seats ≡ Attached x → texts ≡ x.outbox) → texts ≡ waiting (protocol old.scripts) (seat_of s old.meaning.seats)
+take-texts h old s texts same held are =
+    let it = whose (seat_of s h.meaning.seats) (subst (λ o. is_attached (seat_of s o.meaning.seats) ≡ true) (sym same) held) in
+    are it.0 it.1 ∙ ap (waiting (protocol h.scripts)) (sym it.1) ∙ ap (λ o. waiting (protocol o.scripts) (seat_of s o.meaning.seats)) same
+
+pub take-stands : (h old new : HostState) (s : ℕ) → h ≡ old → (h.broken ≡ true → NoneAttached h.meaning.seats) → is_attached (seat_of s old.meaning.seats) ≡ true
+    → Leaves old (Take s) new → CarriesOn old (Take s) new
+take-stands h old new s same alone held leaves = λ scripts input wait history stood.
+    let works = subst (λ o. o.broken ≡ false) same (works-at s h.broken h.meaning.seats alone (subst (λ o. is_attached (seat_of s o.meaning.seats) ≡ true) (sym same) held)) in
+    stands-call scripts input wait old new history (Take s) stood refl tt held leaves works
+
+attach-here : (h : HostState) (news : List (Seat Session)) (x : Session) → x ≡ fresh (length h.meaning.seats + 1) (begun (code_of h.scripts))
+    → news ≡ h.meaning.seats ++ Attached x ∷ [] → Leaves h Attach (seated h news)
+attach-here h news x is are =
+    seats-leave h Attach news
+    (λ taken. ap (λ ss. with_seats ss (meaning_with h taken)) (are ∙ ap (λ y. h.meaning.seats ++ Attached y ∷ []) is))
+    (λ none. subst (λ ss. some fell ss ≡ false) (sym are) (fell-more (Attached x) h.meaning.seats refl none))
+
+pub attach-leaves : (h old : HostState) (news : List (Seat Session)) (x : Session) → h ≡ old → x ≡ fresh (length h.meaning.seats + 1) (begun (code_of h.scripts))
+    → news ≡ h.meaning.seats ++ Attached x ∷ [] → Leaves old Attach (seated h news)
+attach-leaves h old news x same is are = subst (λ o. Leaves o Attach (seated h news)) same (attach-here h news x is are)
+
+pub attach-stands : (old new : HostState) → old.broken ≡ false → Leaves old Attach new → CarriesOn old Attach new
+attach-stands old new works leaves = λ scripts input wait history stood. stands-call scripts input wait old new history Attach stood refl tt tt leaves works

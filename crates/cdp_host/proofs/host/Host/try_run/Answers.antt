@@ -1,0 +1,50 @@
+use Rattle.std.proofs.Common.{◌≡◌, false, ◌++◌, ap, subst, sym, ◌∙◌, arith}
+use Rattle.std.specs.Vec.{with_items}
+use Rattle.std.proofs.lemmas.List.{with_items_is}
+use Rattle.isolation.specs.Runs.{AllFit}
+use Rattle.isolation.specs.Seats.{each, reported}
+use Rattle.isolation.specs.Standing.{fallen_in}
+use Rattle.cdp_host.specs.Hosts.{meaning_with}
+use Rattle.cdp_host.specs.Protocols.{protocol}
+use Rattle.cdp_host.specs.Watching.{losses_from}
+use Rattle.cdp_host.proofs.RunLemmas.{reported-fit, reported-none, settled-as}
+use Rattle.cdp_host.proofs.host.Host.try_run.Goals as goal
+
+pub invariant_of-self : goal.invariant_of-self
+invariant_of-self c =
+    let a = c.self.inside in
+    let seats : (with_items a.seats c.report_all.new.seats).items ≡ each reported a.seats.items =
+    with_items_is a.seats c.report_all.new.seats (omega (arith, c.report_all.auto.seats, c.as_mut_slice.ensures.len))
+    ∙ c.report_all.ensures ∙ ap (λ ss. each reported ss) c.as_mut_slice.ensures.value in
+    let works : a.broken ≡ false = ap (λ h. h.broken) c.self.view_is ∙ c.in_ok-steps.ensures.same in
+    record {
+      lines = c.self.invariant.lines;
+      spots = c.self.invariant.spots;
+      code = c.self.invariant.code;
+      handed = c.self.invariant.handed;
+      kept = c.self.invariant.kept;
+      alone = λ fails. absurd cc;
+      fit = subst (λ ss. AllFit (protocol a.scripts.items) ss) (sym seats) (reported-fit (protocol a.scripts.items) a.seats.items c.self.invariant.fit);
+    }
+
+pub settle-requires : goal.settle-requires
+settle-requires c = ap (λ h. h.broken) c.self.view_is ∙ c.in_ok-steps.ensures.same
+
+pub returns-clause-runs : goal.returns-clause-runs
+returns-clause-runs c = λ taken.
+    let a = c.self.inside in
+    let made = c.make.new.self in
+    let there = taken ++ c.in_ok-steps.field-0.printed.items in
+    let seats : (with_items a.seats c.report_all.new.seats).items ≡ each reported a.seats.items =
+    with_items_is a.seats c.report_all.new.seats (omega (arith, c.report_all.auto.seats, c.as_mut_slice.ensures.len))
+    ∙ c.report_all.ensures ∙ ap (λ ss. each reported ss) c.as_mut_slice.ensures.value in
+    record {
+      middle = meaning_with made there;
+      longest = c.in_ok-steps.ensures.makes taken;
+      prints = c.in_ok-steps.ensures.printed taken;
+      reports = c.in_ok-lost.ensures ∙ ap (λ ss. losses_from 1 ss) c.as_slice.ensures.value ∙ ap (λ h. losses_from 1 h.meaning.seats) c.self.view_is;
+      is = settled-as _ made c.settle.new.self c.args.self.now.scripts (with_items a.seats c.report_all.new.seats).items there
+          c.self.view_is c.in_ok-steps.ensures.scripts seats (c.settle.ensures.means there);
+      all_there = λ paused.
+          ap (λ h. fallen_in h.meaning.seats) (c.settle.ensures.stays paused) ∙ ap (λ ss. fallen_in ss) seats ∙ reported-none a.seats.items;
+    }

@@ -1,0 +1,17 @@
+use Rattle.std.proofs.Common.{◌<◌, ◌≤◌, length, refl, arith}
+use Rattle.isolation.proofs.PassLoops.{on-done, on-next}
+use Rattle.cdp_host.proofs.SeatLemmas.{IsGone, all-gone}
+use Rattle.cdp_host.proofs.seats.break_all.Goals as goal
+
+pub loop-seat-init : goal.loop-seat-init
+loop-seat-init c = refl
+
+pub loop-seat-preserved : goal.loop-seat-preserved
+loop-seat-preserved c =
+    let small : c.loop-seat.seat-index < length c.loop-seat.seats = omega (arith, c.loop-seat-test.true, c.loop-seat.auto.seats) in
+    on-next IsGone c.loop-seat.seat-index c.args.seats.now c.loop-seat.seats c.seat-item.result c.break_seat.new.seat c.loop-seat.invariant small c.break_seat.ensures
+
+pub returns : goal.returns
+returns c =
+    let done : length c.loop-seat.seats ≤ c.loop-seat.seat-index = omega (arith, c.loop-seat-test.false, c.loop-seat.auto.seats) in
+    all-gone c.args.seats.now c.loop-seat.seats (on-done IsGone c.loop-seat.seat-index c.args.seats.now c.loop-seat.seats c.loop-seat.invariant done)

@@ -1,0 +1,25 @@
+use Rattle.std.proofs.Common.{rules, ◌+◌, ◌∷◌, [], ap, sym, ◌∙◌, arith}
+use Rattle.cdp_host.specs.Watching.{losses_from}
+use Rattle.cdp_host.proofs.SeatLemmas.{losses-done, losses-more}
+use Rattle.cdp_host.proofs.seats.losses_of.Goals as goal
+
+pub loop-seat-init : goal.loop-seat-init
+loop-seat-init c = record { counted = search rules; items = c.new-losses.ensures.items }
+
+pub overflow_add-session : goal.overflow_add-session
+overflow_add-session c =
+    let counted = c.loop-seat.invariant.counted in
+    omega (arith, counted, c.loop-seat-test.true)
+
+pub loop-seat-preserved : goal.loop-seat-preserved
+loop-seat-preserved c =
+    let one = ap (λ n. losses_from (n + 1) (c.seat-item.result ∷ [])) (sym c.loop-seat.invariant.counted) ∙ c.loss_waiting.ensures in
+    let here = ap (λ seat. losses_from (c.loop-seat.seat-index + 1) (seat ∷ [])) (sym c.seat-item.is) ∙ one in
+    record {
+      counted = ap (λ n. n + 1) c.loop-seat.invariant.counted;
+      items = losses-more c.loop-seat.seat-index c.args.seats.now c.seat-item.result c.loop-seat.losses.items c.push_loss.new.losses.items c.loss_waiting.result
+          c.loop-seat-test.true c.loop-seat.invariant.items here c.in_ok-push_loss.ensures;
+    }
+
+pub returns : goal.returns
+returns c = losses-done c.loop-seat.seat-index c.args.seats.now c.loop-seat.losses.items c.loop-seat-test.false c.loop-seat.invariant.items
