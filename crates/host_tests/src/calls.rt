@@ -679,10 +679,9 @@ fn scripts_and_input_are_read(rt: HostRuntime) -> Result<(), Fail> {
 }
 
 // Each of these lines is refused behind `attach` and a run.
-const REFUSED: [&[u8]; 45] = [
+const REFUSED: [&[u8]; 51] = [
     b"",
     b" ",
-    b"attach",
     b"attach ",
     b" attach",
     b"Attach",
@@ -690,8 +689,15 @@ const REFUSED: [&[u8]; 45] = [
     b"attach\r",
     b"attach\xff",
     b"\xc3",
-    b"detach 1",
-    b"shut",
+    b"detach",
+    b"detach ",
+    b"detach 0",
+    b"detach 2",
+    b"detach 01",
+    b"detach 1 ",
+    b"detach 1\r",
+    b"shut ",
+    b"shut 1",
     b"memory",
     b"take",
     b"take ",

@@ -227,6 +227,7 @@ run 100 1000
 tell 1 {"id":11,"method":"Debugger.resume"}
 run 100 2000
 take 1
+detach 1
 "#;
 
 const COMMON_OUTPUT: &str = r#"attached 1

@@ -30,6 +30,8 @@ mod refusals;
 #[cfg(test)]
 mod runs;
 #[cfg(test)]
+mod sessions;
+#[cfg(test)]
 mod standing;
 #[cfg(test)]
 mod texts;

@@ -6,10 +6,10 @@ use std::sync::Wait;
 use std::test::Fail;
 
 // Of a text: what comes first, a part that follows it so many times, and what comes behind.
-type Parts = (&'static str, &'static str, usize, &'static str);
+pub(crate) type Parts = (&'static str, &'static str, usize, &'static str);
 
 // The words, in which the journal has the name `refused`; the journal; the output; the status and what is said of errors.
-type Row = (&'static str, Parts, Parts, u8, &'static str);
+pub(crate) type Row = (&'static str, Parts, Parts, u8, &'static str);
 
 // A text that is no command, and its refusal, which is one text.
 const TOLD: &str = "tell 1 7\n";
@@ -36,7 +36,7 @@ fn whole(alloc: Global, parts: &Parts) -> Result<String, AllocError> {
 }
 
 // Each row comes to its end, over these files.
-fn each_row(
+pub(crate) fn each_row(
     rt: &(impl Abort + Wait + AllocGlobal),
     files: &[(&str, &[u8])],
     rows: &[Row],
