@@ -20,3 +20,4 @@ pub mod LawLemmas
 pub mod ForeignLemmas
 pub mod RunLemmas
 pub mod NamingLemmas
+pub mod StepLemmas

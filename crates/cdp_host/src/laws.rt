@@ -1,16 +1,18 @@
 //! The laws of histories. Each function does nothing: its contract is the law, for every history of any scripts.
 
-ghost use Rattle.std.specs.Prelude.{◌≡◌, ℕ, List, Bool, true};
+ghost use Rattle.std.specs.Prelude.{◌≡◌, ℕ, List, Bool, true, false};
 ghost use Rattle.arrivals.specs.Arrivals.{AreNumbered};
-ghost use Rattle.isolation.specs.Histories.{Entry, steps_made};
-ghost use Rattle.isolation.specs.Meanings.{is_paused, longest, after_steps, is_enabled_seat};
+ghost use Rattle.isolation.specs.Histories.{Entry, FitsEntry, Ran, steps_made};
+ghost use Rattle.isolation.specs.Meanings.{is_first, is_paused, longest, after_steps, is_enabled_seat};
 ghost use Rattle.isolation.specs.Runs.{IsLongest};
 ghost use Rattle.isolation.specs.Seats.{seat_of, some};
 ghost use Rattle.isolation.specs.Stops.{AllStopExactly};
 ghost use Rattle.isolation.specs.Texts.{Fits, Keeps, made_of};
 ghost use Rattle.isolation.specs.Alone.{unborn};
+ghost use Rattle.isolation.specs.declared.seat.Seat.TheVariants.{Attached};
 ghost use Rattle.js_tree.specs.declared.script.Script.{Script};
 ghost use Rattle.remote_objects.specs.Ids.{frame_id, object_id};
+ghost use Rattle.stepping.specs.declared.rules.StepKind.{StepKind};
 ghost use Rattle.cdp_session.specs.Sessions.{Session};
 ghost use Rattle.cdp_session.specs.Situations.{Situation};
 ghost use Rattle.cdp_host.specs.Foreign.{IsOfAnother, RefusesFrame, RefusesObject};
@@ -18,7 +20,7 @@ ghost use Rattle.cdp_host.specs.Histories.{IsHistory, Meaning, begin, sent_alone
 ghost use Rattle.cdp_host.specs.Places.{ArrivesAtLocations};
 ghost use Rattle.cdp_host.specs.Programs.{plain, start};
 ghost use Rattle.cdp_host.specs.Protocols.{protocol, texts};
-ghost use Rattle.cdp_host.specs.Rules.{IsPausedThere, PrintsAsPlain};
+ghost use Rattle.cdp_host.specs.Rules.{IsPausedThere, NoOtherEnabled, PrintsAsPlain, StepsAlone, StopsAtFirst};
 ghost use Rattle.js_semantics.specs.Run.{Run};
 
 /// Where a program whose scripts have the numbers 1, 2 and so on has arrived, the place by which the rules of stopping go is a
@@ -54,6 +56,15 @@ pub fn a_history_prints_as_the_plain_run()
 pub fn runs_stop_exactly_where_named()
     ensures { (scripts : List Script) (input : List (List ℕ)) (wait : Bool) (history : List Entry) → IsHistory scripts input wait history
         → AllStopExactly (protocol scripts) (start scripts input) 0 (begin scripts input wait) history }
+{}
+
+/// Where one session asks for one step and for nothing else, no other session has the debugger enabled, and the next step isn't
+/// the first of a program that waited, a run from there, each step of which is made where the program is ready, stops at the
+/// first arrival that ends the step, or at none; nor does it stop at a step at which that session is lost.
+pub fn a_step_alone_stops_where_it_ends()
+    ensures { (kind : StepKind) (depth : ℕ) (scripts : List Script) (input : List (List ℕ)) (made moment : ℕ) (gone : List ℕ) (s : ℕ) (x : Session) (m : Meaning Run) (n : ℕ)
+        → m.program ≡ plain made scripts input → is_first m.phase ≡ false → seat_of s m.seats ≡ Attached x → StepsAlone x kind depth → NoOtherEnabled s m
+        → FitsEntry (protocol scripts) m (Ran n moment gone) → StopsAtFirst kind depth scripts input made moment gone s m n }
 {}
 
 /// Where the program is paused behind a history, a session has the debugger enabled.

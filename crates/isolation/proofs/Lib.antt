@@ -13,3 +13,4 @@ pub mod LongerLemmas
 pub mod BrokenLemmas
 pub mod TextLemmas
 pub mod SomeLemmas
+pub mod NamesLemmas

@@ -21,7 +21,7 @@ pub plain-more : {C T Q X : Type 0} → (P : Protocol C T Q X) (a b : ℕ) (c : 
 plain-more P a zero c = let e : a + zero ≡ a = omega arith in rw e refl
 plain-more P a (suc b) c = let e : a + suc b ≡ suc (a + b) = omega arith in rw e (ap (λ d. P.next d) (plain-more P a b c))
 
-steps-program : {C T Q X : Type 0} → (P : Protocol C T Q X) (moment n : ℕ) (m : Meaning C Q X)
+pub steps-program : {C T Q X : Type 0} → (P : Protocol C T Q X) (moment n : ℕ) (m : Meaning C Q X)
     → (after_steps P moment n m).program ≡ plain P n m.program
 steps-program P moment zero m = refl
 steps-program P moment (suc n) m = steps-program P moment n (step P moment [] m) ∙ plain-next P n m.program

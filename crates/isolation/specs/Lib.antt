@@ -8,3 +8,4 @@ pub mod Texts
 pub mod Standing
 pub mod Runs
 pub mod Passes
+pub mod Names
