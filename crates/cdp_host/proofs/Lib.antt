@@ -21,3 +21,4 @@ pub mod ForeignLemmas
 pub mod RunLemmas
 pub mod NamingLemmas
 pub mod StepLemmas
+pub mod RefusalLemmas

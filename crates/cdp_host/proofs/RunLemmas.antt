@@ -1,13 +1,14 @@
 -- What a host's loop of stretches comes to, what a run reports, and that a host stands for a history with the run behind it.
-use Rattle.std.proofs.Common.{◌≡◌, ◌⊎◌, ℕ, zero, suc, ◌+◌, ◌-◌, ◌<◌, ◌≤◌, List, [], ◌∷◌, ◌++◌, length, drop, Bool, true, false, ◌&&◌, not, nat_lt, inl, inr, refl, ap, sym, subst, ◌∙◌, append-nil, arith, if◌then◌else◌, is_some, Option, None}
+use Rattle.std.proofs.Common.{Result, Ok, Err, OnErr, OnOk, ◌≡◌, ◌⊎◌, ℕ, zero, suc, ◌+◌, ◌-◌, ◌<◌, ◌≤◌, List, [], ◌∷◌, ◌++◌, length, drop, Bool, true, false, ◌&&◌, not, nat_lt, inl, inr, refl, ap, sym, subst, ◌∙◌, append-nil, arith, if◌then◌else◌, is_some, Option, None}
 use Rattle.std.specs.Option.{option_map}
 use Rattle.std.proofs.Math.Seq.{drop-append_seam}
 use Rattle.std.proofs.lemmas.Bool.{lt-ltb, or_parts}
 use Rattle.isolation.specs.Histories.{Entry, FitsEntry, Ran}
-use Rattle.isolation.specs.Meanings.{is_enabled_seat, is_first, is_held, is_paused, is_ready, next_number, resume, resumed_seat, settle, with_seats}
+use Rattle.isolation.specs.Meanings as meanings
+use Rattle.isolation.specs.Meanings.{is_enabled_seat, is_first, is_held, is_paused, is_ready, longest, next_number, resume, resumed_seat, settle, with_seats}
 use Rattle.isolation.specs.Protocols.{Protocol}
 use Rattle.isolation.specs.Runs.{AllFit, HasMade, IsLongest}
-use Rattle.isolation.specs.Seats.{each, is_attached, reported, some, without}
+use Rattle.isolation.specs.Seats.{each, is_attached, reported, some, waits_for_report, without}
 use Rattle.isolation.specs.Standing.{StandsAs, fallen_from, fallen_in, fell, less}
 use Rattle.isolation.specs.Texts.{Fits}
 use Rattle.isolation.specs.declared.phase.Phase.TheVariants.{Running}
@@ -223,7 +224,7 @@ settled-as a h n scripts news t is runs same means =
     ∙ ap (λ ss. f ss (each reported h.meaning.seats) h) runs
 
 -- where none fell the host is what it stands for
-all-there : (host m : Meaning Run) → host ≡ less host.seats m → fallen_in host.seats ≡ [] → host ≡ m
+pub all-there : (host m : Meaning Run) → host ≡ less host.seats m → fallen_in host.seats ≡ [] → host ≡ m
 all-there host m is none =
     is ∙ ap (λ numbers. with_seats (without numbers m.seats) m) none ∙ ap (λ seats. with_seats seats m) (without-none m.seats)
 
@@ -292,3 +293,38 @@ stands-fails scripts input wait old new history moment same works fails stood =
     let many : length old.meaning.seats ≡ length m.seats = stands-length host m (stood.means works) in
     stands-broken scripts input wait old new history (Ran zero moment (everybody old)) stood same fails (no_steps scripts m moment (everybody old))
     (all-ran (protocol scripts) moment (everybody old) m (everybody-listed (length old.meaning.seats) m many))
+
+-- ---- where there was no memory
+
+-- what holds at an error
+pub at-error : {A E : Type 0} (r : Result A E) (P : Type 0) → P → OnErr r P
+at-error (Ok value) P holds = tt
+at-error (Err error) P holds = holds
+
+-- and what holds at none
+pub at-none : {A E : Type 0} (r : Result A E) (P : Type 0) → P → OnOk r P
+at-none (Ok value) P holds = holds
+at-none (Err error) P holds = tt
+
+-- a run that may make a step makes one
+pub some-longest : {C T Q X : Type 0} → (P : Protocol C T Q X) (moment most : ℕ) (m : meanings.Meaning C Q X) → 0 < most → is_ready P m ≡ true
+    → 0 < longest P moment most m
+some-longest P moment zero m some_left go = absurd (omega (arith, some_left))
+some-longest P moment (suc most) m some_left go = rw go (omega arith)
+
+-- the longest run where no step may be made
+pub ran-nothing : (scripts : List Script) (moment : ℕ) (h : HostState) (most : ℕ) (printed taken : List (List ℕ)) (t : Bool) → printed ≡ [] → h.broken ≡ false
+    → t ≡ (nat_lt 0 most && (not h.broken && is_ready (protocol scripts) (meaning_with h (taken ++ printed)))) → t ≡ false
+    → IsLongest (protocol scripts) moment most (meaning_with h taken) (meaning_with h (taken ++ printed)) 0
+ran-nothing scripts moment h most printed taken t none works test stops =
+    let m : Meaning Run = meaning_with h taken in
+    let n : Meaning Run = meaning_with h (taken ++ printed) in
+    let P : ℕ → Type 0 = λ k. IsLongest (protocol scripts) moment most m n k in
+    let e : most - most ≡ 0 = omega arith in
+    subst P e (ran-longest scripts scripts moment m n most most h.broken t refl (ran-none scripts moment h most printed taken none) (omega arith) works test stops)
+
+-- the list of the losses is made behind a step, or where a loss waited before
+pub listed-by : (old mid : HostState) (A : Type 0) (P : A → Type 0) → (mid ≡ old) ⊎ ((a : A) → P a) → some waits_for_report mid.meaning.seats ≡ true
+    → (a : A) → P a ⊎ (some waits_for_report old.meaning.seats ≡ true)
+listed-by old mid A P (inl same) waits a = inr (sym (ap (λ h. some waits_for_report h.meaning.seats) same) ∙ waits)
+listed-by old mid A P (inr more) waits a = inl (more a)

@@ -1,10 +1,10 @@
 -- What one seat among others is, what a resume and a report do to each, and the losses that wait.
-use Rattle.std.proofs.Common.{◌≡◌, ◌<◌, ◌≤◌, ℕ, zero, suc, ◌+◌, List, [], ◌∷◌, ◌++◌, length, take, slice_index_or, Bool, true, false, ◌||◌, if◌then◌else◌, Option, option_to_list, refl, ap, sym, ◌∙◌, append_assoc, arith}
+use Rattle.std.proofs.Common.{◌≡◌, ◌<◌, ◌≤◌, ℕ, zero, suc, ◌+◌, List, [], ◌∷◌, ◌++◌, length, take, slice_index_or, Bool, true, false, ◌||◌, if◌then◌else◌, Option, Some, None, is_some, option_to_list, refl, ap, sym, ◌∙◌, append_assoc, arith}
 use Rattle.isolation.specs.Protocols.{Protocol}
 use Rattle.isolation.specs.Meanings.{kept}
 use Rattle.isolation.specs.Passes.{GoesAlong, GoesOn, HearsOn, Over, OverAll, Watches}
 use Rattle.isolation.specs.Runs.{AllFit}
-use Rattle.isolation.specs.Seats.{each, is_attached, lost_by, reported, some}
+use Rattle.isolation.specs.Seats.{each, is_attached, lost_by, reported, some, waits_for_report}
 use Rattle.isolation.specs.Texts.{Fits}
 use Rattle.isolation.specs.declared.seat.Loss.TheVariants.{Overrun}
 use Rattle.isolation.specs.declared.seat.Seat.{Seat}
@@ -146,3 +146,12 @@ watched-fit P number moment t [] (new ∷ news) flags over = absurd over
 watched-fit P number moment t (old ∷ olds) [] flags over = absurd over
 watched-fit P number moment t (old ∷ olds) (new ∷ news) [] over = absurd over
 watched-fit P number moment t (old ∷ olds) (new ∷ news) (flag ∷ flags) over = (over.0.room, watched-fit P number moment t olds news flags over.1)
+
+-- a loss that is listed waits for a run
+pub listed-waits : (s : ℕ) (seat : Seat Session) (loss : Option SessionLost) → losses_from s (seat ∷ []) ≡ option_to_list loss → is_some loss ≡ true
+    → waits_for_report seat ≡ true
+listed-waits s seat None are listed = absurd cc
+listed-waits s (Attached x) (Some loss) are listed = absurd cc
+listed-waits s (Lost cause true is_told) (Some loss) are listed = absurd cc
+listed-waits s (Lost cause false is_told) (Some loss) are listed = refl
+listed-waits s Left (Some loss) are listed = absurd cc

@@ -1,14 +1,17 @@
 //! The host and its calls, each of which is one entry of its history.
 
-ghost use Rattle.std.specs.Prelude.{◌≡◌, ◌++◌, ◌∷◌, ◌+◌, ◌&&◌, ◌||◌, ◌<◌, ◌^◌, [], not, ℕ, List, Bool, IfOk, OnOk, OnErr, IsErr, map, length, string_bytes, true, false, nat_lt};
-ghost use Rattle.isolation.specs.Histories.{Attach, Tell, Take, Detach, Ran as RanEntry, Shut, asked, waiting};
-ghost use Rattle.isolation.specs.Meanings.{is_held, is_paused, is_ready, resume, settle, waits};
+ghost use Rattle.std.specs.Prelude.{◌≡◌, ◌++◌, ◌∷◌, ◌+◌, ◌&&◌, ◌||◌, ◌<◌, ◌^◌, [], not, ℕ, List, Bool, IfOk, OnOk, OnErr, IsErr, map, length, string_bytes, true, false, nat_lt, Option, ◌⊎◌};
+ghost use Rattle.isolation.specs.Histories.{Entry, Attach, Tell, Take, Detach, Ran as RanEntry, Shut, asked, waiting, with_seat};
+ghost use Rattle.isolation.specs.Meanings.{is_enabled_seat, is_held, is_paused, is_ready, longest, resume, settle, waits};
 ghost use Rattle.isolation.specs.Runs.{HasMade, IsLongest};
 ghost use Rattle.isolation.specs.Seats.{is_attached, put, reported, each, seat_of, some, waits_for_report};
-ghost use Rattle.isolation.specs.Standing.{less};
+ghost use Rattle.isolation.specs.Standing.{fell, less};
 ghost use Rattle.isolation.specs.declared.seat.Seat.TheVariants.{Attached, Left};
-ghost use Rattle.cdp_session.specs.Replies.{answer_of};
-ghost use Rattle.cdp_session.specs.Sessions.{Session as Kept};
+ghost use Rattle.js_tree.specs.declared.script.Script.{Script as AnyScript};
+ghost use Rattle.cdp_json.specs.Messages.{refusal_text};
+ghost use Rattle.cdp_json.specs.declared.refusal.Refusal.{Refusal};
+ghost use Rattle.cdp_session.specs.Replies.{answer_of, outcome_of, IsRefused};
+ghost use Rattle.cdp_session.specs.Sessions.{Session as Kept, sent};
 ghost use Rattle.pure_eval.specs.Workspaces.{begun};
 ghost use Rattle.cdp_host.specs.Histories.{begin};
 ghost use Rattle.cdp_host.specs.Programs.{code_of, is_over, has_thrown};
@@ -23,7 +26,8 @@ use crate::debuggee::Debuggee;
 use crate::lines::lines_of_all;
 use crate::losses::SessionLost;
 use crate::seats::{
-    break_all, is_attached, losses_of, report_all, resume_all, some_enabled, some_wait_for_report,
+    break_all, fell, is_attached, losses_of, report_all, resume_all, some_enabled,
+    some_wait_for_report,
 };
 use crate::state::State;
 use crate::stops::{is_first, pause_behind, phase_of, stops_behind, waits, woken};
@@ -199,6 +203,16 @@ impl Host {
         }
     }
 
+    /// Whether this session was lost for want of memory, and no run has told of that.
+    pub fn fell(&self, s: u64) -> bool
+        ensures { result ≡ fell (seat_of s self.now.meaning.seats) }
+    {
+        match place_of(self.seats.as_slice(), s) {
+            Some(index) => fell(&self.seats[index]),
+            None => false,
+        }
+    }
+
     /// The first state that holds, in the order in which `State` lists them.
     pub fn state(&self) -> State
         ensures { (taken : List (List ℕ)) → result ≡ state_at self.now taken }
@@ -269,6 +283,11 @@ impl Host {
             → texts_fit (answer_of (situation self.old.scripts self.old.meaning.stop (parts_standing self.old.scripts self.old.meaning.program)) x text.now).session ≡ true }
         ensures over { result ≡ Told.Overrun → (x : Kept) → seat_of s self.old.meaning.seats ≡ Attached x
             → texts_fit (answer_of (situation self.old.scripts self.old.meaning.stop (parts_standing self.old.scripts self.old.meaning.program)) x text.now).session ≡ false }
+        // a refused command changes only the texts that wait
+        ensures refused { result ≡ Told.Kept → (x : Kept) (id : Option ℕ) (refusal : Refusal) (scripts : List AnyScript) (input : List (List ℕ)) (wait : Bool) (history : List Entry)
+            → Stands scripts input wait self.old history → seat_of s self.old.meaning.seats ≡ Attached x
+            → outcome_of (situation self.old.scripts self.old.meaning.stop (parts_standing self.old.scripts self.old.meaning.program)) x text.now ≡ IsRefused id refusal
+            → self.new.meaning ≡ with_seat s (Attached (sent (refusal_text id refusal ∷ []) x)) self.old.meaning }
         ensures stands_kept { result ≡ Told.Kept → CarriesOn self.old (Tell s text.now) self.new }
         ensures stands_overrun { result ≡ Told.Overrun → CarriesOn self.old (Tell s text.now) self.new }
         ensures stands_memory { result ≡ Told.Memory → CarriesOn self.old (Detach s) self.new }
@@ -294,6 +313,8 @@ impl Host {
     /// resume.
     pub fn detach(&mut self, s: u64) -> Option<SessionLost>
         ensures told { result ≡ loss_told s (seat_of s self.old.meaning.seats) }
+        // of a session that is attached
+        ensures leaves { is_attached (seat_of s self.old.meaning.seats) ≡ true → Leaves self.old (Detach s) self.new }
         ensures stands { CarriesOn self.old (Detach s) self.new }
     {
         if self.attached(s) {
@@ -341,6 +362,8 @@ impl Host {
     fn follow(&mut self, asks: Asks)
         requires { self.old.broken ≡ false }
         ensures means { (taken : List (List ℕ)) → meaning_with self.new taken ≡ less self.new.meaning.seats (asked (protocol self.old.scripts) (asks_to_resume asks) (asks_to_wake asks) (meaning_with self.old taken)) }
+        ensures quiet { asks_to_resume asks ≡ false → asks_to_wake asks ≡ false
+            → (is_paused self.old.meaning ≡ true → some (is_enabled_seat (protocol self.old.scripts)) self.old.meaning.seats ≡ true) → self.new ≡ self.old }
         ensures stays { is_paused self.new.meaning ≡ true → (self.new.meaning.seats ≡ self.old.meaning.seats) × (self.new.meaning.stop ≡ self.old.meaning.stop) }
         ensures scripts { self.new.scripts ≡ self.old.scripts }
         ensures works { self.new.broken ≡ self.old.broken }
@@ -388,6 +411,7 @@ impl Host {
     fn resume(&mut self)
         requires { self.old.broken ≡ false }
         ensures means { (taken : List (List ℕ)) → meaning_with self.new taken ≡ less self.new.meaning.seats (resume (protocol self.old.scripts) (meaning_with self.old taken)) }
+        ensures free { is_paused self.old.meaning ≡ false → self.new ≡ self.old }
         ensures goes { is_paused self.new.meaning ≡ false }
         ensures scripts { self.new.scripts ≡ self.old.scripts }
         ensures works { self.new.broken ≡ self.old.broken }
@@ -402,6 +426,7 @@ impl Host {
     fn settle(&mut self)
         requires { self.old.broken ≡ false }
         ensures means { (taken : List (List ℕ)) → meaning_with self.new taken ≡ less self.new.meaning.seats (settle (protocol self.old.scripts) (meaning_with self.old taken)) }
+        ensures quiet { (is_paused self.old.meaning ≡ true → some (is_enabled_seat (protocol self.old.scripts)) self.old.meaning.seats ≡ true) → self.new ≡ self.old }
         ensures stays { is_paused self.new.meaning ≡ true → self.new ≡ self.old }
         ensures scripts { self.new.scripts ≡ self.old.scripts }
         ensures works { self.new.broken ≡ self.old.broken }
@@ -414,8 +439,8 @@ impl Host {
 
 impl Host {
     /// Makes the longest run of at most `n` steps at a moment, in milliseconds since the epoch: it ends earlier only where the
-    /// program isn't ready any more. It tells of the sessions that were lost. After an error the host is broken and all sessions
-    /// are lost.
+    /// program isn't ready any more. It tells of the sessions that were lost. A run that makes no step needs no memory, but for
+    /// the list of the sessions that were lost before it. After an error the host is broken and all sessions are lost.
     ///
     /// # Errors
     ///
@@ -429,6 +454,8 @@ impl Host {
         ensures broken { self.old.broken ≡ true → IfOk result (λ ran. ran.steps ≡ 0) }
         ensures err { OnErr result ((self.new.broken ≡ true) × NoneAttached self.new.meaning.seats) }
         ensures err_works { OnErr result (self.old.broken ≡ false) }
+        // a run that makes no step needs no memory, but for the list of the losses
+        ensures err_steps { OnErr result ((taken : List (List ℕ)) → (0 < longest (protocol self.old.scripts) moment n (meaning_with self.old taken)) ⊎ (some waits_for_report self.old.meaning.seats ≡ true)) }
         ensures stands { IfOk result (λ ran. CarriesOn self.old (RanEntry ran.steps moment (lost_for_memory ran.lost.items)) self.new) }
         ensures stands_err { OnErr result (CarriesOn self.old (RanEntry 0 moment (everybody self.old)) self.new) }
     {
@@ -457,6 +484,7 @@ impl Host {
             → RunsTo self.old.scripts moment n (meaning_with self.old taken) ran.steps ran.printed.items ran.lost.items (meaning_with self.new (taken ++ ran.printed.items))) }
         ensures same { IfOk result (λ ran. self.new.broken ≡ false) }
         ensures scripts { self.new.scripts ≡ self.old.scripts }
+        ensures err_steps { OnErr result ((taken : List (List ℕ)) → (0 < longest (protocol self.old.scripts) moment n (meaning_with self.old taken)) ⊎ (some waits_for_report self.old.meaning.seats ≡ true)) }
     {
         let Made { steps, printed } = self.make(n, moment)?;
         let lost = losses_of(self.alloc, self.seats.as_slice())?;
@@ -469,8 +497,30 @@ impl Host {
         })
     }
 
-    /// The same without reporting the losses.
+    /// The same without reporting the losses. It takes memory only where a step may be made.
     fn make(&mut self, n: u64, moment: u64) -> Result<Made, AllocError>
+        requires moment { moment < 2 ^ 53 }
+        requires works { self.old.broken ≡ false }
+        ensures makes { IfOk result (λ ran. (taken : List (List ℕ)) → IsLongest (protocol self.old.scripts) moment n (meaning_with self.old taken) (meaning_with self.new (taken ++ ran.printed.items)) ran.steps) }
+        ensures printed { IfOk result (λ ran. (taken : List (List ℕ)) → ran.printed.items ≡ printed_between (meaning_with self.old taken).program (meaning_with self.new (taken ++ ran.printed.items)).program) }
+        ensures same { IfOk result (λ ran. self.new.broken ≡ false) }
+        ensures scripts { self.new.scripts ≡ self.old.scripts }
+        // nothing has changed, or a step may be made
+        ensures still { OnOk result ((self.new ≡ self.old) ⊎ ((taken : List (List ℕ)) → 0 < longest (protocol self.old.scripts) moment n (meaning_with self.old taken))) }
+        ensures err_steps { OnErr result ((taken : List (List ℕ)) → 0 < longest (protocol self.old.scripts) moment n (meaning_with self.old taken)) }
+    {
+        if self.may_step(n) {
+            self.make_steps(n, moment)
+        } else {
+            Ok(Made {
+                steps: 0,
+                printed: Vec::new(self.alloc),
+            })
+        }
+    }
+
+    /// The same. It takes memory for a flag of each session, also where no step may be made.
+    fn make_steps(&mut self, n: u64, moment: u64) -> Result<Made, AllocError>
         requires moment { moment < 2 ^ 53 }
         requires works { self.old.broken ≡ false }
         ensures makes { IfOk result (λ ran. (taken : List (List ℕ)) → IsLongest (protocol self.old.scripts) moment n (meaning_with self.old taken) (meaning_with self.new (taken ++ ran.printed.items)) ran.steps) }

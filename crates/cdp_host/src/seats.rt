@@ -1,10 +1,11 @@
 //! The seats of a host's sessions: who is attached, and what a resume and a report do.
 
-ghost use Rattle.std.specs.Prelude.{◌≡◌, ◌+◌, ◌++◌, ◌∷◌, [], IfOk, OnOk, List, true, false, option_to_list};
+ghost use Rattle.std.specs.Prelude.{◌≡◌, ◌+◌, ◌++◌, ◌∷◌, [], IfOk, OnOk, List, true, false, option_to_list, is_some, OnErr};
 ghost use Rattle.isolation.specs.Meanings.{is_enabled_seat};
 ghost use Rattle.isolation.specs.Passes.{HearsOn, OverAll};
 ghost use Rattle.isolation.specs.Runs.{AllFit};
 ghost use Rattle.isolation.specs.Seats.{each, is_attached, lost_by, reported, some, waits_for_report};
+ghost use Rattle.isolation.specs.Standing.{fell};
 ghost use Rattle.isolation.specs.Texts.{Fits};
 ghost use Rattle.js_tree.specs.declared.script.Script.{Script};
 ghost use Rattle.cdp_host.specs.Hosts.{NoneAttached};
@@ -45,6 +46,20 @@ pub(crate) fn is_attached(seat: &Seat<Session>) -> bool
     match seat {
         Seat::Attached(_) => true,
         Seat::Lost { .. } | Seat::Left => false,
+    }
+}
+
+/// Whether a session was lost there for want of memory, and no run has reported it.
+pub(crate) fn fell(seat: &Seat<Session>) -> bool
+    ensures { result ≡ fell seat.now }
+{
+    match seat {
+        Seat::Lost {
+            loss: Loss::Memory,
+            reported: false,
+            ..
+        } => true,
+        Seat::Attached(_) | Seat::Lost { .. } | Seat::Left => false,
     }
 }
 
@@ -140,7 +155,8 @@ fn loss_waiting(session: u64, seat: &Seat<Session>) -> Option<SessionLost>
 
 /// Puts a loss behind others, if there is one.
 fn push_loss(losses: &mut Vec<SessionLost>, loss: Option<SessionLost>) -> Result<(), AllocError>
-    ensures { OnOk result (losses.new.items ≡ losses.old.items ++ option_to_list loss) }
+    ensures pushed { OnOk result (losses.new.items ≡ losses.old.items ++ option_to_list loss) }
+    ensures err { OnErr result (is_some loss ≡ true) }
 {
     if let Some(loss) = loss {
         losses.push(loss)?;
@@ -152,12 +168,13 @@ fn push_loss(losses: &mut Vec<SessionLost>, loss: Option<SessionLost>) -> Result
 ///
 /// # Errors
 ///
-/// There is no memory for the list.
+/// There is no memory for the list; so some session was lost.
 pub(crate) fn losses_of(
     alloc: Global,
     seats: &[Seat<Session>],
 ) -> Result<Vec<SessionLost>, AllocError>
-    ensures { IfOk result (λ losses. losses.items ≡ losses_from 1 seats.now) }
+    ensures losses { IfOk result (λ losses. losses.items ≡ losses_from 1 seats.now) }
+    ensures err { OnErr result (some waits_for_report seats.now ≡ true) }
 {
     let mut losses = Vec::new(alloc);
     let mut session = 0;

@@ -1,6 +1,9 @@
 use Rattle.std.proofs.Common.{rules, ◌+◌, ◌∷◌, [], ap, sym, ◌∙◌, arith}
+use Rattle.isolation.specs.Seats.{waits_for_report}
+use Rattle.isolation.proofs.SomeLemmas.{some-found}
 use Rattle.cdp_host.specs.Watching.{losses_from}
-use Rattle.cdp_host.proofs.SeatLemmas.{losses-done, losses-more}
+use Rattle.cdp_host.proofs.RunLemmas.{at-error}
+use Rattle.cdp_host.proofs.SeatLemmas.{listed-waits, losses-done, losses-more}
 use Rattle.cdp_host.proofs.seats.losses_of.Goals as goal
 
 pub loop-seat-init : goal.loop-seat-init
@@ -18,8 +21,16 @@ loop-seat-preserved c =
     record {
       counted = ap (λ n. n + 1) c.loop-seat.invariant.counted;
       items = losses-more c.loop-seat.seat-index c.args.seats.now c.seat-item.result c.loop-seat.losses.items c.push_loss.new.losses.items c.loss_waiting.result
-          c.loop-seat-test.true c.loop-seat.invariant.items here c.in_ok-push_loss.ensures;
+          c.loop-seat-test.true c.loop-seat.invariant.items here c.in_ok-push_loss.ensures.pushed;
     }
 
-pub returns : goal.returns
-returns c = losses-done c.loop-seat.seat-index c.args.seats.now c.loop-seat.losses.items c.loop-seat-test.false c.loop-seat.invariant.items
+pub returns-clause-losses : goal.returns-clause-losses
+returns-clause-losses c = losses-done c.loop-seat.seat-index c.args.seats.now c.loop-seat.losses.items c.loop-seat-test.false c.loop-seat.invariant.items
+
+-- there is no memory for a loss that waits
+pub returns-in_err-push_loss-clause-err : goal.returns-in_err-push_loss-clause-err
+returns-in_err-push_loss-clause-err c =
+    at-error c.from_residual.result _
+    (some-found waits_for_report c.loop-seat.seat-index c.args.seats.now c.seat-item.result c.loop-seat-test.true
+    (ap waits_for_report (sym c.seat-item.is)
+    ∙ listed-waits (c.loop-seat.session + 1) c.seat-item.result c.loss_waiting.result c.loss_waiting.ensures c.in_err-push_loss.ensures.err))

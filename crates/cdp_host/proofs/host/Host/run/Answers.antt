@@ -40,3 +40,6 @@ pub returns-in-Err-clause-stands_err : goal.returns-in-Err-clause-stands_err
 returns-in-Err-clause-stands_err c = λ scripts input wait history stood.
     let works : c.args.self.now.broken ≡ false = sym (ap (λ h. h.broken) c.self.view_is) ∙ c.if-self.false in
     stands-fails scripts input wait c.args.self.now _ history c.args.moment (ap (λ h. h.scripts) c.self-2.view_is ∙ c.in-Err.ensures.scripts) works refl stood
+
+pub returns-in-Err-clause-err_steps : goal.returns-in-Err-clause-err_steps
+returns-in-Err-clause-err_steps c = λ taken. c.in-Err.ensures.err_steps taken

@@ -4,6 +4,7 @@ use Rattle.isolation.specs.Seats.{seat_of}
 use Rattle.cdp_host.proofs.CallLemmas.{whose}
 use Rattle.cdp_host.proofs.HistoryLemmas.{stands-call}
 use Rattle.cdp_host.proofs.LeaveLemmas.{leaves-kept, leaves-left, leaves-over, stays-same}
+use Rattle.cdp_host.proofs.RefusalLemmas.{refused-told}
 use Rattle.cdp_host.proofs.host.Host.tell.Goals as goal
 
 pub returns-in-Kept-clause-kept : goal.returns-in-Kept-clause-kept
@@ -12,6 +13,11 @@ returns-in-Kept-clause-kept c = λ _.
     let it = whose (seat_of c.args.s now.meaning.seats) c.requires in
     leaves-kept now c.answer.new.self c.follow.new.self c.args.s c.args.text.now it.0 c.in-Kept.asks it.1 c.in-Kept.ensures.same (c.in-Kept.ensures.answers it.0 it.1)
     c.follow.ensures.scripts c.follow.ensures.works c.follow.ensures.stays c.follow.ensures.means
+
+pub returns-in-Kept-clause-refused : goal.returns-in-Kept-clause-refused
+returns-in-Kept-clause-refused c = λ _ x id refusal scripts input wait history stood had refused.
+    refused-told c.args.self.now c.answer.new.self c.follow.new.self c.args.s c.args.text.now c.in-Kept.asks x id refusal scripts input wait history
+    c.in-Kept.ensures.same c.in-Kept.ensures.works (c.in-Kept.ensures.answers x had) c.follow.ensures.quiet stood had refused
 
 pub returns-in-Kept-clause-stands_kept : goal.returns-in-Kept-clause-stands_kept
 returns-in-Kept-clause-stands_kept c = λ _ scripts input wait history stood.

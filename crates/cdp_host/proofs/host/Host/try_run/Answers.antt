@@ -1,13 +1,14 @@
-use Rattle.std.proofs.Common.{◌≡◌, false, ◌++◌, ap, subst, sym, ◌∙◌, arith}
+use Rattle.std.proofs.Common.{◌≡◌, ◌<◌, ℕ, List, false, inl, ◌++◌, ap, subst, sym, ◌∙◌, arith}
 use Rattle.std.specs.Vec.{with_items}
 use Rattle.std.proofs.lemmas.List.{with_items_is}
+use Rattle.isolation.specs.Meanings.{longest}
 use Rattle.isolation.specs.Runs.{AllFit}
-use Rattle.isolation.specs.Seats.{each, reported}
+use Rattle.isolation.specs.Seats.{each, reported, some, waits_for_report}
 use Rattle.isolation.specs.Standing.{fallen_in}
 use Rattle.cdp_host.specs.Hosts.{meaning_with}
 use Rattle.cdp_host.specs.Protocols.{protocol}
 use Rattle.cdp_host.specs.Watching.{losses_from}
-use Rattle.cdp_host.proofs.RunLemmas.{reported-fit, reported-none, settled-as}
+use Rattle.cdp_host.proofs.RunLemmas.{at-error, listed-by, reported-fit, reported-none, settled-as}
 use Rattle.cdp_host.proofs.host.Host.try_run.Goals as goal
 
 pub invariant_of-self : goal.invariant_of-self
@@ -42,9 +43,22 @@ returns-clause-runs c = λ taken.
       middle = meaning_with made there;
       longest = c.in_ok-steps.ensures.makes taken;
       prints = c.in_ok-steps.ensures.printed taken;
-      reports = c.in_ok-lost.ensures ∙ ap (λ ss. losses_from 1 ss) c.as_slice.ensures.value ∙ ap (λ h. losses_from 1 h.meaning.seats) c.self.view_is;
+      reports = c.in_ok-lost.ensures.losses ∙ ap (λ ss. losses_from 1 ss) c.as_slice.ensures.value ∙ ap (λ h. losses_from 1 h.meaning.seats) c.self.view_is;
       is = settled-as _ made c.settle.new.self c.args.self.now.scripts (with_items a.seats c.report_all.new.seats).items there
           c.self.view_is c.in_ok-steps.ensures.scripts seats (c.settle.ensures.means there);
       all_there = λ paused.
           ap (λ h. fallen_in h.meaning.seats) (c.settle.ensures.stays paused) ∙ ap (λ ss. fallen_in ss) seats ∙ reported-none a.seats.items;
     }
+
+-- ---- where there is no memory
+
+pub returns-in_err-steps-clause-err_steps : goal.returns-in_err-steps-clause-err_steps
+returns-in_err-steps-clause-err_steps c = at-error c.from_residual.result _ (λ taken. inl (c.in_err-steps.ensures.err_steps taken))
+
+pub returns-in_err-lost-clause-err_steps : goal.returns-in_err-lost-clause-err_steps
+returns-in_err-lost-clause-err_steps c =
+    let now = c.args.self.now in
+    at-error c.from_residual-in_err-lost.result _
+    (listed-by now c.make.new.self (List (List ℕ)) (λ taken. 0 < longest (protocol now.scripts) c.args.moment c.args.n (meaning_with now taken))
+    c.in_ok-steps.ensures.still
+    (sym (ap (λ ss. some waits_for_report ss) c.as_slice.ensures.value ∙ ap (λ h. some waits_for_report h.meaning.seats) c.self.view_is) ∙ c.in_err-lost.ensures.err))

@@ -2,7 +2,7 @@ use Rattle.std.proofs.Common.{◌-◌, ◌≡◌, ◌++◌, ◌≤◌, false, le
 use Rattle.isolation.specs.Runs.{HasMade}
 use Rattle.cdp_host.specs.Hosts.{meaning_with}
 use Rattle.cdp_host.specs.Protocols.{protocol}
-use Rattle.cdp_host.proofs.host.Host.make.Given as goal
+use Rattle.cdp_host.proofs.host.Host.make_steps.Given as goal
 
 -- so many steps were made, and what they printed is kept
 abbrev pub invariant-loop-self : goal.invariant-loop-self
