@@ -1,30 +1,65 @@
 -- What a line does to a host that stands for a history.
-use Rattle.std.proofs.Common.{◌≡◌, ◌≢◌, ℕ, ◌+◌, ◌==◌, List, [], ◌∷◌, ◌++◌, map, Bool, true, false, ◌&&◌, not, if◌then◌else◌, Option, Some, None, refl, ap, sym, subst, ◌∙◌, append_assoc}
-use Rattle.std.proofs.lemmas.Bool.{eq-eqb, ne_eqb}
+use Rattle.std.proofs.Common.{◌≡◌, ℕ, ◌+◌, List, [], ◌∷◌, ◌++◌, length, map, Bool, true, false, not, if◌then◌else◌, Option, Some, None, Result, Ok, Err, OnErr, refl, ap, sym, subst, ◌∙◌, append_assoc}
 use Rattle.std.proofs.lemmas.List.{map-append}
 use Rattle.std.proofs.lemmas.Option.{same_Some}
-use Rattle.std.specs.Option.{option_and_then, option_map_or}
-use Rattle.cdp_edge.specs.Outside.{GainsLess, GainsPrefix}
+use Rattle.std.specs.Option.{option_and_then}
+use Rattle.cdp_edge.specs.Outside.{GainsLess, GainsPrefix, gains}
+use Rattle.isolation.specs.Histories.{Entry, Attach, Tell, Take, Detach, Ran, Shut, waiting}
+use Rattle.isolation.specs.Meanings.{after_run, after_steps, longest, with_seats}
+use Rattle.isolation.specs.Seats.{is_attached, seat_of, without}
+use Rattle.isolation.specs.Standing.{StandsAs, fallen_in, fell}
+use Rattle.isolation.specs.declared.seat.Seat.{Seat}
+use Rattle.isolation.specs.declared.seat.Seat.TheVariants as seats
+use Rattle.isolation.proofs.BrokenLemmas.{stands-length}
+use Rattle.isolation.proofs.FallenLemmas.{without-none}
+use Rattle.isolation.proofs.MadeLemmas.{made-longest}
+use Rattle.isolation.proofs.StepLemmas.{run-none, steps-fallen}
 use Rattle.js_tree.specs.declared.script.Script.{Script}
 use Rattle.js_semantics.specs.Run.{Run as Program}
-use Rattle.cdp_session.specs.Outboxes.{fits}
 use Rattle.cdp_session.specs.Replies.{answer_of}
+use Rattle.cdp_session.specs.Sessions.{Session}
+use Rattle.cdp_session.specs.Situations.{Standing}
+use Rattle.cdp_session.specs.declared.situation.Pause.{Pause}
+use Rattle.cdp_host.specs.declared.losses.SessionLost.{SessionLost}
 use Rattle.cdp_host.specs.declared.state.State.{State}
-use Rattle.cdp_host.specs.declared.state.State.TheVariants.{Broken}
+use Rattle.cdp_host.specs.declared.state.State.TheVariants as states
+use Rattle.cdp_host.specs.Histories.{Meaning, apply, whole}
+use Rattle.cdp_host.specs.Hosts.{CarriesOn, HostState, Leaves, RunsTo, Stands, lost_for_memory, meaning_with, parts_standing, state_at}
 use Rattle.cdp_host.specs.Programs.{printed_of}
-use Rattle.cdp_host.specs.Meaning.{Meaning, is_attached, longest, after_steps}
-use Rattle.cdp_host.specs.Histories.{Entry, Attach, Tell, Take, Ran, overruns, whole}
-use Rattle.cdp_host.specs.Hosts.{HostState, Stands, after, meaning_with, parts_standing, state_at}
+use Rattle.cdp_host.specs.Protocols.{protocol, situation, texts_fit}
+use Rattle.cdp_host.specs.Rules.{printed_between}
 use Rattle.cdp_host.specs.Standings.{standing_of}
-use Rattle.cdp_host.specs.Rules.{printed_in}
-use Rattle.cdp_host.specs.States.{outbox_of, state_of}
-use Rattle.cdp_host.proofs.HistoryLemmas.{whole-more}
+use Rattle.cdp_host.specs.States.{state_of}
+use Rattle.cdp_host.specs.Watching.{losses_from}
+use Rattle.cdp_host.proofs.HistoryLemmas.{longer}
+use Rattle.cdp_host.proofs.RunLemmas.{lost-fallen}
 use Rattle.cdp_host.proofs.StandingLemmas.{standing-taken}
 use Rattle.command_line.specs.Lines as lines
 use Rattle.command_line.specs.Lines.{line_of}
-use Rattle.command_line.specs.Journal.{entry_at, entry_of}
-use Rattle.command_line.specs.Output.{Output, Attached, To, Out, Overran, RanTo, joined, lost_lines, output_at, output_text}
-use Rattle.command_line.specs.Played.{Acts, StandsBehind, line_output}
+use Rattle.command_line.specs.Journal.{entry_at, entry_of, is_there}
+use Rattle.command_line.specs.Output.{Output, Attached, To, Out, Overran, RanTo, joined, output_at, output_text, overrun_at, overrun_in, overruns, printed_at}
+use Rattle.command_line.specs.Played.{Acts, Plays, StandsBehind, line_output}
+use Rattle.command_line.proofs.SeatLemmas.{gone-seat, held-seat}
+
+-- ---- who is attached
+
+-- what a call says of every history for which a host stands
+abbrev pub IsMeant : HostState → ℕ → Bool → Type 0
+IsMeant host s there = (scripts : List Script) (input : List (List ℕ)) (wait : Bool) (history : List Entry) → Stands scripts input wait host history
+    → there ≡ is_there (whole scripts input wait history) s
+
+pub there-held : (host : HostState) (s : ℕ) → host.broken ≡ false → is_attached (seat_of s host.meaning.seats) ≡ true → IsMeant host s true
+there-held host s works held scripts input wait history stood =
+    let m : Meaning Program = whole scripts input wait history in
+    let taken : List (List ℕ) = printed_of m.program in
+    sym (ap (λ seat. is_attached seat) (held-seat (meaning_with host taken) m s (stood.means works) held) ∙ held)
+
+pub there-gone : (host : HostState) (s : ℕ) → host.broken ≡ false → is_attached (seat_of s host.meaning.seats) ≡ false → fell (seat_of s host.meaning.seats) ≡ false
+    → IsMeant host s false
+there-gone host s works gone stays scripts input wait history stood =
+    let m : Meaning Program = whole scripts input wait history in
+    let taken : List (List ℕ) = printed_of m.program in
+    sym (gone-seat (meaning_with host taken) m s (stood.means works) gone stays)
 
 -- ---- a line that may stand there only where this holds
 
@@ -39,150 +74,201 @@ done_by : (scripts : List Script) (input : List (List ℕ)) (wait : Bool) (histo
 done_by scripts input wait history true entry texts new is texts_are stands = (texts_are, stands)
 done_by scripts input wait history false entry texts new is texts_are stands = cc
 
--- ---- what a host keeps is what its history says
-
-attached_as : (scripts : List Script) (input : List (List ℕ)) (wait : Bool) (history : List Entry) (host : HostState) → host.broken ≡ false → Stands scripts input wait host history
-    → host.meaning.attached ≡ (whole scripts input wait history).attached
-attached_as scripts input wait history host works stood = ap (λ m. m.attached) (stood.means works)
-
-is_attached_as : (scripts : List Script) (input : List (List ℕ)) (wait : Bool) (history : List Entry) (host : HostState) (s : ℕ) → host.broken ≡ false → Stands scripts input wait host history
-    → is_attached host.meaning s ≡ is_attached (whole scripts input wait history) s
-is_attached_as scripts input wait history host s works stood = ap (λ m. is_attached m s) (stood.means works)
-
-outbox_as : (scripts : List Script) (input : List (List ℕ)) (wait : Bool) (history : List Entry) (host : HostState) → host.broken ≡ false → Stands scripts input wait host history
-    → outbox_of host.meaning ≡ outbox_of (whole scripts input wait history)
-outbox_as scripts input wait history host works stood = ap (λ m. outbox_of m) (stood.means works)
-
-stays : (old new : HostState) (entry : Entry) → old.broken ≡ false → new ≡ after old entry → new.broken ≡ false
-stays old new entry works is = ap (λ h. h.broken) is ∙ works
+-- the host behind a call with this entry
+stands-behind : (scripts : List Script) (input : List (List ℕ)) (wait : Bool) (history : List Entry) (old new : HostState) (entry : Entry) → old.broken ≡ false
+    → Leaves old entry new → CarriesOn old entry new → Stands scripts input wait old history → StandsBehind scripts input wait history entry new
+stands-behind scripts input wait history old new entry works leaves carries stood =
+    record { stands = carries scripts input wait history stood; works = leaves.works ∙ works }
 
 -- ---- the lines
 
-pub attach-refused : (scripts : List Script) (input : List (List ℕ)) (wait : Bool) (history : List Entry) (host : HostState) → host.broken ≡ false → host.meaning.attached ≢ 0 → Stands scripts input wait host history
-    → Acts scripts input wait history (entry_at scripts (whole scripts input wait history) lines.Attach) None host
-attach-refused scripts input wait history host works others stood =
-    refused_by scripts input wait history ((whole scripts input wait history).attached == 0) Attach host
-    (ne_eqb (whole scripts input wait history).attached 0 (λ is. others (attached_as scripts input wait history host works stood ∙ is)))
-
-pub attach-done : (scripts : List Script) (input : List (List ℕ)) (wait : Bool) (history : List Entry) (old new : HostState) (s : ℕ) (texts : List (List ℕ)) → old.broken ≡ false → old.meaning.attached ≡ 0 → s ≡ 1
-    → new ≡ after old Attach → texts ≡ output_text (Attached s) ∷ [] → Stands scripts input wait new (history ++ Attach ∷ []) → Stands scripts input wait old history
+pub attach-done : (old new : HostState) (s : ℕ) (texts : List (List ℕ)) → old.broken ≡ false → s ≡ length old.meaning.seats + 1 → Leaves old Attach new → CarriesOn old Attach new
+    → texts ≡ output_text (Attached s) ∷ [] → (scripts : List Script) (input : List (List ℕ)) (wait : Bool) (history : List Entry) → Stands scripts input wait old history
     → Acts scripts input wait history (entry_at scripts (whole scripts input wait history) lines.Attach) (Some texts) new
-attach-done scripts input wait history old new s texts works none first is texts_are stands stood =
-    let zero : (whole scripts input wait history).attached ≡ 0 = sym (attached_as scripts input wait history old works stood) ∙ none in
-    done_by scripts input wait history ((whole scripts input wait history).attached == 0) Attach (Some texts) new (eq-eqb (whole scripts input wait history).attached 0 zero)
-    (ap (λ xs. Some xs) (texts_are ∙ ap (λ n. output_text (Attached n) ∷ []) (first ∙ ap (λ n. n + 1) (sym zero))))
-    (record { stands = stands; works = stays old new Attach works is })
-
-pub tell-refused : (scripts : List Script) (input : List (List ℕ)) (wait : Bool) (history : List Entry) (host : HostState) (s : ℕ) (text : List ℕ) → host.broken ≡ false → is_attached host.meaning s ≡ false
-    → Stands scripts input wait host history → Acts scripts input wait history (entry_at scripts (whole scripts input wait history) (lines.Tell s text)) None host
-tell-refused scripts input wait history host s text works none stood =
-    refused_by scripts input wait history (is_attached (whole scripts input wait history) s) (Tell s text) host (sym (is_attached_as scripts input wait history host s works stood) ∙ none)
-
--- whether the texts of an answer fit, as the host keeps it and as its history says
-overruns_as : (scripts : List Script) (input : List (List ℕ)) (wait : Bool) (history : List Entry) (host : HostState) (text : List ℕ) → host.broken ≡ false → Stands scripts input wait host history
-    → overruns (parts_standing host.scripts) host.scripts text host.meaning ≡ overruns (standing_of scripts) scripts text (whole scripts input wait history)
-overruns_as scripts input wait history host text works stood =
-    let taken : List (List ℕ) = printed_of (whole scripts input wait history).program in
-    ap (λ d. option_map_or (λ x. not (fits (answer_of (record { scripts = host.scripts; paused = host.meaning.stop; standing = d }) x text).session.outbox)) host.meaning.session false)
-    (standing-taken host.scripts host.meaning.program taken)
-    ∙ ap (λ ss. overruns (standing_of ss) ss text (meaning_with host taken)) stood.runs
-    ∙ ap (λ k. overruns (standing_of scripts) scripts text k) (stood.means works)
-
-overrun_text : (s : ℕ) (a b c : Bool) → a ≡ true → b ≡ c
-    → map output_text (if c then Overran s ∷ [] else []) ≡ map output_text (if a && b then Overran s ∷ [] else [])
-overrun_text s true b c there is = rw is refl
-overrun_text s false b c there is = cc
-
-tell-done : (scripts : List Script) (input : List (List ℕ)) (wait : Bool) (history : List Entry) (old new : HostState) (s : ℕ) (text : List ℕ) (texts : List (List ℕ)) (over : Bool) → old.broken ≡ false
-    → is_attached old.meaning s ≡ true → new ≡ after old (Tell s text) → overruns (parts_standing old.scripts) old.scripts text old.meaning ≡ over
-    → texts ≡ map output_text (if over then Overran s ∷ [] else []) → Stands scripts input wait new (history ++ Tell s text ∷ []) → Stands scripts input wait old history
-    → Acts scripts input wait history (entry_at scripts (whole scripts input wait history) (lines.Tell s text)) (Some texts) new
-tell-done scripts input wait history old new s text texts over works there is lost texts_are stands stood =
+attach-done old new s texts works number leaves carries texts_are scripts input wait history stood =
     let m : Meaning Program = whole scripts input wait history in
-    let attached : is_attached m s ≡ true = sym (is_attached_as scripts input wait history old s works stood) ∙ there in
-    let lost_there : overruns (standing_of scripts) scripts text m ≡ over = sym (overruns_as scripts input wait history old text works stood) ∙ lost in
-    done_by scripts input wait history (is_attached m s) (Tell s text) (Some texts) new attached
-    (ap (λ xs. Some xs) (texts_are ∙ overrun_text s (is_attached m s) (overruns (standing_of scripts) scripts text m) over attached lost_there))
-    (record { stands = stands; works = stays old new (Tell s text) works is })
+    let many : length old.meaning.seats ≡ length m.seats = stands-length (meaning_with old (printed_of m.program)) m (stood.means works) in (
+      ap (λ xs. Some xs) (texts_are ∙ ap (λ n. output_text (Attached n) ∷ []) (number ∙ ap (λ n. n + 1) many)),
+      stands-behind scripts input wait history old new Attach works leaves carries stood,
+    )
 
-pub tell-kept : (scripts : List Script) (input : List (List ℕ)) (wait : Bool) (history : List Entry) (old new : HostState) (s : ℕ) (text : List ℕ) (texts : List (List ℕ)) → old.broken ≡ false
-    → is_attached old.meaning s ≡ true → new ≡ after old (Tell s text) → overruns (parts_standing old.scripts) old.scripts text old.meaning ≡ false
-    → texts ≡ [] → Stands scripts input wait new (history ++ Tell s text ∷ []) → Stands scripts input wait old history
+pub tell-refused : (host : HostState) (s : ℕ) (text : List ℕ) (there : Bool) → there ≡ false → IsMeant host s there
+    → (scripts : List Script) (input : List (List ℕ)) (wait : Bool) (history : List Entry) → Stands scripts input wait host history
+    → Acts scripts input wait history (entry_at scripts (whole scripts input wait history) (lines.Tell s text)) None host
+tell-refused host s text there none meant scripts input wait history stood =
+    refused_by scripts input wait history (is_there (whole scripts input wait history) s) (Tell s text) host (sym (meant scripts input wait history stood) ∙ none)
+
+pub take-refused : (host : HostState) (s : ℕ) (there : Bool) → there ≡ false → IsMeant host s there
+    → (scripts : List Script) (input : List (List ℕ)) (wait : Bool) (history : List Entry) → Stands scripts input wait host history
+    → Acts scripts input wait history (entry_at scripts (whole scripts input wait history) (lines.Take s)) None host
+take-refused host s there none meant scripts input wait history stood =
+    refused_by scripts input wait history (is_there (whole scripts input wait history) s) (Take s) host (sym (meant scripts input wait history stood) ∙ none)
+
+pub detach-refused : (host : HostState) (s : ℕ) (there : Bool) → there ≡ false → IsMeant host s there
+    → (scripts : List Script) (input : List (List ℕ)) (wait : Bool) (history : List Entry) → Stands scripts input wait host history
+    → Acts scripts input wait history (entry_at scripts (whole scripts input wait history) (lines.Detach s)) None host
+detach-refused host s there none meant scripts input wait history stood =
+    refused_by scripts input wait history (is_there (whole scripts input wait history) s) (Detach s) host (sym (meant scripts input wait history stood) ∙ none)
+
+-- whether the texts of an answer of a host's session fit
+abbrev pub AnswersFit : HostState → ℕ → List ℕ → Bool → Type 0
+AnswersFit host s text fit = (x : Session) → seat_of s host.meaning.seats ≡ seats.Attached x
+    → texts_fit (answer_of (situation host.scripts host.meaning.stop (parts_standing host.scripts host.meaning.program)) x text).session ≡ fit
+
+-- they fit as the host keeps it where they do as its history says
+overruns-by : (scripts : List Script) (m : Meaning Program) (host : HostState) (taken : List (List ℕ)) (text : List ℕ) (seat : Seat Session) (fit : Bool) → is_attached seat ≡ true
+    → host.scripts ≡ scripts → StandsAs (meaning_with host taken) m
+    → ((x : Session) → seat ≡ seats.Attached x → texts_fit (answer_of (situation host.scripts host.meaning.stop (parts_standing host.scripts host.meaning.program)) x text).session ≡ fit)
+    → overruns scripts m text seat ≡ not fit
+overruns-by scripts m host taken text (seats.Attached x) fit held same stands fits =
+    let F : List Script → Option Pause → Standing → Bool = λ ss q d. not (texts_fit (answer_of (situation ss q d) x text).session) in
+    ap (λ k. F scripts k.stop (standing_of scripts k.program)) (sym stands.is)
+    ∙ ap (λ ss. F ss host.meaning.stop (standing_of ss (meaning_with host taken).program)) (sym same)
+    ∙ ap (λ d. F host.scripts host.meaning.stop d) (sym (standing-taken host.scripts host.meaning.program taken))
+    ∙ ap not (fits x refl)
+overruns-by scripts m host taken text (seats.Lost loss is_reported is_told) fit held same stands fits = absurd cc
+overruns-by scripts m host taken text seats.Left fit held same stands fits = absurd cc
+
+overrun_lines : (s : ℕ) (over : Bool) (b : Bool) → b ≡ over → map output_text (if over then Overran s ∷ [] else []) ≡ map output_text (if b then Overran s ∷ [] else [])
+overrun_lines s over b is = ap (λ c. map output_text (if c then Overran s ∷ [] else [])) (sym is)
+
+tell-done : (old new : HostState) (s : ℕ) (text : List ℕ) (fit : Bool) (texts : List (List ℕ)) → old.broken ≡ false → is_attached (seat_of s old.meaning.seats) ≡ true
+    → Leaves old (Tell s text) new → CarriesOn old (Tell s text) new → AnswersFit old s text fit → texts ≡ map output_text (if not fit then Overran s ∷ [] else [])
+    → (scripts : List Script) (input : List (List ℕ)) (wait : Bool) (history : List Entry) → Stands scripts input wait old history
     → Acts scripts input wait history (entry_at scripts (whole scripts input wait history) (lines.Tell s text)) (Some texts) new
-tell-kept scripts input wait history old new s text texts works there is fit none stands stood =
-    tell-done scripts input wait history old new s text texts false works there is fit none stands stood
+tell-done old new s text fit texts works held leaves carries fits texts_are scripts input wait history stood =
+    let m : Meaning Program = whole scripts input wait history in
+    let taken : List (List ℕ) = printed_of m.program in
+    let stands = stood.means works in
+    let same : seat_of s m.seats ≡ seat_of s old.meaning.seats = held-seat (meaning_with old taken) m s stands held in
+    let over : overruns scripts m text (seat_of s m.seats) ≡ not fit =
+    ap (overruns scripts m text) same ∙ overruns-by scripts m old taken text (seat_of s old.meaning.seats) fit held stood.runs stands fits in
+    done_by scripts input wait history (is_there m s) (Tell s text) (Some texts) new (sym (there-held old s works held scripts input wait history stood))
+    (ap (λ xs. Some xs) (texts_are ∙ overrun_lines s (not fit) (overruns scripts m text (seat_of s m.seats)) over))
+    (stands-behind scripts input wait history old new (Tell s text) works leaves carries stood)
 
-pub tell-overrun : (scripts : List Script) (input : List (List ℕ)) (wait : Bool) (history : List Entry) (old new : HostState) (s : ℕ) (text : List ℕ) (texts : List (List ℕ)) → old.broken ≡ false
-    → is_attached old.meaning s ≡ true → new ≡ after old (Tell s text) → overruns (parts_standing old.scripts) old.scripts text old.meaning ≡ true
-    → texts ≡ output_text (Overran s) ∷ [] → Stands scripts input wait new (history ++ Tell s text ∷ []) → Stands scripts input wait old history
+pub tell-kept : (old new : HostState) (s : ℕ) (text : List ℕ) (texts : List (List ℕ)) → old.broken ≡ false → is_attached (seat_of s old.meaning.seats) ≡ true
+    → Leaves old (Tell s text) new → CarriesOn old (Tell s text) new → AnswersFit old s text true → texts ≡ []
+    → (scripts : List Script) (input : List (List ℕ)) (wait : Bool) (history : List Entry) → Stands scripts input wait old history
     → Acts scripts input wait history (entry_at scripts (whole scripts input wait history) (lines.Tell s text)) (Some texts) new
-tell-overrun scripts input wait history old new s text texts works there is over line stands stood =
-    tell-done scripts input wait history old new s text texts true works there is over line stands stood
+tell-kept old new s text texts works held leaves carries fits none = tell-done old new s text true texts works held leaves carries fits none
 
-pub take-refused : (scripts : List Script) (input : List (List ℕ)) (wait : Bool) (history : List Entry) (host : HostState) (s : ℕ) → host.broken ≡ false → is_attached host.meaning s ≡ false
-    → Stands scripts input wait host history → Acts scripts input wait history (entry_at scripts (whole scripts input wait history) (lines.Take s)) None host
-take-refused scripts input wait history host s works none stood =
-    refused_by scripts input wait history (is_attached (whole scripts input wait history) s) (Take s) host (sym (is_attached_as scripts input wait history host s works stood) ∙ none)
+pub tell-overrun : (old new : HostState) (s : ℕ) (text : List ℕ) (texts : List (List ℕ)) → old.broken ≡ false → is_attached (seat_of s old.meaning.seats) ≡ true
+    → Leaves old (Tell s text) new → CarriesOn old (Tell s text) new → AnswersFit old s text false → texts ≡ output_text (Overran s) ∷ []
+    → (scripts : List Script) (input : List (List ℕ)) (wait : Bool) (history : List Entry) → Stands scripts input wait old history
+    → Acts scripts input wait history (entry_at scripts (whole scripts input wait history) (lines.Tell s text)) (Some texts) new
+tell-overrun old new s text texts works held leaves carries fits line = tell-done old new s text false texts works held leaves carries fits line
 
-handed_as : (s : ℕ) (b : Bool) (waiting : List (List ℕ)) → b ≡ true → map (To s) waiting ≡ map (To s) (if b then waiting else [])
-handed_as s true waiting is = refl
-handed_as s false waiting is = cc
-
-pub take-done : (scripts : List Script) (input : List (List ℕ)) (wait : Bool) (history : List Entry) (old new : HostState) (s : ℕ) (handed texts : List (List ℕ)) → old.broken ≡ false
-    → is_attached old.meaning s ≡ true → new ≡ after old (Take s) → handed ≡ outbox_of old.meaning → texts ≡ map output_text (map (To s) handed)
-    → Stands scripts input wait new (history ++ Take s ∷ []) → Stands scripts input wait old history
+pub take-done : (old new : HostState) (s : ℕ) (handed texts : List (List ℕ)) → old.broken ≡ false → is_attached (seat_of s old.meaning.seats) ≡ true
+    → Leaves old (Take s) new → CarriesOn old (Take s) new → handed ≡ waiting (protocol old.scripts) (seat_of s old.meaning.seats) → texts ≡ map output_text (map (To s) handed)
+    → (scripts : List Script) (input : List (List ℕ)) (wait : Bool) (history : List Entry) → Stands scripts input wait old history
     → Acts scripts input wait history (entry_at scripts (whole scripts input wait history) (lines.Take s)) (Some texts) new
-take-done scripts input wait history old new s handed texts works there is handed_are texts_are stands stood =
+take-done old new s handed texts works held leaves carries handed_are texts_are scripts input wait history stood =
     let m : Meaning Program = whole scripts input wait history in
-    let attached : is_attached m s ≡ true = sym (is_attached_as scripts input wait history old s works stood) ∙ there in
-    done_by scripts input wait history (is_attached m s) (Take s) (Some texts) new attached
-    (ap (λ xs. Some xs) (texts_are ∙ ap (map output_text) (ap (map (To s)) (handed_are ∙ outbox_as scripts input wait history old works stood) ∙ handed_as s (is_attached m s) (outbox_of m) attached)))
-    (record { stands = stands; works = stays old new (Take s) works is })
+    let same : seat_of s m.seats ≡ seat_of s old.meaning.seats = held-seat (meaning_with old (printed_of m.program)) m s (stood.means works) held in
+    let waits : handed ≡ waiting (protocol scripts) (seat_of s m.seats) =
+    handed_are ∙ ap (λ ss. waiting (protocol ss) (seat_of s old.meaning.seats)) stood.runs ∙ ap (waiting (protocol scripts)) (sym same) in
+    done_by scripts input wait history (is_there m s) (Take s) (Some texts) new (sym (there-held old s works held scripts input wait history stood))
+    (ap (λ xs. Some xs) (texts_are ∙ ap (λ xs. map output_text (map (To s) xs)) waits))
+    (stands-behind scripts input wait history old new (Take s) works leaves carries stood)
+
+pub detach-done : (old new : HostState) (s : ℕ) (texts : List (List ℕ)) → old.broken ≡ false → is_attached (seat_of s old.meaning.seats) ≡ true
+    → Leaves old (Detach s) new → CarriesOn old (Detach s) new → texts ≡ []
+    → (scripts : List Script) (input : List (List ℕ)) (wait : Bool) (history : List Entry) → Stands scripts input wait old history
+    → Acts scripts input wait history (entry_at scripts (whole scripts input wait history) (lines.Detach s)) (Some texts) new
+detach-done old new s texts works held leaves carries none scripts input wait history stood =
+    done_by scripts input wait history (is_there (whole scripts input wait history) s) (Detach s) (Some texts) new (sym (there-held old s works held scripts input wait history stood))
+    (ap (λ xs. Some xs) none)
+    (stands-behind scripts input wait history old new (Detach s) works leaves carries stood)
+
+pub shut-done : (old new : HostState) (texts : List (List ℕ)) → old.broken ≡ false → Leaves old Shut new → CarriesOn old Shut new → texts ≡ []
+    → (scripts : List Script) (input : List (List ℕ)) (wait : Bool) (history : List Entry) → Stands scripts input wait old history
+    → Acts scripts input wait history (entry_at scripts (whole scripts input wait history) lines.Shut) (Some texts) new
+shut-done old new texts works leaves carries none scripts input wait history stood =
+    (ap (λ xs. Some xs) none, stands-behind scripts input wait history old new Shut works leaves carries stood)
 
 -- ---- a run
 
-state_as : (scripts : List Script) (input : List (List ℕ)) (wait : Bool) (history : List Entry) (new : HostState) (n moment : ℕ) (state : State) → new.broken ≡ false
-    → Stands scripts input wait new (history ++ Ran n moment ∷ []) → ((taken : List (List ℕ)) → state ≡ state_at new taken) → state ≡ state_of (after_steps scripts moment n (whole scripts input wait history))
-state_as scripts input wait history new n moment state works stands tells =
-    let taken = printed_of (whole scripts input wait (history ++ Ran n moment ∷ [])).program in
-    tells taken ∙ ap (λ b. if b then Broken else state_of (meaning_with new taken)) works ∙ ap state_of (stands.means works ∙ whole-more scripts input wait history (Ran n moment))
-
 -- the bytes of the lines of a run, as they are put one behind another
-run-lines : (printed : List (List ℕ)) (lost : Option ℕ) (last : Output) → (map output_text (map Out printed) ++ map output_text (lost_lines lost)) ++ output_text last ∷ []
-    ≡ map output_text (map Out printed ++ (lost_lines lost ++ last ∷ []))
+run-lines : (printed : List (List ℕ)) (lost : List ℕ) (last : Output) → (map output_text (map Out printed) ++ map output_text (map Overran lost)) ++ output_text last ∷ []
+    ≡ map output_text (map Out printed ++ (map Overran lost ++ last ∷ []))
 run-lines printed lost last =
-    append_assoc (map output_text (map Out printed)) (map output_text (lost_lines lost)) (output_text last ∷ [])
-    ∙ ap (λ xs. map output_text (map Out printed) ++ xs) (sym (map-append output_text (lost_lines lost) (last ∷ [])))
-    ∙ sym (map-append output_text (map Out printed) (lost_lines lost ++ last ∷ []))
+    append_assoc (map output_text (map Out printed)) (map output_text (map Overran lost)) (output_text last ∷ [])
+    ∙ ap (λ xs. map output_text (map Out printed) ++ xs) (sym (map-append output_text (map Overran lost) (last ∷ [])))
+    ∙ sym (map-append output_text (map Out printed) (map Overran lost ++ last ∷ []))
 
-pub run-done : (scripts : List Script) (input : List (List ℕ)) (wait : Bool) (history : List Entry) (moment most : ℕ) (old new : HostState) (n : ℕ) (printed texts : List (List ℕ)) (lost : Option ℕ) (state : State)
+pub run-texts : (printed : List (List ℕ)) (lost : List SessionLost) (steps : ℕ) (state : State) (first second all : List (List ℕ)) (last : List ℕ) → first ≡ map output_text (map Out printed)
+    → second ≡ first ++ map output_text (map Overran (overrun_in lost)) → all ≡ second ++ last ∷ [] → last ≡ output_text (RanTo steps state)
+    → all ≡ (map output_text (map Out printed) ++ map output_text (map Overran (overrun_in lost))) ++ output_text (RanTo steps state) ∷ []
+run-texts printed lost steps state first second all last prints loses ends line =
+    ends
+    ∙ ap (λ xs. xs ++ last ∷ []) (loses ∙ ap (λ xs. xs ++ map output_text (map Overran (overrun_in lost))) prints)
+    ∙ ap (λ x. (map output_text (map Out printed) ++ map output_text (map Overran (overrun_in lost))) ++ x ∷ []) line
+
+-- A run of a host that lost nobody for want of memory: where it stood for this meaning, it made the longest run from there, and so it
+-- printed and lost what that did.
+record RunsAs (scripts : List Script) (moment most : ℕ) (m : Meaning Program) (steps : ℕ) (printed : List (List ℕ)) (lost : List SessionLost) : Type 0 where
+  long : steps ≡ longest (protocol scripts) moment most m
+  prints : printed ≡ printed_at scripts moment [] steps m
+  loses : overrun_in lost ≡ overrun_at scripts moment [] steps m
+
+runs-as : (scripts : List Script) (moment most : ℕ) (host m : Meaning Program) (n : Meaning Program) (steps : ℕ) (printed : List (List ℕ)) (lost : List SessionLost)
+    → StandsAs host m → RunsTo scripts moment most host steps printed lost n → lost_for_memory lost ≡ [] → RunsAs scripts moment most m steps printed lost
+runs-as scripts moment most host m n steps printed lost stands runs nobody =
+    let P = protocol scripts in
+    let k : Meaning Program = runs.middle in
+    let none : fallen_in k.seats ≡ [] = sym (lost-fallen 1 k.seats) ∙ ap lost_for_memory (sym runs.reports) ∙ nobody in
+    let reached : k ≡ after_steps P moment steps host = runs.longest.made.reached ∙ ap (λ gone. after_run P moment gone steps host) none ∙ run-none P steps moment host in
+    let before : fallen_in host.seats ≡ [] = sym (steps-fallen P steps moment host) ∙ ap (λ q. fallen_in q.seats) (sym reached) ∙ none in
+    let same : host ≡ m = stands.is ∙ ap (λ gone. with_seats (without gone m.seats) m) before ∙ ap (λ seats. with_seats seats m) (without-none m.seats) in
+    let there : k ≡ after_run P moment [] steps m = reached ∙ ap (after_steps P moment steps) same ∙ sym (run-none P steps moment m) in
+    record {
+      long = made-longest P moment most steps host k runs.longest none ∙ ap (longest P moment most) same;
+      prints = runs.prints ∙ ap (λ q. printed_between q.program k.program) same ∙ ap (λ q. printed_between m.program q.program) there;
+      loses = ap overrun_in runs.reports ∙ ap (λ q. overrun_in (losses_from 1 q.seats)) there;
+    }
+
+state-as : (scripts : List Script) (input : List (List ℕ)) (wait : Bool) (history : List Entry) (new : HostState) (entry : Entry) (state : State) → new.broken ≡ false
+    → Stands scripts input wait new (history ++ entry ∷ []) → ((taken : List (List ℕ)) → state ≡ state_at new taken) → state ≡ state_of (apply scripts (whole scripts input wait history) entry)
+state-as scripts input wait history new entry state works stands tells =
+    let taken = printed_of (whole scripts input wait (history ++ entry ∷ [])).program in
+    tells taken
+    ∙ ap (λ b. if b then states.Broken else state_of (meaning_with new taken)) works
+    ∙ ap (λ m. state_of m) (stands.means works).is
+    ∙ ap (λ m. state_of m) (longer scripts input wait history entry)
+
+pub run-done : (moment most : ℕ) (old new : HostState) (steps : ℕ) (printed texts : List (List ℕ)) (lost : List SessionLost) (state : State)
     → old.broken ≡ false → new.broken ≡ old.broken
-    → ((taken : List (List ℕ)) → n ≡ longest old.scripts moment most (meaning_with old taken))
-    → ((taken : List (List ℕ)) → printed ≡ printed_in old.scripts moment n (meaning_with old taken))
-    → ((taken : List (List ℕ)) → lost ≡ (after_steps old.scripts moment n (meaning_with old taken)).lost)
+    → ((taken : List (List ℕ)) → RunsTo old.scripts moment most (meaning_with old taken) steps printed lost (meaning_with new (taken ++ printed)))
+    → CarriesOn old (Ran steps moment (lost_for_memory lost)) new
+    → lost_for_memory lost ≡ []
     → ((taken : List (List ℕ)) → state ≡ state_at new taken)
-    → texts ≡ (map output_text (map Out printed) ++ map output_text (lost_lines lost)) ++ output_text (RanTo n state) ∷ []
-    → Stands scripts input wait new (history ++ Ran n moment ∷ []) → Stands scripts input wait old history
+    → texts ≡ (map output_text (map Out printed) ++ map output_text (map Overran (overrun_in lost))) ++ output_text (RanTo steps state) ∷ []
+    → (scripts : List Script) (input : List (List ℕ)) (wait : Bool) (history : List Entry) → Stands scripts input wait old history
     → Acts scripts input wait history (entry_at scripts (whole scripts input wait history) (lines.Run most moment)) (Some texts) new
-run-done scripts input wait history moment most old new n printed texts lost state works same longest_is printed_is lost_is tells texts_are stands stood =
+run-done moment most old new steps printed texts lost state works same runs carries nobody tells texts_are scripts input wait history stood =
     let m : Meaning Program = whole scripts input wait history in
     let taken : List (List ℕ) = printed_of m.program in
-    let later : Meaning Program = after_steps scripts moment n m in
-    let steps : n ≡ longest scripts moment most m = longest_is taken ∙ ap (λ s. longest s moment most (meaning_with old taken)) stood.runs ∙ ap (longest scripts moment most) (stood.means works) in
-    let print : printed ≡ printed_in scripts moment n m = printed_is taken ∙ ap (λ s. printed_in s moment n (meaning_with old taken)) stood.runs ∙ ap (printed_in scripts moment n) (stood.means works) in
-    let loss : lost ≡ later.lost =
-    lost_is taken ∙ ap (λ s. (after_steps s moment n (meaning_with old taken)).lost) stood.runs ∙ ap (λ k. (after_steps scripts moment n k).lost) (stood.means works) in
-    let told : state ≡ state_of later = state_as scripts input wait history new n moment state (same ∙ works) stands tells in
-    let all : texts ≡ map output_text (output_at scripts m (Ran n moment)) =
+    let R : List Script → Type 0 = λ ss. RunsTo ss moment most (meaning_with old taken) steps printed lost (meaning_with new (taken ++ printed)) in
+    let is = runs-as scripts moment most (meaning_with old taken) m (meaning_with new (taken ++ printed)) steps printed lost (stood.means works) (subst R stood.runs (runs taken)) nobody in
+    let S : List ℕ → Type 0 = λ gone. Stands scripts input wait new (history ++ Ran steps moment gone ∷ []) in
+    let stands : Stands scripts input wait new (history ++ Ran steps moment [] ∷ []) = subst S nobody (carries scripts input wait history stood) in
+    let led : state ≡ state_of (apply scripts m (Ran steps moment [])) = state-as scripts input wait history new (Ran steps moment []) state (same ∙ works) stands tells in
+    let all : texts ≡ map output_text (output_at scripts m (Ran steps moment [])) =
     texts_are
-    ∙ run-lines printed lost (RanTo n state)
-    ∙ ap (λ xs. map output_text (map Out xs ++ (lost_lines lost ++ RanTo n state ∷ []))) print
-    ∙ ap (λ o. map output_text (map Out (printed_in scripts moment n m) ++ (lost_lines o ++ RanTo n state ∷ []))) loss
-    ∙ ap (λ x. map output_text (map Out (printed_in scripts moment n m) ++ (lost_lines later.lost ++ RanTo n x ∷ []))) told in
-    let P : ℕ → Type 0 = λ k. Acts scripts input wait history (Some (Ran k moment)) (Some texts) new in
-    subst P steps (ap (λ xs. Some xs) all, record { stands = stands; works = same ∙ works })
+    ∙ run-lines printed (overrun_in lost) (RanTo steps state)
+    ∙ ap (λ xs. map output_text (map Out xs ++ (map Overran (overrun_in lost) ++ RanTo steps state ∷ []))) is.prints
+    ∙ ap (λ xs. map output_text (map Out (printed_at scripts moment [] steps m) ++ (map Overran xs ++ RanTo steps state ∷ []))) is.loses
+    ∙ ap (λ x. map output_text (map Out (printed_at scripts moment [] steps m) ++ (map Overran (overrun_at scripts moment [] steps m) ++ RanTo steps x ∷ []))) led in
+    let P : ℕ → Type 0 = λ k. Acts scripts input wait history (Some (Ran k moment [])) (Some texts) new in
+    subst P is.long (ap (λ xs. Some xs) all, record { stands = stands; works = same ∙ works })
 
 -- ---- what is written of a line that was applied
+
+-- what holds at an error
+pub at-error : {A E : Type 0} (r : Result A E) (P : Type 0) → P → OnErr r P
+at-error (Ok value) P holds = tt
+at-error (Err error) P holds = holds
 
 acts-output : (scripts : List Script) (input : List (List ℕ)) (wait : Bool) (history : List Entry) (o : Option Entry) (texts : List (List ℕ)) (new : HostState)
     → Acts scripts input wait history o (Some texts) new → line_output scripts (whole scripts input wait history) o ≡ joined texts
@@ -198,6 +284,32 @@ pub offers : (text : List ℕ) (line : lines.Line) (texts : List (List ℕ)) (ol
     → (s : List Script) (i : List (List ℕ)) (w : Bool) (h : List Entry) → Stands s i w old h → line_output s (whole s i w h) (entry_of s (whole s i w h) text) ≡ joined texts
 offers text line texts old new is acts s i w h stood =
     ap (λ o. line_output s (whole s i w h) o) (sym (entry-read s (whole s i w h) text line is)) ∙ acts-output s i w h (entry_at s (whole s i w h) line) texts new (acts s i w h stood)
+
+acts-none : (scripts : List Script) (input : List (List ℕ)) (wait : Bool) (history : List Entry) (o : Option Entry) (new : HostState) → Acts scripts input wait history o None new → o ≡ None
+acts-none scripts input wait history None new acts = refl
+acts-none scripts input wait history (Some entry) new acts = let none = acts.0 in absurd cc
+
+-- a line that was refused has no entry
+pub refuses : (text : List ℕ) (line : lines.Line) (old new : HostState) → Some line ≡ line_of text
+    → ((s : List Script) (i : List (List ℕ)) (w : Bool) (h : List Entry) → Stands s i w old h → Acts s i w h (entry_at s (whole s i w h) line) None new)
+    → (s : List Script) (i : List (List ℕ)) (w : Bool) (h : List Entry) → Stands s i w old h → entry_of s (whole s i w h) text ≡ None
+refuses text line old new is acts s i w h stood =
+    sym (entry-read s (whole s i w h) text line is) ∙ acts-none s i w h (entry_at s (whole s i w h) line) new (acts s i w h stood)
+
+acts-play : (scripts : List Script) (input : List (List ℕ)) (wait : Bool) (history : List Entry) (o : Option Entry) (texts : List (List ℕ)) (new : HostState) (before now : Option (List ℕ))
+    → Acts scripts input wait history o (Some texts) new → now ≡ gains before (joined texts) → Plays scripts input wait history o new before now
+acts-play scripts input wait history None texts new before now acts written = absurd cc
+acts-play scripts input wait history (Some entry) texts new before now acts written =
+    (written ∙ ap (λ xs. gains before (joined xs)) (same_Some texts (map output_text (output_at scripts (whole scripts input wait history) entry)) acts.0), acts.1)
+
+-- a line that was applied, and whose lines of output were written
+pub plays : (text : List ℕ) (line : lines.Line) (texts : List (List ℕ)) (old new : HostState) (before now : Option (List ℕ)) → Some line ≡ line_of text
+    → ((s : List Script) (i : List (List ℕ)) (w : Bool) (h : List Entry) → Stands s i w old h → Acts s i w h (entry_at s (whole s i w h) line) (Some texts) new)
+    → now ≡ gains before (joined texts)
+    → (s : List Script) (i : List (List ℕ)) (w : Bool) (h : List Entry) → Stands s i w old h → Plays s i w h (entry_of s (whole s i w h) text) new before now
+plays text line texts old new before now is acts written s i w h stood =
+    let P : Option Entry → Type 0 = λ o. Plays s i w h o new before now in
+    subst P (entry-read s (whole s i w h) text line is) (acts-play s i w h (entry_at s (whole s i w h) line) texts new before now (acts s i w h stood) written)
 
 pub less-as : (before now : Option (List ℕ)) (bytes all : List ℕ) → all ≡ bytes → GainsLess before now bytes → GainsLess before now all
 less-as before now bytes all is less = (less.0, less.1, less.2, is ∙ less.3, less.4)

@@ -1,16 +1,17 @@
 -- The lines that are applied, and the one that is refused.
-use Rattle.std.proofs.Common.{◌≡◌, ℕ, ◌+◌, ◌==◌, Bool, true, false, if◌then◌else◌, List, [], ◌∷◌, length, Option, Some, None, refl, ap, sym, ◌∙◌, arith}
+use Rattle.std.proofs.Common.{◌≡◌, ℕ, ◌+◌, Bool, true, false, if◌then◌else◌, List, [], ◌∷◌, length, Option, Some, None, refl, ap, sym, ◌∙◌, arith}
 use Rattle.std.specs.Option.{option_and_then, option_map_or}
 use Rattle.std.proofs.lemmas.Option.{none-some, same_Some}
-use Rattle.std.proofs.lemmas.Bool.{eqb-true, eqb-false}
+use Rattle.isolation.specs.Histories.{Entry, Attach as Attached, Tell as Told, Take as Taken, Detach as Detached, Ran, Shut as ShutDown}
+use Rattle.isolation.specs.Meanings.{longest}
+use Rattle.isolation.proofs.MadeLemmas.{longest-exact}
 use Rattle.js_tree.specs.declared.script.Script.{Script}
 use Rattle.js_semantics.specs.Run.{Run as Program}
-use Rattle.cdp_host.specs.Meaning.{Meaning, is_attached, longest}
-use Rattle.cdp_host.specs.Histories.{Entry, apply, Attach as Attached, Tell as Told, Take as Taken, Ran}
-use Rattle.cdp_host.proofs.RunLemmas.{longest-is}
+use Rattle.cdp_host.specs.Histories.{Meaning, apply}
+use Rattle.cdp_host.specs.Protocols.{protocol}
 use Rattle.command_line.specs.Applied.{MayStand, IsEntry, AreEntries, RefusesAt}
-use Rattle.command_line.specs.Journal.{entry_at, entry_of, entries, refused}
-use Rattle.command_line.specs.Lines.{Line, Attach, Tell, Take, Run, line_of}
+use Rattle.command_line.specs.Journal.{entry_at, entry_of, entries, is_there, refused}
+use Rattle.command_line.specs.Lines.{Line, Attach, Tell, Take, Detach, Run, Shut, line_of}
 use Rattle.command_line.proofs.LineLemmas.{choice-some, line-read, line-some}
 
 -- ---- one line
@@ -21,18 +22,23 @@ unchosen false entry is = refl
 
 -- the entry of a line is one with which it may stand there
 may-stand : (scripts : List Script) (m : Meaning Program) (line : Line) (entry : Entry) → entry_at scripts m line ≡ Some entry → MayStand scripts m line entry
-may-stand scripts m Attach entry is = let choice = choice-some (m.attached == 0) Attached entry is in (eqb-true m.attached 0 choice.0, sym choice.1)
-may-stand scripts m (Tell s text) entry is = let choice = choice-some (is_attached m s) (Told s text) entry is in (choice.0, sym choice.1)
-may-stand scripts m (Take s) entry is = let choice = choice-some (is_attached m s) (Taken s) entry is in (choice.0, sym choice.1)
+may-stand scripts m Attach entry is = sym (same_Some Attached entry is)
+may-stand scripts m (Tell s text) entry is = let choice = choice-some (is_there m s) (Told s text) entry is in (choice.0, sym choice.1)
+may-stand scripts m (Take s) entry is = let choice = choice-some (is_there m s) (Taken s) entry is in (choice.0, sym choice.1)
+may-stand scripts m (Detach s) entry is = let choice = choice-some (is_there m s) (Detached s) entry is in (choice.0, sym choice.1)
 may-stand scripts m (Run most moment) entry is =
-    (longest scripts moment most m, longest-is most scripts moment m, sym (same_Some (Ran (longest scripts moment most m) moment) entry is))
+    let n : ℕ = longest (protocol scripts) moment most m in
+    (n, longest-exact (protocol scripts) moment most m, sym (same_Some (Ran n moment []) entry is))
+may-stand scripts m Shut entry is = sym (same_Some ShutDown entry is)
 
 -- and where it has none, it may stand with none
 may-not-stand : (scripts : List Script) (m : Meaning Program) (line : Line) (entry : Entry) → entry_at scripts m line ≡ None → ¬ (MayStand scripts m line entry)
-may-not-stand scripts m Attach entry none stands = eqb-false m.attached 0 (unchosen (m.attached == 0) Attached none) stands.0
-may-not-stand scripts m (Tell s text) entry none stands = let e = unchosen (is_attached m s) (Told s text) none in let t = stands.0 in cc
-may-not-stand scripts m (Take s) entry none stands = let e = unchosen (is_attached m s) (Taken s) none in let t = stands.0 in cc
-may-not-stand scripts m (Run most moment) entry none stands = none-some (Ran (longest scripts moment most m) moment) (sym none)
+may-not-stand scripts m Attach entry none stands = none-some Attached (sym none)
+may-not-stand scripts m (Tell s text) entry none stands = let e = unchosen (is_there m s) (Told s text) none in let t = stands.0 in cc
+may-not-stand scripts m (Take s) entry none stands = let e = unchosen (is_there m s) (Taken s) none in let t = stands.0 in cc
+may-not-stand scripts m (Detach s) entry none stands = let e = unchosen (is_there m s) (Detached s) none in let t = stands.0 in cc
+may-not-stand scripts m (Run most moment) entry none stands = none-some (Ran (longest (protocol scripts) moment most m) moment []) (sym none)
+may-not-stand scripts m Shut entry none stands = none-some ShutDown (sym none)
 
 entry-some : (scripts : List Script) (m : Meaning Program) (text : List ℕ) (entry : Entry) (o : Option Line) → line_of text ≡ o → option_and_then (entry_at scripts m) o ≡ Some entry → IsEntry scripts m text entry
 entry-some scripts m text entry None read is = absurd (none-some entry is)

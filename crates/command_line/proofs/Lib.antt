@@ -5,7 +5,11 @@ pub mod OneLineLemmas
 pub mod EscapeLemmas
 pub mod ShownLemmas
 pub mod AppliedLemmas
+pub mod PlainLemmas
+pub mod PausedLemmas
 pub mod HeadlineLemmas
+pub mod SeatLemmas
+pub mod LossLemmas
 pub mod ActLemmas
 pub mod PlayLemmas
 pub mod RunLemmas

@@ -14,7 +14,7 @@ use Rattle.cdp_text.proofs.PartsLemmas.{behind-some, halves-some, halves-decimal
 use Rattle.command_line.specs.declared.line.Line.{Line as Held}
 use Rattle.command_line.specs.Escapes.{escaped, unescaped}
 use Rattle.command_line.specs.LineRead.{line_held}
-use Rattle.command_line.specs.Lines.{Line, Attach, Tell, Take, Run, line_text, IsInForm, IsLine, most_told, tell_text, tell_at, tell_in, run_at, run_in, tell_rest, take_rest, run_rest, or_else, line_of, line_of_text}
+use Rattle.command_line.specs.Lines.{Line, Attach, Tell, Take, Detach, Run, Shut, line_text, IsInForm, IsLine, most_told, tell_text, tell_at, tell_in, run_at, run_in, tell_rest, take_rest, detach_rest, run_rest, or_else, line_of, line_of_text, line_of_words}
 use Rattle.command_line.proofs.UnescapeLemmas.{read-back, written-is}
 
 pub line_of-utf8 : (bytes : List ℕ) → IsUtf8 bytes → line_of bytes ≡ line_of_text bytes
@@ -32,6 +32,9 @@ tell-read s text small short =
 take-read : (s : ℕ) → s < 2 ^ 64 → take_rest (decimal s) ≡ Some (Take s)
 take-read s small = rw (decimal_value-decimal s small) refl
 
+detach-read : (s : ℕ) → s < 2 ^ 64 → detach_rest (decimal s) ≡ Some (Detach s)
+detach-read s small = rw (decimal_value-decimal s small) refl
+
 run-read : (most moment : ℕ) → most < 2 ^ 32 → moment < 2 ^ 53 → run_rest (decimal most ++ 32 ∷ decimal moment) ≡ Some (Run most moment)
 run-read most moment few soon =
     let halves_read = halves-decimal most 32 (decimal moment) (omega arith) (λ digit. omega arith) in
@@ -43,7 +46,9 @@ text-read : (line : Line) → IsInForm line → line_of_text (line_text line) �
 text-read Attach form = refl
 text-read (Tell s text) form = tell-read s text form.0 form.1
 text-read (Take s) form = take-read s form
+text-read (Detach s) form = detach-read s form
 text-read (Run most moment) form = run-read most moment form.0 form.1
+text-read Shut form = refl
 
 pub line-read : (bytes : List ℕ) (line : Line) → IsLine bytes line → line_of bytes ≡ Some line
 line-read bytes line is =
@@ -104,35 +109,53 @@ is-take text rest line front is =
     let whole = behind-some (codes "take ") text rest front in
     rw taken.2 (digits.1, whole ∙ ap (λ xs. codes "take " ++ xs) digits.0)
 
+detach-some : (o : Option ℕ) (line : Line) → option_map (λ s. Detach s) o ≡ Some line → (s : ℕ) × (o ≡ Some s) × (line ≡ Detach s)
+detach-some None line is = absurd (none-some line is)
+detach-some (Some s) line is = (s, refl, sym (same_Some (Detach s) line is))
+
+is-detach : (text rest : List ℕ) (line : Line) → behind (codes "detach ") text ≡ Some rest → detach_rest rest ≡ Some line → IsText text line
+is-detach text rest line front is =
+    let left = detach-some (decimal_value rest) line is in
+    let digits = decimal_value-some rest left.0 left.1 in
+    let whole = behind-some (codes "detach ") text rest front in
+    rw left.2 (digits.1, whole ∙ ap (λ xs. codes "detach " ++ xs) digits.0)
+
 is-run : (text rest : List ℕ) (line : Line) → behind (codes "run ") text ≡ Some rest → run_rest rest ≡ Some line → IsText text line
 is-run text rest line front is =
     let ran = run-some rest line is in
     let whole = behind-some (codes "run ") text rest front in
     rw ran.2 ((ran.3, ran.4), whole ∙ ap (λ xs. codes "run " ++ xs) ran.5)
 
-is-other : (text : List ℕ) (line : Line)
-    → or_else (behind (codes "tell ") text) tell_rest (or_else (behind (codes "take ") text) take_rest (or_else (behind (codes "run ") text) run_rest None)) ≡ Some line
-    → IsText text line
-is-other text line is =
+is-words : (text : List ℕ) (line : Line) → line_of_words text ≡ Some line → IsText text line
+is-words text line is =
     elim (or_else-some (behind (codes "tell ") text) tell_rest _ line is) [
       | inl told ↦ is-tell text told.0 line told.1 told.2
       | inr more ↦ elim (or_else-some (behind (codes "take ") text) take_rest _ line more) [
         | inl taken ↦ is-take text taken.0 line taken.1 taken.2
-        | inr rest ↦ elim (or_else-some (behind (codes "run ") text) run_rest None line rest) [
-          | inl ran ↦ is-run text ran.0 line ran.1 ran.2
-          | inr none ↦ absurd (none-some line none)
+        | inr others ↦ elim (or_else-some (behind (codes "detach ") text) detach_rest _ line others) [
+          | inl left ↦ is-detach text left.0 line left.1 left.2
+          | inr rest ↦ elim (or_else-some (behind (codes "run ") text) run_rest None line rest) [
+            | inl ran ↦ is-run text ran.0 line ran.1 ran.2
+            | inr none ↦ absurd (none-some line none)
+          ]
         ]
       ]
     ]
 
-text_some : (b : Bool) (text : List ℕ) (line : Line) (others : Option Line) → (b ≡ true → text ≡ codes "attach") → (others ≡ Some line → IsText text line)
-    → (if b then Some Attach else others) ≡ Some line → IsText text line
-text_some true text line others attach other is = rw (sym (same_Some Attach line is)) (tt, attach refl)
-text_some false text line others attach other is = other is
+-- a line that is one word, or another
+word_some : (b : Bool) (text : List ℕ) (named line : Line) (others : Option Line) → IsInForm named → (b ≡ true → text ≡ line_text named) → (others ≡ Some line → IsText text line)
+    → (if b then Some named else others) ≡ Some line → IsText text line
+word_some true text named line others form word other is = rw (sym (same_Some named line is)) (form, word refl)
+word_some false text named line others form word other is = other is
+
+is-text : (text : List ℕ) (line : Line) → line_of_text text ≡ Some line → IsText text line
+is-text text line is =
+    word_some (bytes_eq text (codes "attach")) text Attach line _ tt ((bytes_eq-Decides text (codes "attach")).0)
+    (word_some (bytes_eq text (codes "shut")) text Shut line _ tt ((bytes_eq-Decides text (codes "shut")).0) (is-words text line)) is
 
 utf8_some : (b : Bool) (bytes : List ℕ) (line : Line) → is_utf8 bytes ≡ b → (if b then line_of_text bytes else None) ≡ Some line → IsLine bytes line
 utf8_some true bytes line utf8 is =
-    let text = text_some (bytes_eq bytes (codes "attach")) bytes line _ ((bytes_eq-Decides bytes (codes "attach")).0) (is-other bytes line) is in
+    let text = is-text bytes line is in
     record { utf8 = utf8; in_form = text.0; is = text.1 }
 utf8_some false bytes line utf8 is = absurd (none-some line is)
 

@@ -5,12 +5,12 @@ use Rattle.std.proofs.lemmas.List.{take_more, take-append-drop, map-append}
 use Rattle.std.specs.Option.{option_map_or}
 use Rattle.cdp_edge.specs.Outside.{gains, GainsPrefix, GainsLess}
 use Rattle.cdp_edge.proofs.Gains.{gains-append, gains-nil, GainsPrefix-behind, GainsLess-behind}
+use Rattle.isolation.specs.Histories.{Entry}
 use Rattle.js_tree.specs.declared.script.Script.{Script}
 use Rattle.js_semantics.specs.Run.{Run as Program}
-use Rattle.cdp_host.specs.Meaning.{Meaning, begin}
-use Rattle.cdp_host.specs.Histories.{Entry, apply, whole}
+use Rattle.cdp_host.specs.Histories.{Meaning, apply, begin, whole}
 use Rattle.cdp_host.specs.Hosts.{HostState, Stands}
-use Rattle.cdp_host.proofs.HistoryLemmas.{whole-more}
+use Rattle.cdp_host.proofs.HistoryLemmas.{longer}
 use Rattle.command_line.specs.Journal.{entry_of, refused}
 use Rattle.command_line.specs.Output.{joined, output_text, output_at, output_bytes}
 use Rattle.command_line.specs.Played.{Plays, line_output, journal_output}
@@ -104,7 +104,7 @@ behind-by : (scripts : List Script) (input : List (List ℕ)) (wait : Bool) (all
 behind-by scripts input wait all rest number host new before now next line lines is b None none plays = absurd plays
 behind-by scripts input wait all rest number host new before now next line lines is b (Some entry) some plays =
     let m : Meaning Program = whole scripts input wait b.history in
-    let more : whole scripts input wait (b.history ++ entry ∷ []) ≡ apply scripts m entry = whole-more scripts input wait b.history entry in
+    let more : whole scripts input wait (b.history ++ entry ∷ []) ≡ apply scripts m entry = longer scripts input wait b.history entry in
     record {
       history = b.history ++ entry ∷ [];
       stands = plays.1.stands;

@@ -5,7 +5,7 @@ use Rattle.cdp_edge.specs.Blame.{Faults, Blames, Read}
 use Rattle.cdp_edge.proofs.Gains.{gains-nil, GainsPrefix-refl, Told-GainsPrefix}
 use Rattle.cdp_text.specs.Lines.{lines_of}
 use Rattle.js_tree.specs.declared.script.Script.{Script}
-use Rattle.cdp_host.specs.Meaning.{begin}
+use Rattle.cdp_host.specs.Histories.{begin}
 use Rattle.script_files.specs.declared.fault.Refusal.{Refusal}
 use Rattle.command_line.specs.Files.{HoldsReplay, HoldsSources, IsReachedBy, IsReachedIn, IsRefusedBehind, IsRefusedIn}
 use Rattle.command_line.specs.Journal.{entries, refused}

@@ -6,12 +6,12 @@ use Rattle.std.proofs.lemmas.Option.{same_Some}
 use Rattle.cdp_text.specs.Lines.{lines_of}
 use Rattle.cdp_text.specs.Parts.{behind, halves}
 use Rattle.cdp_text.proofs.PartsLemmas.{behind-append, behind-some, halves-decimal}
-use Rattle.cdp_host.specs.declared.state.State.TheVariants.{Broken, Threw, Ended, Paused, Waiting, Ready}
+use Rattle.cdp_host.specs.declared.state.State.TheVariants.{Broken, Shut, Threw, Ended, Paused, Waiting, Ready}
 use Rattle.command_line.specs.Escapes.{escaped, printed_escaped}
 use Rattle.cdp_text.specs.Units.{utf8_of}
 use Rattle.command_line.proofs.OneLineLemmas.{is_other, is_one_line, are_one_line, one-append, decimal-one, escaped-one}
 use Rattle.command_line.specs.Headline.{behind_each, to_front}
-use Rattle.command_line.specs.Output.{Output, Attached, To, Out, Overran, RanTo, lost_lines, state_name, output_text, output_bytes}
+use Rattle.command_line.specs.Output.{Output, Attached, To, Out, Overran, RanTo, state_name, output_text, output_bytes}
 
 -- ---- lines of output
 
@@ -59,6 +59,7 @@ lines-one (To s text ∷ lines) =
 lines-one (Out units ∷ lines) = rw (one-append (codes "out ") (printed_escaped units) refl (escaped-one (utf8_of units)), lines-one lines) refl
 lines-one (Overran s ∷ lines) = rw (one-append (codes "overrun ") (decimal s) refl (decimal-one s), lines-one lines) refl
 lines-one (RanTo n Broken ∷ lines) = rw (ran-one n (codes "broken") refl, lines-one lines) refl
+lines-one (RanTo n Shut ∷ lines) = rw (ran-one n (codes "shut") refl, lines-one lines) refl
 lines-one (RanTo n Threw ∷ lines) = rw (ran-one n (codes "threw") refl, lines-one lines) refl
 lines-one (RanTo n Ended ∷ lines) = rw (ran-one n (codes "ended") refl, lines-one lines) refl
 lines-one (RanTo n Paused ∷ lines) = rw (ran-one n (codes "paused") refl, lines-one lines) refl
@@ -208,19 +209,19 @@ pub lost-sent : (s : ℕ) (texts : List (List ℕ)) → lost_of (map (To s) text
 lost-sent s [] = refl
 lost-sent s (text ∷ texts) = lost-sent s texts
 
--- the line of a loss among others
-pub lost-out : (lost : Option ℕ) (lines : List Output) → out_texts (lost_lines lost ++ lines) ≡ out_texts lines
-lost-out None lines = refl
-lost-out (Some s) lines = refl
+-- the lines of losses among others
+pub lost-out : (lost : List ℕ) (lines : List Output) → out_texts (map Overran lost ++ lines) ≡ out_texts lines
+lost-out [] lines = refl
+lost-out (s ∷ lost) lines = lost-out lost lines
 
-pub lost-ran : (lost : Option ℕ) (lines : List Output) → ran_of (lost_lines lost ++ lines) ≡ ran_of lines
-lost-ran None lines = refl
-lost-ran (Some s) lines = refl
+pub lost-ran : (lost : List ℕ) (lines : List Output) → ran_of (map Overran lost ++ lines) ≡ ran_of lines
+lost-ran [] lines = refl
+lost-ran (s ∷ lost) lines = lost-ran lost lines
 
-pub lost-to : (s : ℕ) (lost : Option ℕ) (lines : List Output) → to_of s (lost_lines lost ++ lines) ≡ to_of s lines
-lost-to s None lines = refl
-lost-to s (Some n) lines = refl
+pub lost-to : (s : ℕ) (lost : List ℕ) (lines : List Output) → to_of s (map Overran lost ++ lines) ≡ to_of s lines
+lost-to s [] lines = refl
+lost-to s (n ∷ lost) lines = lost-to s lost lines
 
-pub lost-told : (lost : Option ℕ) (lines : List Output) → lost_of (lost_lines lost ++ lines) ≡ option_to_list lost ++ lost_of lines
-lost-told None lines = refl
-lost-told (Some s) lines = refl
+pub lost-told : (lost : List ℕ) (lines : List Output) → lost_of (map Overran lost ++ lines) ≡ lost ++ lost_of lines
+lost-told [] lines = refl
+lost-told (s ∷ lost) lines = ap (λ rest. s ∷ rest) (lost-told lost lines)

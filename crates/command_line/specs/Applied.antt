@@ -1,18 +1,25 @@
 -- Which lines of a journal are applied, and which one is refused.
 use Rattle.std.specs.Prelude.{◌≡◌, ℕ, ◌+◌, List, [], ◌∷◌, ◌++◌, length, fold, true}
+use Rattle.isolation.specs.Histories.{Entry, Attach as Attached, Tell as Told, Take as Taken, Detach as Detached, Ran, Shut as ShutDown}
+use Rattle.isolation.specs.Meanings.{after_steps}
+use Rattle.isolation.specs.Runs.{IsLongest}
 use Rattle.js_tree.specs.declared.script.Script.{Script}
 use Rattle.js_semantics.specs.Run.{Run as Program}
-use Rattle.cdp_host.specs.Meaning.{Meaning, is_attached, IsLongest}
-use Rattle.cdp_host.specs.Histories.{Entry, apply, Attach as Attached, Tell as Told, Take as Taken, Ran}
-use Rattle.command_line.specs.Lines.{Line, Attach, Tell, Take, Run, IsLine}
+use Rattle.cdp_host.specs.Histories.{Meaning, apply}
+use Rattle.cdp_host.specs.Protocols.{protocol}
+use Rattle.command_line.specs.Journal.{is_there}
+use Rattle.command_line.specs.Lines.{Line, Attach, Tell, Take, Detach, Run, Shut, IsLine}
 
--- a line may stand there, and this is its entry: one that attaches where no session was attached so far, one that tells or takes where its session is attached,
--- and one that runs at any place, for the longest run of at most its steps at its moment
+-- a line may stand there, and this is its entry: one that attaches or shuts at any place, one that tells, takes or detaches where its
+-- session is attached, and one that runs at any place, for the longest run of at most its steps at its moment that loses nobody for
+-- want of memory
 abbrev pub MayStand : List Script → Meaning Program → Line → Entry → Type 0
-MayStand scripts m Attach entry = (m.attached ≡ 0) × (entry ≡ Attached)
-MayStand scripts m (Tell s text) entry = (is_attached m s ≡ true) × (entry ≡ Told s text)
-MayStand scripts m (Take s) entry = (is_attached m s ≡ true) × (entry ≡ Taken s)
-MayStand scripts m (Run most moment) entry = (n : ℕ) × IsLongest scripts moment most m n × (entry ≡ Ran n moment)
+MayStand scripts m Attach entry = entry ≡ Attached
+MayStand scripts m (Tell s text) entry = (is_there m s ≡ true) × (entry ≡ Told s text)
+MayStand scripts m (Take s) entry = (is_there m s ≡ true) × (entry ≡ Taken s)
+MayStand scripts m (Detach s) entry = (is_there m s ≡ true) × (entry ≡ Detached s)
+MayStand scripts m (Run most moment) entry = (n : ℕ) × IsLongest (protocol scripts) moment most m (after_steps (protocol scripts) moment n m) n × (entry ≡ Ran n moment [])
+MayStand scripts m Shut entry = entry ≡ ShutDown
 
 -- the text is a line of its form, which may stand there and has this entry
 pub record IsEntry (scripts : List Script) (m : Meaning Program) (text : List ℕ) (entry : Entry) : Type 0 where

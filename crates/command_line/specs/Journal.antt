@@ -1,18 +1,27 @@
 -- What a journal does to a host.
-use Rattle.std.specs.Prelude.{ℕ, ◌+◌, ◌==◌, List, [], ◌∷◌, if◌then◌else◌, Option, Some, None}
+use Rattle.std.specs.Prelude.{ℕ, ◌+◌, List, [], ◌∷◌, Bool, if◌then◌else◌, Option, Some, None}
 use Rattle.std.specs.Option.{option_and_then, option_map_or}
+use Rattle.isolation.specs.Histories.{Entry, Attach as Attached, Tell as Told, Take as Taken, Detach as Detached, Ran, Shut as ShutDown}
+use Rattle.isolation.specs.Meanings.{longest}
+use Rattle.isolation.specs.Seats.{is_attached, seat_of}
 use Rattle.js_tree.specs.declared.script.Script.{Script}
 use Rattle.js_semantics.specs.Run.{Run as Program}
-use Rattle.cdp_host.specs.Meaning.{Meaning, is_attached, longest}
-use Rattle.cdp_host.specs.Histories.{Entry, apply, Attach as Attached, Tell as Told, Take as Taken, Ran}
-use Rattle.command_line.specs.Lines.{Line, Attach, Tell, Take, Run, line_of}
+use Rattle.cdp_host.specs.Histories.{Meaning, apply}
+use Rattle.cdp_host.specs.Protocols.{protocol}
+use Rattle.command_line.specs.Lines.{Line, Attach, Tell, Take, Detach, Run, Shut, line_of}
 
--- the entry of a line; None where it attaches a second session or names one that isn't attached
+-- the session of this number is attached
+abbrev pub is_there : Meaning Program → ℕ → Bool
+is_there m s = is_attached (seat_of s m.seats)
+
+-- the entry of a line; None where it names a session that isn't attached. A run is the longest, and loses nobody for want of memory.
 abbrev pub entry_at : List Script → Meaning Program → Line → Option Entry
-entry_at scripts m Attach = if m.attached == 0 then Some Attached else None
-entry_at scripts m (Tell s text) = if is_attached m s then Some (Told s text) else None
-entry_at scripts m (Take s) = if is_attached m s then Some (Taken s) else None
-entry_at scripts m (Run most moment) = Some (Ran (longest scripts moment most m) moment)
+entry_at scripts m Attach = Some Attached
+entry_at scripts m (Tell s text) = if is_there m s then Some (Told s text) else None
+entry_at scripts m (Take s) = if is_there m s then Some (Taken s) else None
+entry_at scripts m (Detach s) = if is_there m s then Some (Detached s) else None
+entry_at scripts m (Run most moment) = Some (Ran (longest (protocol scripts) moment most m) moment [])
+entry_at scripts m Shut = Some ShutDown
 
 -- the entry of a line's bytes; None where the line is refused
 abbrev pub entry_of : List Script → Meaning Program → List ℕ → Option Entry

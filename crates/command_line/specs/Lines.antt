@@ -14,15 +14,21 @@ pub data Line : Type 0 where
   Tell : ℕ → List ℕ → Line
   -- hand out the texts of the session of this number
   Take : ℕ → Line
+  -- detach the session of this number
+  Detach : ℕ → Line
   -- make at most so many steps, at this moment in milliseconds since the epoch
   Run : ℕ → ℕ → Line
+  -- make no further step
+  Shut : Line
 
 -- the text of a line
 abbrev pub line_text : Line → List ℕ
 line_text Attach = codes "attach"
 line_text (Tell s text) = codes "tell " ++ (decimal s ++ 32 ∷ escaped text)
 line_text (Take s) = codes "take " ++ decimal s
+line_text (Detach s) = codes "detach " ++ decimal s
 line_text (Run most moment) = codes "run " ++ (decimal most ++ 32 ∷ decimal moment)
+line_text Shut = codes "shut"
 
 -- the greatest number of bytes of a text that is told
 abbrev pub most_told : ℕ
@@ -33,7 +39,9 @@ abbrev pub IsInForm : Line → Type 0
 IsInForm Attach = Unit {0}
 IsInForm (Tell s text) = (s < 2 ^ 64) × (length text ≤ most_told)
 IsInForm (Take s) = s < 2 ^ 64
+IsInForm (Detach s) = s < 2 ^ 64
 IsInForm (Run most moment) = (most < 2 ^ 32) × (moment < 2 ^ 53)
+IsInForm Shut = Unit {0}
 
 -- the text, which is UTF-8, is that of this line
 pub record IsLine (text : List ℕ) (line : Line) : Type 0 where
@@ -69,6 +77,10 @@ tell_rest rest = option_and_then tell_in (halves 32 rest)
 abbrev pub take_rest : List ℕ → Option Line
 take_rest rest = option_map (λ s. Take s) (decimal_value rest)
 
+-- a `detach`, by what stands behind the word
+abbrev pub detach_rest : List ℕ → Option Line
+detach_rest rest = option_map (λ s. Detach s) (decimal_value rest)
+
 -- a `run`, by what stands behind the word
 abbrev pub run_rest : List ℕ → Option Line
 run_rest rest = option_and_then run_in (halves 32 rest)
@@ -78,11 +90,15 @@ abbrev pub or_else : Option (List ℕ) → (List ℕ → Option Line) → Option
 or_else None f other = other
 or_else (Some rest) f other = f rest
 
+-- the line whose text is a word and what stands behind it
+abbrev pub line_of_words : List ℕ → Option Line
+line_of_words text =
+    or_else (behind (codes "tell ") text) tell_rest
+    (or_else (behind (codes "take ") text) take_rest (or_else (behind (codes "detach ") text) detach_rest (or_else (behind (codes "run ") text) run_rest None)))
+
 -- the line whose text this is
 abbrev pub line_of_text : List ℕ → Option Line
-line_of_text text =
-    if bytes_eq text (codes "attach") then Some Attach
-    else or_else (behind (codes "tell ") text) tell_rest (or_else (behind (codes "take ") text) take_rest (or_else (behind (codes "run ") text) run_rest None))
+line_of_text text = if bytes_eq text (codes "attach") then Some Attach else if bytes_eq text (codes "shut") then Some Shut else line_of_words text
 
 -- the line whose text these bytes are
 abbrev pub line_of : List ℕ → Option Line

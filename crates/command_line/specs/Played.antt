@@ -6,9 +6,9 @@ use Rattle.cdp_edge.specs.declared.sink.SinkFault.{SinkFault}
 use Rattle.cdp_edge.specs.declared.sink.SinkFault.TheVariants.{Failed, Memory}
 use Rattle.js_tree.specs.declared.script.Script.{Script}
 use Rattle.js_semantics.specs.Run.{Run as Program}
-use Rattle.cdp_host.specs.Histories.{Entry, whole}
+use Rattle.isolation.specs.Histories.{Entry}
+use Rattle.cdp_host.specs.Histories.{Meaning, whole}
 use Rattle.cdp_host.specs.Hosts.{HostState, Stands}
-use Rattle.cdp_host.specs.Meaning.{Meaning}
 use Rattle.command_line.specs.Journal.{entries}
 use Rattle.command_line.specs.Output.{output_at, output_of, output_bytes, output_text}
 use Rattle.command_line.specs.declared.play.LineFault.{LineFault}

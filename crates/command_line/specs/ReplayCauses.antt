@@ -3,9 +3,9 @@ use Rattle.std.specs.Prelude.{◌≡◌, ◌⊎◌, ℕ, List, Bool, Option, Som
 use Rattle.cdp_edge.specs.Outside.{Rose, Named, Told, gains, GainsPrefix, GainsLess}
 use Rattle.cdp_edge.specs.Blame.{Faults, Blames, Read}
 use Rattle.cdp_text.specs.Lines.{lines_of}
+use Rattle.isolation.specs.Histories.{Entry}
 use Rattle.js_tree.specs.declared.script.Script.{Script}
-use Rattle.cdp_host.specs.Histories.{Entry}
-use Rattle.cdp_host.specs.Meaning.{begin}
+use Rattle.cdp_host.specs.Histories.{begin}
 use Rattle.command_line.specs.Applied.{AreEntries, RefusesAt}
 use Rattle.command_line.specs.Files.{HoldsReplay, IsNamedBy, IsReachedBy, IsRefusedBehind}
 use Rattle.command_line.specs.Headline.{Headline}

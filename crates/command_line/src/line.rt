@@ -2,7 +2,7 @@
 ghost use Rattle.std.specs.Prelude.{◌≡◌, ◌<◌, ℕ, Some, IfOk, IfSome, string_bytes};
 ghost use Rattle.std.specs.Option.{option_map};
 ghost use Rattle.cdp_text.specs.Parts.{Halves};
-ghost use Rattle.command_line.specs.Lines.{Line as Meant, IsLine, IsInForm, line_text, line_of, line_of_text, tell_rest, take_rest, run_rest, tell_at, tell_text};
+ghost use Rattle.command_line.specs.Lines.{Line as Meant, IsLine, IsInForm, line_text, line_of, line_of_text, line_of_words, tell_rest, take_rest, detach_rest, run_rest, tell_at, tell_text};
 ghost use Rattle.command_line.specs.LineRead.{line_held};
 
 use crate::escape::unescape;
@@ -28,11 +28,16 @@ pub(crate) enum Line {
     Tell(u64, String),
     /// Hand out the texts of the session of this number.
     Take(u64),
+    /// Detach the session of this number.
+    Detach(u64),
     /// Make at most so many steps, at this moment in milliseconds since the epoch.
     Run(u64, u64),
+    /// Make no further step.
+    Shut,
 }
 
-/// The line of these bytes, without their LF: `attach`, `tell S TEXT`, `take S` or `run N MS`. None for all other bytes.
+/// The line of these bytes, without their LF: `attach`, `tell S TEXT`, `take S`, `detach S`, `run N MS` or `shut`. None for
+/// all other bytes.
 ///
 /// # Errors
 ///
@@ -55,10 +60,23 @@ fn read_text(alloc: Global, text: &str) -> Result<Option<Line>, AllocError>
 {
     if text == "attach" {
         Ok(Some(Line::Attach))
-    } else if let Some(rest) = behind(text, "tell ") {
+    } else if text == "shut" {
+        Ok(Some(Line::Shut))
+    } else {
+        read_words(alloc, text)
+    }
+}
+
+/// The line whose text is a word and what stands behind it.
+fn read_words(alloc: Global, text: &str) -> Result<Option<Line>, AllocError>
+    ensures { IfOk result (λ line. option_map line_held line ≡ line_of_words text.now) }
+{
+    if let Some(rest) = behind(text, "tell ") {
         read_tell(alloc, rest)
     } else if let Some(rest) = behind(text, "take ") {
         Ok(read_take(rest))
+    } else if let Some(rest) = behind(text, "detach ") {
+        Ok(read_detach(rest))
     } else if let Some(rest) = behind(text, "run ") {
         Ok(read_run(rest))
     } else {
@@ -66,11 +84,18 @@ fn read_text(alloc: Global, text: &str) -> Result<Option<Line>, AllocError>
     }
 }
 
-/// A session's number.
+/// The number of the session whose texts are handed out.
 fn read_take(rest: &str) -> Option<Line>
     ensures { option_map line_held result ≡ take_rest rest.now }
 {
     Some(Line::Take(read_decimal(rest)?))
+}
+
+/// The number of the session that is detached.
+fn read_detach(rest: &str) -> Option<Line>
+    ensures { option_map line_held result ≡ detach_rest rest.now }
+{
+    Some(Line::Detach(read_decimal(rest)?))
 }
 
 /// A session's number, a space and a text as it is written.

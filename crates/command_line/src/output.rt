@@ -1,11 +1,13 @@
 // The lines of output.
-ghost use Rattle.std.specs.Prelude.{◌≡◌, ◌++◌, IfOk, OnOk, map, string_bytes};
+ghost use Rattle.std.specs.Prelude.{◌≡◌, ◌++◌, ◌∷◌, [], IfOk, OnOk, map, string_bytes};
 ghost use Rattle.cdp_host.specs.declared.state.State.{State};
-ghost use Rattle.command_line.specs.Output.{Attached, To, Out, Overran, RanTo, lost_lines, output_text, state_name};
+ghost use Rattle.command_line.specs.Output.{Attached, To, Out, Overran, RanTo, output_text, overrun_in, state_name};
 
 use crate::escape::escape;
+use cdp_host::losses::SessionLost;
 use cdp_host::state::State;
 use cdp_text::units::{Units, text_of};
+use isolation::Loss;
 use std::alloc::{AllocError, Global};
 
 /// The line of a session that was attached.
@@ -39,21 +41,31 @@ pub(crate) fn overrun_line(alloc: Global, session: u64) -> Result<String, AllocE
     Ok(format!(in alloc; "overrun {session}\n")?)
 }
 
-/// Puts the line of a session that was lost behind others, if one was.
-pub(crate) fn push_lost(
-    alloc: Global,
-    lines: &mut Vec<String>,
-    lost: Option<u64>,
-) -> Result<(), AllocError>
-    ensures { OnOk result (map string_bytes lines.new.items ≡ map string_bytes lines.old.items ++ map output_text (lost_lines lost)) }
+/// Puts the line of a session that was lost by too many texts behind others; one that was lost for want of memory has none.
+fn push_overrun(alloc: Global, lines: &mut Vec<String>, lost: SessionLost) -> Result<(), AllocError>
+    ensures { OnOk result (map string_bytes lines.new.items ≡ map string_bytes lines.old.items ++ map output_text (map Overran (overrun_in (lost ∷ [])))) }
 {
-    match lost {
-        None => Ok(()),
-        Some(session) => {
-            lines.push(overrun_line(alloc, session)?)?;
+    match lost.loss {
+        Loss::Memory => Ok(()),
+        Loss::Overrun => {
+            lines.push(overrun_line(alloc, lost.session)?)?;
             Ok(())
         }
     }
+}
+
+/// Puts the lines of the sessions that were lost by too many texts behind others.
+pub(crate) fn push_overruns(
+    alloc: Global,
+    lines: &mut Vec<String>,
+    losses: &[SessionLost],
+) -> Result<(), AllocError>
+    ensures { OnOk result (map string_bytes lines.new.items ≡ map string_bytes lines.old.items ++ map output_text (map Overran (overrun_in losses.now))) }
+{
+    for lost in losses {
+        push_overrun(alloc, lines, *lost)?;
+    }
+    Ok(())
 }
 
 /// The line of a run's steps and the state in which it ended.
@@ -70,6 +82,7 @@ fn state_name(state: State) -> &'static str
 {
     match state {
         State::Broken => "broken",
+        State::Shut => "shut",
         State::Threw => "threw",
         State::Ended => "ended",
         State::Paused => "paused",

@@ -2,10 +2,10 @@
 ghost use Rattle.std.specs.Prelude.{◌≡◌, ◌⊎◌, ℕ, List, [], Bool, false, None, OnOk, OnErr, IsErrOf, map, string_bytes};
 ghost use Rattle.cdp_edge.specs.Outside.{Rose, gains, GainsPrefix, GainsLess};
 ghost use Rattle.cdp_text.specs.Lines.{lines_of};
+ghost use Rattle.isolation.specs.Histories.{Entry};
 ghost use Rattle.js_tree.specs.declared.script.Script.{Script as AnyScript};
-ghost use Rattle.cdp_host.specs.Histories.{Entry, whole};
+ghost use Rattle.cdp_host.specs.Histories.{begin, whole};
 ghost use Rattle.cdp_host.specs.Hosts.{Stands};
-ghost use Rattle.cdp_host.specs.Meaning.{begin};
 ghost use Rattle.command_line.specs.Journal.{entry_of, refused};
 ghost use Rattle.command_line.specs.Output.{joined};
 ghost use Rattle.command_line.specs.Played.{IsCut, Plays, end_of, journal_output, line_output, of_sink};

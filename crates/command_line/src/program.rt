@@ -25,12 +25,12 @@ use std::sync::Wait;
 /// | Status | Where | Line on `err` |
 /// |---|---|---|
 /// | 0 | `run`: only where the run ended by its last script; `replay`: only where every line was applied | none |
-/// | 1 | want of memory | `debug_host: out of memory` |
+/// | 1 | want of memory, also where a session is lost for want of it | `debug_host: out of memory` |
 /// | 2 | exactly where the words aren't `run SCRIPT...`, `replay JOURNAL SCRIPT...` or `replay --wait JOURNAL SCRIPT...`, with `--input FILE` or `--input=FILE` before the first name, with names that don't begin with `-` | `usage: debug_host run/replay/serve/send/drill` |
 /// | 3 | only where the input or a script isn't UTF-8, or a script is refused by the parser | `debug_host: NAME: not UTF-8`, `debug_host: NAME:LINE:COL: unexpected token`, `debug_host: NAME: too long: N units`, `debug_host: NAME: too deep`, `debug_host: NAME: too many tokens` |
 /// | 4 | only where the shelf tells a fault at a file that the words name | `debug_host: cannot read NAME` |
 /// | 5 | only where the count of `out` rose or stands at the greatest `u64`, with output left to write | `debug_host: cannot write` |
-/// | 6 | only where a line of the journal isn't of its form, attaches a second session, or names a session that isn't attached | `debug_host: line N refused` |
+/// | 6 | only where a line of the journal isn't of its form or names a session that isn't attached | `debug_host: line N refused` |
 /// | 8 | `run`: only where the run ended by an uncaught throw | `Uncaught TEXT` |
 ///
 /// The first that comes decides: the words; of a replay the journal's read; then the input's read and its text, and each

@@ -1,30 +1,20 @@
-use Rattle.std.proofs.Common.{rules, ◌≡◌, ◌++◌, ◌∷◌, [], true, false, map, string_bytes, ap}
-use Rattle.cdp_host.specs.Histories.{Tell, overruns}
-use Rattle.cdp_host.specs.Hosts.{Stands, after, parts_standing}
-use Rattle.cdp_host.specs.Meaning.{is_attached}
+use Rattle.std.proofs.Common.{rules, ◌≡◌, ◌∷◌, [], true, map, string_bytes, refl, ap}
+use Rattle.isolation.specs.Seats.{is_attached, seat_of}
 use Rattle.command_line.specs.Output.{Overran, output_text}
 use Rattle.command_line.proofs.ActLemmas.{tell-kept, tell-overrun}
 use Rattle.command_line.proofs.act.tell.Goals as goal
 
 pub returns-in-Kept-clause-acts : goal.returns-in-Kept-clause-acts
-returns-in-Kept-clause-acts c = λ scripts input wait history stood.
-    let old = c.args.host.now in
-    let new = c.tell.new.self in
-    let entry = Tell c.args.session c.args.text.now in
-    let there : is_attached old.meaning c.args.session ≡ true = search rules in
-    let is : new ≡ after old entry = search rules in
-    let fit : overruns (parts_standing old.scripts) old.scripts c.args.text.now old.meaning ≡ false = search rules in
-    let stands : Stands scripts input wait new (history ++ entry ∷ []) = search rules in
-    tell-kept scripts input wait history old new c.args.session c.args.text.now (map string_bytes c.new.result.items) c.requires there is fit (ap (map string_bytes) c.new.ensures.items) stands stood
+returns-in-Kept-clause-acts c =
+    let told = c.in-Kept.ensures in
+    let held : is_attached (seat_of c.args.session c.args.host.now.meaning.seats) ≡ true = search rules in
+    tell-kept c.args.host.now c.tell.new.self c.args.session c.args.text.now (map string_bytes c.new.result.items) c.requires held (told.kept refl) (told.stands_kept refl) (told.fits refl)
+    (ap (map string_bytes) c.new.ensures.items)
 
 pub returns-in_ok-vec-in-Overrun-clause-acts : goal.returns-in_ok-vec-in-Overrun-clause-acts
-returns-in_ok-vec-in-Overrun-clause-acts c = λ scripts input wait history stood.
-    let old = c.args.host.now in
-    let new = c.tell.new.self in
-    let entry = Tell c.args.session c.args.text.now in
-    let there : is_attached old.meaning c.args.session ≡ true = search rules in
-    let is : new ≡ after old entry = search rules in
-    let over : overruns (parts_standing old.scripts) old.scripts c.args.text.now old.meaning ≡ true = search rules in
-    let stands : Stands scripts input wait new (history ++ entry ∷ []) = search rules in
+returns-in_ok-vec-in-Overrun-clause-acts c =
+    let told = c.in-Overrun.ensures in
+    let held : is_attached (seat_of c.args.session c.args.host.now.meaning.seats) ≡ true = search rules in
     let line : map string_bytes c.in_ok-vec-in-Overrun.field-0.items ≡ output_text (Overran c.args.session) ∷ [] = search rules in
-    tell-overrun scripts input wait history old new c.args.session c.args.text.now (map string_bytes c.in_ok-vec-in-Overrun.field-0.items) c.requires there is over line stands stood
+    tell-overrun c.args.host.now c.tell.new.self c.args.session c.args.text.now (map string_bytes c.in_ok-vec-in-Overrun.field-0.items) c.requires held
+    (told.overrun refl) (told.stands_overrun refl) (told.over refl) line
