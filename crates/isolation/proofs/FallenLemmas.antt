@@ -32,7 +32,7 @@ unlisted r s [] small = refl
 unlisted r s (new ∷ news) small = unlisted-step r s news (fell new) small (unlisted r (s + 1) news (omega (arith, small)))
 
 -- a number below the first one's is nobody's
-without-below : {X : Type 0} → (r s : ℕ) (numbers : List ℕ) (olds : List (Seat X)) → r < s
+pub without-below : {X : Type 0} → (r s : ℕ) (numbers : List ℕ) (olds : List (Seat X)) → r < s
     → without_from (r ∷ numbers) s olds ≡ without_from numbers s olds
 without-below r s numbers [] small = refl
 without-below r s numbers (old ∷ olds) small =

@@ -4,15 +4,11 @@ use Rattle.isolation.specs.Seats.{each, fallen, is_listed, lost_by, put, put_in,
 use Rattle.isolation.specs.Protocols.{Protocol}
 use Rattle.isolation.specs.Meanings.{Meaning, after_run, after_steps, begin, is_enabled_seat, is_named, is_paused, kept, next_number, resume, resumed_seat, seat_behind, settle, step, survives, told_at, told_of, with_seats, woken}
 use Rattle.isolation.specs.Histories.{Entry, Attach, Tell, Take, Detach, Ran, Shut, apply, asked, detach, take, tell, whole, with_seat}
+use Rattle.isolation.specs.Runs.{AllFit}
 use Rattle.isolation.specs.Texts.{Fits, HasRoom}
 use Rattle.isolation.specs.declared.seat.Loss.TheVariants.{Overrun}
 use Rattle.isolation.specs.declared.seat.Seat.{Seat}
 use Rattle.isolation.specs.declared.seat.Seat.TheVariants.{Attached, Lost, Left}
-
--- the texts of each session fit
-abbrev pub AllFit : {C T Q X : Type 0} → Protocol C T Q X → List (Seat X) → Type 0
-AllFit P [] = Unit {0}
-AllFit P (seat ∷ seats) = Fits P seat × AllFit P seats
 
 -- ---- seats
 

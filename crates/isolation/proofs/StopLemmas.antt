@@ -8,6 +8,7 @@ use Rattle.isolation.specs.Stops.{AllStopExactly, IsPausedWell, KeepsEnabled, St
 use Rattle.isolation.specs.declared.seat.Seat.{Seat}
 use Rattle.isolation.specs.declared.seat.Seat.TheVariants.{Attached, Lost, Left}
 use Rattle.isolation.proofs.AloneLemmas.{ready-goes, step-stops}
+use Rattle.isolation.proofs.StepLemmas.{after-suc}
 
 -- ---- plain steps
 
@@ -30,12 +31,6 @@ run-program : {C T Q X : Type 0} → (P : Protocol C T Q X) (moment : ℕ) (gone
     → (after_run P moment gone n m).program ≡ plain P n m.program
 run-program P moment gone zero m = refl
 run-program P moment gone (suc n) m = ap (λ d. P.next d) (steps-program P moment n m)
-
--- the last of so many steps
-pub after_steps-suc : {C T Q X : Type 0} → (P : Protocol C T Q X) (moment j : ℕ) (m : Meaning C Q X)
-    → after_steps P moment (suc j) m ≡ step P moment [] (after_steps P moment j m)
-after_steps-suc P moment zero m = refl
-after_steps-suc P moment (suc j) m = after_steps-suc P moment j (step P moment [] m)
 
 -- ---- the program behind an entry
 
@@ -127,7 +122,7 @@ run-stops P c made moment gone m n at ready =
       passes_none = λ j below.
           let k = after_steps P moment j m in
           ap (λ d. is_named P moment [] d k) (sym (where_at j)) ∙ sym (step-stops P moment [] k)
-          ∙ ap (λ l. is_paused l) (sym (after_steps-suc P moment j m))
+          ∙ ap (λ l. is_paused l) (sym (after-suc P j moment m))
           ∙ ready-goes P (after_steps P moment (suc j) m) (ready (suc j) (omega (arith, below)));
       stops_there = λ j is.
           let k = after_steps P moment j m in

@@ -1,5 +1,5 @@
 -- What one session names, where no other names anything.
-use Rattle.std.specs.Prelude.{◌≡◌, ◌≢◌, ◌<◌, ℕ, ◌+◌, List, Bool, false, ◌&&◌}
+use Rattle.std.specs.Prelude.{◌≡◌, ◌≢◌, ◌<◌, ℕ, ◌+◌, List, false, ◌&&◌}
 use Rattle.isolation.specs.Seats.{is_attached, seat_of}
 use Rattle.isolation.specs.Protocols.{Protocol}
 use Rattle.isolation.specs.Meanings.{Meaning, after_run, is_paused}

@@ -44,6 +44,7 @@ pub record IsQuiet {C T Q X : Type 0} (P : Protocol C T Q X) (moment : ℕ) (t :
 abbrev pub mid : {X : Type 0} → Seat X → Seat X → Seat X
 mid old new = if fell new then fallen old else old
 
+-- the same of each seat; one that nothing was done to yet stays as it is
 abbrev pub mids : {X : Type 0} → List (Seat X) → List (Seat X) → List (Seat X)
 mids [] news = []
 mids (old ∷ olds) [] = old ∷ olds

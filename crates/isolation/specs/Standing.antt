@@ -1,6 +1,6 @@
 -- A host that stands for a history, whatever memory was there.
 use Rattle.std.specs.Prelude.{◌≡◌, ℕ, ◌+◌, List, [], ◌∷◌, Bool, true, false, if◌then◌else◌}
-use Rattle.isolation.specs.Seats.{is_attached, seat_of, without}
+use Rattle.isolation.specs.Seats.{is_attached, seat_of, some, waits_for_report, without}
 use Rattle.isolation.specs.Protocols.{Protocol}
 use Rattle.isolation.specs.Meanings.{Meaning, is_paused, with_seats}
 use Rattle.isolation.specs.Histories.{Entry, Attach, Tell, Take, Detach, Ran, Shut, apply}
@@ -10,6 +10,7 @@ use Rattle.isolation.specs.declared.seat.Seat.TheVariants.{Attached, Lost, Left}
 
 -- ---- sessions that were lost for want of memory, and of which no run has told
 
+-- the session of a seat was lost so
 abbrev pub fell : {X : Type 0} → Seat X → Bool
 fell (Attached x) = false
 fell (Lost Overrun is_reported is_told) = false
@@ -22,6 +23,7 @@ abbrev pub fallen_from : {X : Type 0} → ℕ → List (Seat X) → List ℕ
 fallen_from s [] = []
 fallen_from s (seat ∷ seats) = if fell seat then s ∷ fallen_from (s + 1) seats else fallen_from (s + 1) seats
 
+-- the same from the first session on
 abbrev pub fallen_in : {X : Type 0} → List (Seat X) → List ℕ
 fallen_in seats = fallen_from 1 seats
 
@@ -50,3 +52,17 @@ IsHeld host (Take s) = is_attached (seat_of s host.seats) ≡ true
 IsHeld host (Detach s) = is_attached (seat_of s host.seats) ≡ true
 IsHeld host (Ran n moment gone) = ⊥
 IsHeld host Shut = Unit {0}
+
+-- ---- want of memory in a run
+
+-- a seat behind it: a session that was attached there is lost for want of memory, and no loss waits for a run any more
+abbrev pub broken_seat : {X : Type 0} → Seat X → Seat X
+broken_seat (Attached x) = Lost Memory true false
+broken_seat (Lost loss is_reported is_told) = Lost loss true is_told
+broken_seat Left = Left
+
+-- A host that was broken so has the seats of what a history means: none of them is attached, and none waits for a run.
+pub record BrokenAs {X : Type 0} (seats means : List (Seat X)) : Type 0 where
+  pub same : seats ≡ means
+  pub alone : some is_attached seats ≡ false
+  pub all_told : some waits_for_report seats ≡ false
