@@ -26,7 +26,7 @@ and_assoc : (a b c : Bool) → (a && b && c) ≡ (a && (b && c))
 and_assoc true b c = refl
 and_assoc false b c = refl
 
-same-tied : (p q : Place) → same_place p q ≡ is_eq (place_cmp q p)
+pub same-tied : (p q : Place) → same_place p q ≡ is_eq (place_cmp q p)
 same-tied p q =
     and_assoc (nat_eq p.script q.script) (nat_eq p.pos.line q.pos.line) (nat_eq p.pos.col q.pos.col)
     ∙ both_tied _ _ _ _ (tied p.script q.script) (both_tied _ _ _ _ (tied p.pos.line q.pos.line) (tied p.pos.col q.pos.col))

@@ -1,3 +1,4 @@
 pub mod ResolvingLemmas
 pub mod IndexLemmas
 pub mod HitLemmas
+pub mod FilterLemmas

@@ -4,3 +4,4 @@ pub mod Found
 pub mod Hits
 pub mod PlaceIndex
 pub mod Breakpoints
+pub mod PlaceFilter

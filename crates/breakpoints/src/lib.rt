@@ -10,6 +10,7 @@ pub mod fault;
 pub mod hits;
 pub mod ids;
 pub mod laws;
+mod place_filter;
 mod place_index;
 pub mod places;
 mod resolving;

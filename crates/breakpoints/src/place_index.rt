@@ -4,15 +4,18 @@ ghost use Rattle.std.specs.Prelude.{◌≡◌, [], OnOk, IsTrue};
 ghost use Rattle.breakpoints.specs.Hits.{has_place};
 ghost use Rattle.breakpoints.specs.PlaceIndex.{AreIn};
 
+use crate::place_filter::PlaceFilter;
 use cdp_text::position::Place;
 use std::alloc::{AllocError, Global};
 use std::collections::BTreeSet;
 use std::marker::Model;
 
-/// Places among which one is found in logarithmic time. Contracts see their list.
+/// Places among which one is found in logarithmic time; most that aren't among them are known by one look. Contracts see their
+/// list.
 #[derive(Debug, Drop)]
 pub(crate) struct PlaceIndex {
     places: BTreeSet<Place>,
+    filter: PlaceFilter,
 }
 
 impl Model for PlaceIndex {
@@ -22,6 +25,10 @@ impl Model for PlaceIndex {
     ghost Value = { List Place };
 
     ghost view = { λ i. i.places.keys };
+
+    ghost use Rattle.breakpoints.specs.PlaceFilter.{AreMarked};
+
+    ghost invariant = { λ i. AreMarked i.places.keys i.filter };
 }
 
 impl PlaceIndex {
@@ -31,6 +38,7 @@ impl PlaceIndex {
     {
         PlaceIndex {
             places: BTreeSet::new(alloc),
+            filter: PlaceFilter::new(alloc),
         }
     }
 
@@ -38,7 +46,7 @@ impl PlaceIndex {
     pub(crate) fn has(&self, place: Place) -> bool
         ensures { result ≡ has_place place self.now }
     {
-        self.places.contains(&place)
+        self.filter.is_marked(place) && self.places.contains(&place)
     }
 
     /// Puts a place in.
@@ -46,6 +54,7 @@ impl PlaceIndex {
         ensures kept { AreIn self.new self.old }
         ensures added { OnOk result (IsTrue (has_place place self.new)) }
     {
+        self.filter.mark(place)?;
         self.places.insert(place)?;
         Ok(())
     }
@@ -66,5 +75,6 @@ impl PlaceIndex {
         ensures { self.new ≡ [] }
     {
         self.places.clear();
+        self.filter.clear();
     }
 }
