@@ -1,0 +1,11 @@
+pub mod EscapeLemmas
+pub mod UnescapeLemmas
+pub mod OneLineLemmas
+pub mod LineLemmas
+pub mod DrillLemmas
+pub mod WrittenLemmas
+pub mod DrillLines
+pub mod BytePartLemmas
+pub mod TallyLemmas
+pub mod RunLines
+pub mod Cases
