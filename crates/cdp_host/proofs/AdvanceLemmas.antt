@@ -1,12 +1,11 @@
 -- A stretch of steps of a machine, and what its last step does to the sessions, in the words of a host's meaning.
-use Rattle.std.proofs.Common.{◌≡◌, ℕ, zero, suc, ◌+◌, ◌-◌, ◌<◌, List, [], ◌∷◌, Bool, true, false, ◌||◌, ◌&&◌, not, is_some, IfSome, refl, ap, sym, subst, ◌∙◌, arith, if◌then◌else◌, Option, Some, None}
+use Rattle.std.proofs.Common.{◌≡◌, ℕ, zero, suc, ◌-◌, ◌<◌, List, [], ◌∷◌, Bool, true, false, ◌||◌, ◌&&◌, not, is_some, IfSome, refl, ap, sym, subst, ◌∙◌, arith, if◌then◌else◌, Option, Some, None}
 use Rattle.std.specs.Option.{option_map}
 use Rattle.std.proofs.lemmas.Bool.{and_parts, not-true}
 use Rattle.isolation.specs.Meanings.{behind, is_first, is_held, is_ready, next_number, seat_behind, stops_for, waits}
-use Rattle.isolation.specs.Meanings as meanings
 use Rattle.isolation.specs.Passes.{Behind, Over, any_set}
-use Rattle.isolation.specs.Runs.{AllFit, HasMade, IsQuiet, mids, names_seat}
-use Rattle.isolation.specs.Seats.{each, some, waits_for_report, without}
+use Rattle.isolation.specs.Runs.{AllFit, HasMade, IsQuiet, names_seat}
+use Rattle.isolation.specs.Seats.{each, some, waits_for_report}
 use Rattle.isolation.specs.Standing.{fallen_in}
 use Rattle.isolation.specs.Stops as stops_
 use Rattle.isolation.specs.declared.phase.Phase.{Phase}
@@ -30,7 +29,7 @@ use Rattle.cdp_host.specs.Histories.{Meaning}
 use Rattle.cdp_host.specs.Programs.{arrival_of, next, nexts, is_over, prints_next}
 use Rattle.cdp_host.specs.Protocols.{pause_at, protocol}
 use Rattle.cdp_host.specs.Standings.{ending_of, standing_of}
-use Rattle.cdp_host.specs.Steps.{Step, names, seen_behind, step_of, told}
+use Rattle.cdp_host.specs.Steps.{Step, seen_behind, step_of, told}
 use Rattle.cdp_host.specs.Hosts.{beside, beside_behind, machine_arrival, machine_run, machine_standing, machine_step, pause_behind}
 use Rattle.cdp_host.specs.Ran.{Advances, stops_at, stops_seat}
 use Rattle.cdp_host.specs.Watching.{prints_last}

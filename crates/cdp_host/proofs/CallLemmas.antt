@@ -16,10 +16,13 @@ use Rattle.pure_eval.specs.Workspaces.{Workspace, begun}
 use Rattle.cdp_session.specs.Outboxes.{fits}
 use Rattle.cdp_session.specs.Replies.{Answer}
 use Rattle.cdp_session.specs.Sessions.{Session, emptied, fresh}
+use Rattle.cdp_host.specs.Fallbacks.{HasRoom, fallback_held}
 use Rattle.cdp_host.specs.Hosts.{CarriesOn, HostState, IsSound, Leaves, NoneAttached, meaning_with}
 use Rattle.cdp_host.specs.Programs.{code_of}
 use Rattle.cdp_host.specs.Protocols.{protocol}
 use Rattle.cdp_host.specs.Watching.{AnswersIn}
+use Rattle.cdp_host.specs.declared.fallback.Fallback.{Fallback}
+use Rattle.cdp_host.specs.declared.losses.SessionLost.{SessionLost}
 use Rattle.cdp_host.specs.declared.telling.Answered.{Answered}
 use Rattle.cdp_host.specs.declared.telling.Answered.TheVariants.{Kept, Overran, Failed}
 use Rattle.cdp_host.proofs.HistoryLemmas.{stands-call}
@@ -43,17 +46,33 @@ works-at s b seats alone held = works-by s b seats alone held
 
 -- ---- what holds of every host, with other seats
 
-pub sound-seats : (scripts : List Script) (starts : List (List ℕ)) (found : List (List Spot)) (machine : Machine) (b : Bool) (seats news : List (Seat Session))
-    → IsSound scripts starts found machine b seats → b ≡ false → AllFit (protocol scripts) news → IsSound scripts starts found machine b news
-sound-seats scripts starts found machine b seats news sound works fit = record {
+pub sound-more : (scripts : List Script) (starts : List (List ℕ)) (found : List (List Spot)) (machine : Machine)
+    (b : Bool)
+    → (seats news : List (Seat Session)) (count more : ℕ) (held wider : Fallback) (losses : List SessionLost)
+    → IsSound scripts starts found machine b seats count held losses → b ≡ false → AllFit (protocol scripts) news
+    → HasRoom more wider → fallback_held wider ≡ fallback_held held
+    → IsSound scripts starts found machine b news more wider losses
+sound-more scripts starts found machine b seats news count more held wider losses sound works fit room same = record {
   lines = sound.lines;
   spots = sound.spots;
   code = sound.code;
   handed = sound.handed;
   kept = sound.kept;
+  quiet = sound.quiet;
+  room = λ _. room;
   alone = λ fails. absurd cc;
+  gone = ap (λ f. some is_attached f.seats) same ∙ sound.gone;
   fit = fit;
 }
+
+pub sound-seats : (scripts : List Script) (starts : List (List ℕ)) (found : List (List Spot)) (machine : Machine)
+    (b : Bool)
+    → (seats news : List (Seat Session)) (count : ℕ) (held : Fallback) (losses : List SessionLost)
+    → IsSound scripts starts found machine b seats count held losses → b ≡ false → AllFit (protocol scripts) news
+    → IsSound scripts starts found machine b news count held losses
+sound-seats scripts starts found machine b seats news count held losses sound works fit =
+    sound-more scripts starts found machine b seats news count count held held losses sound works fit
+    (sound.room works) refl
 
 pub nothing-fits : fits [] ≡ true
 unfolding fits
@@ -108,6 +127,7 @@ seats-leave : (h : HostState) (entry : Entry) (news : List (Seat Session))
 seats-leave h entry news leads stay = record {
   runs = refl;
   works = refl;
+  fallen = refl;
   means = λ taken none. record {
     is = sym (less-self (with_seats news (meaning_with h taken))) ∙ ap (less news) (leads taken);
     all_there = λ paused. fallen-none news (stay (none-fallen h.meaning.seats (none paused)));

@@ -1,19 +1,16 @@
 -- Hosts and histories: one entry behind others.
 use Rattle.std.proofs.Common.{◌≡◌, ℕ, zero, List, [], ◌∷◌, ◌++◌, Bool, true, false, refl, ap, sym, subst, ◌∙◌}
 use Rattle.isolation.specs.Histories.{Entry, FitsEntry, steps_of}
-use Rattle.isolation.specs.Histories as histories
-use Rattle.isolation.specs.Meanings.{is_paused}
-use Rattle.isolation.specs.Seats.{is_attached, some}
-use Rattle.isolation.specs.Standing.{IsHeld, LeavesAs, StandsAs, fallen_in}
-use Rattle.isolation.proofs.FallenLemmas.{less-self}
+use Rattle.isolation.specs.Standing.{BrokenAs, IsHeld, LeavesAs, StandsAs}
 use Rattle.isolation.proofs.LongerLemmas.{call-program, fits-more, whole-more}
 use Rattle.isolation.proofs.StandingLemmas.{stands-more}
 use Rattle.js_tree.specs.declared.script.Script.{Script}
 use Rattle.js_semantics.specs.Run.{Run}
-use Rattle.cdp_host.specs.Histories.{IsHistory, Meaning, apply, begin, whole}
-use Rattle.cdp_host.specs.Hosts.{HostState, Leaves, NoneAttached, Stands, meaning_with}
+use Rattle.cdp_host.specs.Histories.{Meaning, apply, begin, whole}
+use Rattle.cdp_host.specs.Hosts.{HostState, Leaves, Stands, meaning_with}
 use Rattle.cdp_host.specs.Programs.{printed_of, start}
 use Rattle.cdp_host.specs.Protocols.{protocol}
+use Rattle.cdp_host.specs.declared.losses.SessionLost.{SessionLost}
 use Rattle.cdp_host.proofs.ProgramLemmas.{start-prints}
 
 -- a history with one more entry means what that entry makes of it
@@ -31,7 +28,7 @@ stands-start scripts input wait host same works is = record {
       let here : meaning_with host (printed_of (start scripts input)) ≡ begin scripts input wait = ap (meaning_with host) (start-prints scripts input) ∙ is in
       let P : Meaning Run → Type 0 = λ m. StandsAs m (begin scripts input wait) in
       subst P (sym here) (record { is = refl; all_there = λ paused. refl });
-  alone = λ fails. absurd cc;
+  lost = λ fails. absurd cc;
 }
 
 -- a host that works, behind an entry that leads from what it stands for to what it is then
@@ -47,7 +44,7 @@ stands-behind scripts input wait old new history entry stood same works fit stan
       runs = same ∙ stood.runs;
       fits = fits-more (protocol scripts) (begin scripts input wait) history entry stood.fits fit;
       means = λ _. subst P (sym more) stands;
-      alone = λ fails. absurd cc;
+      lost = λ fails. absurd cc;
     }
 
 -- the same of an entry that makes no steps
@@ -65,17 +62,29 @@ stands-call scripts input wait old new history entry stood none fit held leaves 
     (subst Q (sym same)
     (stands-more (protocol scripts) (meaning_with old taken) m entry (meaning_with new taken) before held (subst P stood.runs (leaves.means taken before.all_there))))
 
--- a broken host, behind an entry that attaches nobody
+-- a broken host, behind an entry that leaves its seats
 pub stands-broken : (scripts : List Script) (input : List (List ℕ)) (wait : Bool) (old new : HostState) (history : List Entry) (entry : Entry)
     → Stands scripts input wait old history → new.scripts ≡ old.scripts → new.broken ≡ true
-    → FitsEntry (protocol scripts) (whole scripts input wait history) entry → NoneAttached (apply scripts (whole scripts input wait history) entry).seats
+    → FitsEntry (protocol scripts) (whole scripts input wait history) entry
+    → BrokenAs new.meaning.seats (apply scripts (whole scripts input wait history) entry).seats
     → Stands scripts input wait new (history ++ entry ∷ [])
-stands-broken scripts input wait old new history entry stood same fails fit none =
+stands-broken scripts input wait old new history entry stood same fails fit left =
     let more = longer scripts input wait history entry in
-    let P : Meaning Run → Type 0 = λ m. NoneAttached m.seats in
+    let P : Meaning Run → Type 0 = λ m. BrokenAs new.meaning.seats m.seats in
     record {
       runs = same ∙ stood.runs;
       fits = fits-more (protocol scripts) (begin scripts input wait) history entry stood.fits fit;
       means = λ works. absurd cc;
-      alone = λ _. subst P (sym more) none;
+      lost = λ _. subst P (sym more) left;
     }
+
+-- what it has to hand out doesn't matter
+pub stands-handed : (scripts : List Script) (input : List (List ℕ)) (wait : Bool) (host : HostState)
+    (history : List Entry) (losses : List SessionLost)
+    → Stands scripts input wait host history → Stands scripts input wait (record host { fallen = losses }) history
+stands-handed scripts input wait host history losses stood = record {
+  runs = stood.runs;
+  fits = stood.fits;
+  means = stood.means;
+  lost = stood.lost;
+}

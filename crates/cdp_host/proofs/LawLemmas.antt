@@ -1,12 +1,11 @@
 -- The laws of histories of any protocol, said of a host's.
-use Rattle.std.proofs.Common.{◌≡◌, ℕ, List, Bool, true, ap, sym, subst, ◌∙◌, Option, Some}
+use Rattle.std.proofs.Common.{◌≡◌, ℕ, List, Bool, ap, sym, subst, ◌∙◌}
 use Rattle.isolation.specs.Histories.{Entry, steps_made}
 use Rattle.isolation.proofs.StopLemmas.{paused-well, plain-way}
 use Rattle.js_tree.specs.declared.script.Script.{Script}
 use Rattle.js_semantics.specs.Run.{Run}
-use Rattle.cdp_session.specs.declared.situation.Pause.{Pause}
 use Rattle.cdp_host.specs.Histories.{whole}
-use Rattle.cdp_host.specs.Programs.{arrival_of, plain, printed_of, start}
+use Rattle.cdp_host.specs.Programs.{plain, printed_of, start}
 use Rattle.cdp_host.specs.Protocols.{protocol}
 use Rattle.cdp_host.specs.Rules.{IsPausedThere, PrintsAsPlain}
 use Rattle.cdp_host.proofs.ProgramLemmas.{plain-grows, plain-over}

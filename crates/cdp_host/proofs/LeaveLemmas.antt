@@ -1,29 +1,23 @@
 -- Calls behind which a paused program may go on: texts, and sessions that leave.
-use Rattle.std.proofs.Common.{◌≡◌, ℕ, List, [], ◌∷◌, ◌++◌, Bool, true, false, is_some, if◌then◌else◌, refl, ap, sym, subst, ◌∙◌, Option, Some, None}
-use Rattle.isolation.specs.Histories.{Attach, Detach, Entry, Shut, Tell, apply, asked, detach, tell, with_seat}
+use Rattle.std.proofs.Common.{◌≡◌, ℕ, List, Bool, true, false, is_some, if◌then◌else◌, refl, ap, sym, ◌∙◌, None}
+use Rattle.isolation.specs.Histories.{Detach, Entry, Shut, Tell, apply, asked, detach, tell, with_seat}
 use Rattle.isolation.specs.Meanings as meanings
 use Rattle.isolation.specs.Meanings.{is_enabled_seat, is_paused, resume, resumed_seat, settle, with_seats}
 use Rattle.isolation.specs.Passes.{HearsOn, OverAll}
 use Rattle.isolation.specs.Protocols.{Protocol}
-use Rattle.isolation.specs.Seats.{each, is_attached, put, seat_of, some, without}
+use Rattle.isolation.specs.Seats.{each, put, seat_of, some, without}
 use Rattle.isolation.specs.Standing.{fallen_in, fell, less}
 use Rattle.isolation.specs.declared.seat.Seat.{Seat}
-use Rattle.isolation.specs.declared.seat.Seat.TheVariants.{Attached, Lost, Left}
+use Rattle.isolation.specs.declared.seat.Seat.TheVariants.{Attached, Left}
 use Rattle.isolation.proofs.FallenLemmas.{fallen-none, fell-put, less-self, none-fallen}
 use Rattle.isolation.proofs.PassLemmas.{on-each}
-use Rattle.js_tree.specs.declared.script.Script.{Script}
-use Rattle.js_semantics.specs.Run.{Run}
 use Rattle.cdp_session.specs.declared.asks.Asks.{Asks}
-use Rattle.cdp_session.specs.declared.situation.Pause.{Pause}
 use Rattle.cdp_session.specs.Replies.{Answer, answer_of}
 use Rattle.cdp_session.specs.Sessions.{Session}
-use Rattle.cdp_session.specs.Situations.{Standing}
-use Rattle.cdp_host.specs.Histories.{Meaning}
-use Rattle.cdp_host.specs.Hosts.{CarriesOn, HostState, Leaves, NoneAttached, meaning_with, parts_standing}
-use Rattle.cdp_host.specs.Protocols.{answer_at, asks_to_resume, asks_to_wake, protocol, situation, texts_fit}
+use Rattle.cdp_host.specs.Hosts.{CarriesOn, HostState, Leaves, meaning_with, parts_standing}
+use Rattle.cdp_host.specs.Protocols.{answer_at, asks_to_resume, asks_to_wake, protocol, situation}
 use Rattle.cdp_host.specs.Watching.{AnswersIn}
-use Rattle.cdp_host.specs.declared.telling.Answered.{Answered}
-use Rattle.cdp_host.specs.declared.telling.Answered.TheVariants.{Kept, Overran, Failed}
+use Rattle.cdp_host.specs.declared.telling.Answered.TheVariants.{Kept, Overran}
 use Rattle.cdp_host.proofs.HistoryLemmas.{stands-broken, stands-call}
 use Rattle.cdp_host.proofs.StandingLemmas.{standing-taken}
 
@@ -60,11 +54,12 @@ abbrev pub StaysPaused : HostState → HostState → Type 0
 StaysPaused mid new = is_paused new.meaning ≡ true → (new.meaning.seats ≡ mid.meaning.seats) × (new.meaning.stop ≡ mid.meaning.stop)
 
 pub leaves-told : (old mid new : HostState) (s : ℕ) (entry : Entry) (z : Seat Session) → fell z ≡ false → mid ≡ reseated old s z
-    → new.scripts ≡ mid.scripts → new.broken ≡ mid.broken → StaysPaused mid new
+    → new.scripts ≡ mid.scripts → new.broken ≡ mid.broken → new.fallen ≡ mid.fallen → StaysPaused mid new
     → ((taken : List (List ℕ)) → meaning_with new taken ≡ less new.meaning.seats (apply (protocol old.scripts) (meaning_with old taken) entry)) → Leaves old entry new
-leaves-told old mid new s entry z whole_seat is same works stays means = record {
+leaves-told old mid new s entry z whole_seat is same works kept stays means = record {
   runs = same ∙ ap (λ h. h.scripts) is;
   works = works ∙ ap (λ h. h.broken) is;
+  fallen = kept ∙ ap (λ h. h.fallen) is;
   means = λ taken there. record {
     is = means taken;
     all_there = λ paused.
@@ -119,13 +114,13 @@ put_is old mid s z same is = same ∙ ap (λ ss. record old { meaning = record o
 
 pub leaves-kept : (old mid new : HostState) (s : ℕ) (text : List ℕ) (x : Session) (asks : Asks) → seat_of s old.meaning.seats ≡ Attached x → OnlySeats old mid
     → AnswersIn (Kept asks) (becomes old text x) s old.meaning.seats mid.meaning.seats
-    → new.scripts ≡ mid.scripts → new.broken ≡ mid.broken → StaysPaused mid new
+    → new.scripts ≡ mid.scripts → new.broken ≡ mid.broken → new.fallen ≡ mid.fallen → StaysPaused mid new
     → ((taken : List (List ℕ)) → meaning_with new taken ≡ less new.meaning.seats (asked (protocol mid.scripts) (asks_to_resume asks) (asks_to_wake asks) (meaning_with mid taken)))
     → Leaves old (Tell s text) new
-leaves-kept old mid new s text x asks had only answers same works stays means =
+leaves-kept old mid new s text x asks had only answers same works kept stays means =
     let y : Session = (becomes old text x).session in
     let is : mid ≡ reseated old s (Attached y) = put_is old mid s (Attached y) only answers.0 in
-    leaves-told old mid new s (Tell s text) (Attached y) refl is same works stays
+    leaves-told old mid new s (Tell s text) (Attached y) refl is same works kept stays
     (λ taken.
     let seen = answer-seen old taken x text in
     means taken
@@ -136,12 +131,12 @@ leaves-kept old mid new s text x asks had only answers same works stays means =
 
 pub leaves-over : (old mid new : HostState) (s : ℕ) (text : List ℕ) (x : Session) → seat_of s old.meaning.seats ≡ Attached x → OnlySeats old mid
     → AnswersIn Overran (becomes old text x) s old.meaning.seats mid.meaning.seats
-    → new.scripts ≡ mid.scripts → new.broken ≡ mid.broken → StaysPaused mid new
+    → new.scripts ≡ mid.scripts → new.broken ≡ mid.broken → new.fallen ≡ mid.fallen → StaysPaused mid new
     → ((taken : List (List ℕ)) → meaning_with new taken ≡ less new.meaning.seats (settle (protocol mid.scripts) (meaning_with mid taken))) → Leaves old (Tell s text) new
-leaves-over old mid new s text x had only answers same works stays means =
+leaves-over old mid new s text x had only answers same works kept stays means =
     let y : Session = (becomes old text x).session in
     let is : mid ≡ reseated old s Left = put_is old mid s Left only answers.0 in
-    leaves-told old mid new s (Tell s text) Left refl is same works stays
+    leaves-told old mid new s (Tell s text) Left refl is same works kept stays
     (λ taken.
     means taken
     ∙ ap (λ h. less new.meaning.seats (settle (protocol h.scripts) (meaning_with h taken))) is
@@ -149,11 +144,11 @@ leaves-over old mid new s text x had only answers same works stays means =
 
 -- a session that leaves
 pub leaves-left : (old mid new : HostState) (s : ℕ) (x : Session) → seat_of s old.meaning.seats ≡ Attached x → OnlySeats old mid → mid.meaning.seats ≡ put s Left old.meaning.seats
-    → new.scripts ≡ mid.scripts → new.broken ≡ mid.broken → StaysPaused mid new
+    → new.scripts ≡ mid.scripts → new.broken ≡ mid.broken → new.fallen ≡ mid.fallen → StaysPaused mid new
     → ((taken : List (List ℕ)) → meaning_with new taken ≡ less new.meaning.seats (settle (protocol mid.scripts) (meaning_with mid taken))) → Leaves old (Detach s) new
-leaves-left old mid new s x had only seats same works stays means =
+leaves-left old mid new s x had only seats same works kept stays means =
     let is : mid ≡ reseated old s Left = put_is old mid s Left only seats in
-    leaves-told old mid new s (Detach s) Left refl is same works stays
+    leaves-told old mid new s (Detach s) Left refl is same works kept stays
     (λ taken.
     means taken
     ∙ ap (λ h. less new.meaning.seats (settle (protocol h.scripts) (meaning_with h taken))) is
@@ -169,6 +164,7 @@ pub leaves-shut : (old : HostState) → Leaves old Shut (record old { meaning = 
 leaves-shut old = record {
   runs = refl;
   works = refl;
+  fallen = refl;
   means = λ taken there. record { is = sym (less-self (record (meaning_with old taken) { shut = true })); all_there = there };
 }
 
@@ -176,4 +172,5 @@ pub shut-stands : (old : HostState) (b : Bool) → old.broken ≡ b → CarriesO
 shut-stands old false works = λ scripts input wait history stood.
     stands-call scripts input wait old (record old { meaning = record old.meaning { shut = true } }) history Shut stood refl tt tt (leaves-shut old) works
 shut-stands old true fails = λ scripts input wait history stood.
-    stands-broken scripts input wait old (record old { meaning = record old.meaning { shut = true } }) history Shut stood refl fails tt (stood.alone fails)
+    stands-broken scripts input wait old (record old { meaning = record old.meaning { shut = true } }) history Shut
+    stood refl fails tt (stood.lost fails)

@@ -22,3 +22,5 @@ pub mod RunLemmas
 pub mod NamingLemmas
 pub mod StepLemmas
 pub mod RefusalLemmas
+pub mod FallbackLemmas
+pub mod ViewLemmas

@@ -1,22 +1,20 @@
 -- Owners who are told of a loss.
-use Rattle.std.proofs.Common.{◌≡◌, ℕ, zero, suc, ◌||◌, List, [], ◌∷◌, ◌++◌, Bool, true, false, refl, ap, sym, subst, ◌∙◌}
-use Rattle.isolation.specs.Histories.{Detach, Entry, apply, with_seat}
-use Rattle.isolation.specs.Meanings as meanings
-use Rattle.isolation.specs.Runs.{AllFit}
-use Rattle.isolation.specs.Seats.{is_attached, put, put_in, seat_of, some}
-use Rattle.isolation.specs.Standing.{StandsAs}
+use Rattle.std.proofs.Common.{◌≡◌, ℕ, zero, suc, ◌||◌, List, [], ◌∷◌, Bool, true, false, refl, ap, sym, subst, ◌∙◌}
+use Rattle.isolation.specs.Histories.{Detach, apply, detach, with_seat}
+use Rattle.isolation.specs.Seats.{is_attached, put, put_in, seat_of, some, waits_for_report}
+use Rattle.isolation.specs.Standing.{BrokenAs, StandsAs}
 use Rattle.isolation.specs.Texts.{Fits}
 use Rattle.isolation.specs.declared.seat.Loss.TheVariants.{Overrun, Memory}
 use Rattle.isolation.specs.declared.seat.Seat.{Seat}
 use Rattle.isolation.specs.declared.seat.Seat.TheVariants.{Attached, Lost, Left}
-use Rattle.isolation.proofs.BrokenLemmas.{none-detach}
 use Rattle.isolation.proofs.LongerLemmas.{call-program}
+use Rattle.isolation.proofs.BrokenLemmas.{unset-at, unset-put}
 use Rattle.isolation.proofs.StandingLemmas.{fallen-attached, stands-detach-fallen, stands-detach-left, stands-detach-lost, whole-none}
 use Rattle.js_tree.specs.declared.script.Script.{Script}
 use Rattle.js_semantics.specs.Run.{Run}
 use Rattle.cdp_session.specs.Sessions.{Session}
 use Rattle.cdp_host.specs.Histories.{Meaning, apply as applied, whole}
-use Rattle.cdp_host.specs.Hosts.{CarriesOn, HostState, Stands, meaning_with}
+use Rattle.cdp_host.specs.Hosts.{CarriesOn, HostState, meaning_with}
 use Rattle.cdp_host.specs.Programs.{printed_of, start}
 use Rattle.cdp_host.specs.Protocols.{protocol}
 use Rattle.cdp_host.specs.Watching.{owner_told}
@@ -76,6 +74,39 @@ told-stands scripts host m s Left stood b there at gone =
     let P : List (Seat Session) → Type 0 = λ ss. (let n : Meaning Run = record host { seats = ss } in StandsAs n (apply (protocol scripts) m (Detach s))) in
     subst P (sym (put-same s Left host.seats at)) (stands-detach-left (protocol scripts) host m s stood at)
 
+-- ---- a host that want of memory broke
+
+broken_by : (scripts : List Script) (m : Meaning Run) (s : ℕ) (seats : List (Seat Session)) (seat new : Seat Session)
+    → BrokenAs seats m.seats
+    → seat_of s m.seats ≡ seat → owner_told seat ≡ new → put s new m.seats ≡ (detach (protocol scripts) s m seat).seats
+    → is_attached new ≡ false → waits_for_report new ≡ false
+    → BrokenAs (put s (owner_told (seat_of s seats)) seats) (apply (protocol scripts) m (Detach s)).seats
+broken_by scripts m s seats seat new broken at told leads gone reported =
+    let here : owner_told (seat_of s seats) ≡ new =
+    ap (λ ss. owner_told (seat_of s ss)) broken.same ∙ ap owner_told at ∙ told in
+    let P : Seat Session → Type 0 = λ z. some is_attached (put s z seats) ≡ false in
+    let Q : Seat Session → Type 0 = λ z. some waits_for_report (put s z seats) ≡ false in
+    record {
+      same = ap (λ z. put s z seats) here ∙ ap (put s new) broken.same ∙ leads
+          ∙ ap (λ z. (detach (protocol scripts) s m z).seats) (sym at);
+      alone = subst P (sym here) (unset-put is_attached s new seats gone broken.alone);
+      all_told = subst Q (sym here) (unset-put waits_for_report s new seats reported broken.all_told);
+    }
+
+-- its owner is told, and its seats are those of the history with that
+told-broken : (scripts : List Script) (m : Meaning Run) (s : ℕ) (seats : List (Seat Session)) (seat : Seat Session)
+    → BrokenAs seats m.seats
+    → seat_of s m.seats ≡ seat → is_attached seat ≡ false → waits_for_report seat ≡ false
+    → BrokenAs (put s (owner_told (seat_of s seats)) seats) (apply (protocol scripts) m (Detach s)).seats
+told-broken scripts m s seats (Attached x) broken at gone told = absurd cc
+told-broken scripts m s seats (Lost loss false is_told) broken at gone told = absurd cc
+told-broken scripts m s seats (Lost Overrun true is_told) broken at gone told =
+    broken_by scripts m s seats (Lost Overrun true is_told) (Lost Overrun true true) broken at refl refl refl refl
+told-broken scripts m s seats (Lost Memory true is_told) broken at gone told =
+    broken_by scripts m s seats (Lost Memory true is_told) (Lost Memory true true) broken at refl refl refl refl
+told-broken scripts m s seats Left broken at gone told =
+    broken_by scripts m s seats Left Left broken at refl (put-same s Left m.seats at) refl refl
+
 -- ---- any host
 
 -- the owner of a session that isn't attached was told
@@ -95,4 +126,12 @@ loss-stands old s false works gone = λ scripts input wait history stood.
 loss-stands old s true fails gone = λ scripts input wait history stood.
     let m : Meaning Run = whole scripts input wait history in
     let new : HostState = reseated old s (owner_told (seat_of s old.meaning.seats)) in
-    stands-broken scripts input wait old new history (Detach s) stood refl fails tt (none-detach (protocol scripts) s m (stood.alone fails))
+    let broken = stood.lost fails in
+    let seats : List (Seat Session) = old.meaning.seats in
+    let gone_there : is_attached (seat_of s m.seats) ≡ false =
+    ap (λ ss. is_attached (seat_of s ss)) (sym broken.same) ∙ gone in
+    let told_there : waits_for_report (seat_of s m.seats) ≡ false =
+    ap (λ ss. waits_for_report (seat_of s ss)) (sym broken.same)
+    ∙ unset-at waits_for_report s seats refl broken.all_told in
+    stands-broken scripts input wait old new history (Detach s) stood refl fails tt
+    (told-broken scripts m s seats (seat_of s m.seats) broken refl gone_there told_there)

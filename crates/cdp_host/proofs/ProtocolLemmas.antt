@@ -1,5 +1,5 @@
 -- What the sessions and programs of a host keep, so that the laws of histories of any protocol hold of them.
-use Rattle.std.proofs.Common.{◌≡◌, ℕ, zero, suc, ◌+◌, List, [], ◌++◌, Bool, true, false, refl, ap, sym, subst, ◌∙◌, append_assoc, arith}
+use Rattle.std.proofs.Common.{◌≡◌, ℕ, zero, suc, List, ◌++◌, Bool, true, false, refl, ap, ◌∙◌, append_assoc}
 use Rattle.isolation.specs.Stops as stops_
 use Rattle.isolation.specs.Stops.{KeepsEnabled}
 use Rattle.isolation.specs.Texts.{AreSent, HasRoom}

@@ -1,5 +1,5 @@
 -- A command that is refused changes only the texts that wait for its session.
-use Rattle.std.proofs.Common.{◌≡◌, ℕ, zero, suc, List, [], ◌∷◌, Bool, true, false, ◌||◌, refl, ap, sym, subst, ◌∙◌, Option}
+use Rattle.std.proofs.Common.{◌≡◌, ℕ, zero, suc, List, [], ◌∷◌, Bool, true, false, ◌||◌, refl, ap, sym, ◌∙◌, Option}
 use Rattle.isolation.specs.Histories.{Entry, with_seat}
 use Rattle.isolation.specs.Meanings.{is_enabled_seat, is_paused}
 use Rattle.isolation.specs.Seats.{put, put_in, seat_in, seat_of, some}

@@ -1,5 +1,6 @@
 -- What a host's loop of stretches comes to, what a run reports, and that a host stands for a history with the run behind it.
-use Rattle.std.proofs.Common.{Result, Ok, Err, OnErr, OnOk, ◌≡◌, ◌⊎◌, ℕ, zero, suc, ◌+◌, ◌-◌, ◌<◌, ◌≤◌, List, [], ◌∷◌, ◌++◌, length, drop, Bool, true, false, ◌&&◌, not, nat_lt, inl, inr, refl, ap, sym, subst, ◌∙◌, append-nil, arith, if◌then◌else◌, is_some, Option, None}
+use Rattle.std.specs.declared.alloc.AllocError.{AllocError}
+use Rattle.std.proofs.Common.{Result, Ok, Err, IfOk, OnErr, OnOk, ◌≡◌, ◌⊎◌, ℕ, zero, suc, ◌+◌, ◌-◌, ◌<◌, ◌≤◌, List, [], ◌∷◌, ◌++◌, length, drop, Bool, true, false, ◌&&◌, not, nat_lt, inl, inr, refl, ap, sym, subst, ◌∙◌, append-nil, arith, if◌then◌else◌, is_some, Option, None}
 use Rattle.std.specs.Option.{option_map}
 use Rattle.std.proofs.Math.Seq.{drop-append_seam}
 use Rattle.std.proofs.lemmas.Bool.{lt-ltb, or_parts}
@@ -9,26 +10,28 @@ use Rattle.isolation.specs.Meanings.{is_enabled_seat, is_first, is_held, is_paus
 use Rattle.isolation.specs.Protocols.{Protocol}
 use Rattle.isolation.specs.Runs.{AllFit, HasMade, IsLongest}
 use Rattle.isolation.specs.Seats.{each, is_attached, reported, some, waits_for_report, without}
-use Rattle.isolation.specs.Standing.{StandsAs, fallen_from, fallen_in, fell, less}
+use Rattle.isolation.specs.Standing.{BrokenAs, StandsAs, broken_seat, fallen_from, fallen_in, fell, less}
 use Rattle.isolation.specs.Texts.{Fits}
 use Rattle.isolation.specs.declared.phase.Phase.TheVariants.{Running}
 use Rattle.isolation.specs.declared.seat.Loss.TheVariants.{Overrun, Memory}
 use Rattle.isolation.specs.declared.seat.Seat.{Seat}
 use Rattle.isolation.specs.declared.seat.Seat.TheVariants.{Attached, Lost, Left}
-use Rattle.isolation.proofs.BrokenLemmas.{all-ran, everybody-listed, none-ran, stands-length}
 use Rattle.isolation.proofs.FallenLemmas.{fallen-none, without-none}
 use Rattle.isolation.proofs.MadeLemmas.{made-more, made-none}
+use Rattle.isolation.proofs.BrokenLemmas.{broken-alone, broken-ran, broken-stays}
 use Rattle.isolation.proofs.StandingLemmas.{fits-ran, stands-ran}
 use Rattle.js_tree.specs.declared.script.Script.{Script}
 use Rattle.js_semantics.specs.Run.{Run}
 use Rattle.cdp_session.specs.declared.situation.Pause.{Pause}
 use Rattle.cdp_session.specs.Sessions.{Session}
+use Rattle.cdp_host.specs.Fallbacks.{fallback_of}
 use Rattle.cdp_host.specs.Histories.{Meaning, apply, whole}
-use Rattle.cdp_host.specs.Hosts.{HostState, Parts, RunsTo, Stands, beside, beside_behind, everybody, lost_for_memory, meaning_with, pause_behind, run_with}
+use Rattle.cdp_host.specs.Hosts.{CarriesOn, FallsBack, HostState, KeepsFallback, NoneAttached, Parts, RunsTo, Stands, beside, beside_behind, everybody, lost_for_memory, meaning_with, pause_behind, run_with}
 use Rattle.cdp_host.specs.Programs.{printed_of}
 use Rattle.cdp_host.specs.Protocols.{protocol}
 use Rattle.cdp_host.specs.Rules.{printed_between}
 use Rattle.cdp_host.specs.Watching.{losses_from}
+use Rattle.cdp_host.specs.declared.host.Ran.{Ran as Made}
 use Rattle.cdp_host.specs.declared.losses.SessionLost.{SessionLost}
 use Rattle.cdp_host.proofs.AdvanceLemmas.{free-beside, free-shut, ready-parts}
 use Rattle.cdp_host.proofs.HistoryLemmas.{stands-behind, stands-broken}
@@ -281,18 +284,20 @@ pub stands-none : (scripts : List Script) (input : List (List ℕ)) (wait : Bool
 stands-none scripts input wait host history moment gone fails stood =
     let m : Meaning Run = whole scripts input wait history in
     stands-broken scripts input wait host host history (Ran zero moment gone) stood refl fails (no_steps scripts m moment gone)
-    (none-ran (protocol scripts) moment gone m (stood.alone fails))
+    (broken-stays (protocol scripts) moment gone host.meaning.seats m (stood.lost fails))
 
 -- a run that breaks its host loses everybody
 pub stands-fails : (scripts : List Script) (input : List (List ℕ)) (wait : Bool) (old new : HostState) (history : List Entry) (moment : ℕ)
     → new.scripts ≡ old.scripts → old.broken ≡ false → new.broken ≡ true
+    → new.meaning.seats ≡ each broken_seat old.meaning.seats
     → Stands scripts input wait old history → Stands scripts input wait new (history ++ Ran zero moment (everybody old) ∷ [])
-stands-fails scripts input wait old new history moment same works fails stood =
+stands-fails scripts input wait old new history moment same works fails seats stood =
     let m : Meaning Run = whole scripts input wait history in
     let host : Meaning Run = meaning_with old (printed_of m.program) in
-    let many : length old.meaning.seats ≡ length m.seats = stands-length host m (stood.means works) in
-    stands-broken scripts input wait old new history (Ran zero moment (everybody old)) stood same fails (no_steps scripts m moment (everybody old))
-    (all-ran (protocol scripts) moment (everybody old) m (everybody-listed (length old.meaning.seats) m many))
+    let entry : Entry = Ran zero moment (everybody old) in
+    let P : List (Seat Session) → Type 0 = λ ss. BrokenAs ss (apply scripts m entry).seats in
+    stands-broken scripts input wait old new history entry stood same fails (no_steps scripts m moment (everybody old))
+    (subst P (sym seats) (broken-ran (protocol scripts) moment host m (stood.means works)))
 
 -- ---- where there was no memory
 
@@ -328,3 +333,52 @@ pub listed-by : (old mid : HostState) (A : Type 0) (P : A → Type 0) → (mid �
     → (a : A) → P a ⊎ (some waits_for_report old.meaning.seats ≡ true)
 listed-by old mid A P (inl same) waits a = inr (sym (ap (λ h. some waits_for_report h.meaning.seats) same) ∙ waits)
 listed-by old mid A P (inr more) waits a = inl (more a)
+
+-- ---- want of memory in a run
+
+pub on-error : {A E : Type 0} (r : Result A E) (P Q : Type 0) → (P → Q) → OnErr r P → OnErr r Q
+on-error (Ok value) P Q leads holds = tt
+on-error (Err error) P Q leads holds = leads holds
+
+pub keeps-none : (h : HostState) → KeepsFallback h h
+keeps-none h = record { fallback = refl; fallen = refl }
+
+pub keeps-more : (old mid new : HostState) → KeepsFallback old mid → KeepsFallback mid new → KeepsFallback old new
+keeps-more old mid new before behind =
+    record { fallback = behind.fallback ∙ before.fallback; fallen = behind.fallen ∙ before.fallen }
+
+-- a host that fell back behind others that kept what it falls back to
+pub falls-from : (old mid new : HostState) → KeepsFallback old mid → FallsBack mid new → FallsBack old new
+falls-from old mid new keeps falls = record {
+  broken = falls.broken;
+  seats = falls.seats ∙ ap (λ f. f.seats) keeps.fallback;
+  fallen = falls.fallen ∙ ap (λ f. f.losses) keeps.fallback;
+}
+
+-- a host that has made what it falls back to
+abbrev pub prepared : HostState → HostState
+prepared host = record host { fallback = fallback_of host.meaning.seats }
+
+pub falls-alone : (old new : HostState) → FallsBack (prepared old) new
+    → (new.broken ≡ true) × NoneAttached new.meaning.seats
+falls-alone old new falls = (falls.broken, ap (λ ss. some is_attached ss) falls.seats ∙ broken-alone old.meaning.seats)
+
+-- a host stands for a history with the run behind it
+pub carries-run : (old new : HostState) (moment most : ℕ) (r : Result Made AllocError) → new.scripts ≡ old.scripts
+    → old.broken ≡ false
+    → IfOk r (λ ran. new.broken ≡ false) → OnOk r (new.meaning.program.machine.context.printed ≡ [])
+    → IfOk r (λ ran. (taken : List (List ℕ))
+    → RunsTo old.scripts moment most (meaning_with old taken) ran.steps ran.printed.items ran.lost.items
+    (meaning_with new (taken ++ ran.printed.items)))
+    → IfOk r (λ ran. CarriesOn old (Ran ran.steps moment (lost_for_memory ran.lost.items)) new)
+carries-run old new moment most (Ok ran) same works still handed runs = λ scripts input wait history stood.
+    stands-run scripts input wait old new history moment most ran.steps ran.printed.items ran.lost.items same works
+    still handed runs stood
+carries-run old new moment most (Err error) same works still handed runs = tt
+
+-- and with one that want of memory broke
+pub carries-none : (old new : HostState) (moment : ℕ) → new.scripts ≡ old.scripts → old.broken ≡ false
+    → FallsBack (prepared old) new
+    → CarriesOn old (Ran zero moment (everybody old)) new
+carries-none old new moment same works falls = λ scripts input wait history stood.
+    stands-fails scripts input wait old new history moment same works falls.broken falls.seats stood

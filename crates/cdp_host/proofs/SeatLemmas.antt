@@ -1,10 +1,10 @@
 -- What one seat among others is, what a resume and a report do to each, and the losses that wait.
-use Rattle.std.proofs.Common.{◌≡◌, ◌<◌, ◌≤◌, ℕ, zero, suc, ◌+◌, List, [], ◌∷◌, ◌++◌, length, take, slice_index_or, Bool, true, false, ◌||◌, if◌then◌else◌, Option, Some, None, is_some, option_to_list, refl, ap, sym, ◌∙◌, append_assoc, arith}
+use Rattle.std.proofs.Common.{◌≡◌, ◌<◌, ◌≤◌, ℕ, zero, suc, ◌+◌, List, [], ◌∷◌, ◌++◌, length, take, slice_index_or, Bool, true, false, if◌then◌else◌, Option, Some, None, is_some, option_to_list, refl, ap, sym, ◌∙◌, append_assoc, arith}
 use Rattle.isolation.specs.Protocols.{Protocol}
 use Rattle.isolation.specs.Meanings.{kept}
 use Rattle.isolation.specs.Passes.{GoesAlong, GoesOn, HearsOn, Over, OverAll, Watches}
 use Rattle.isolation.specs.Runs.{AllFit}
-use Rattle.isolation.specs.Seats.{each, is_attached, lost_by, reported, some, waits_for_report}
+use Rattle.isolation.specs.Seats.{each, lost_by, reported, waits_for_report}
 use Rattle.isolation.specs.Texts.{Fits}
 use Rattle.isolation.specs.declared.seat.Loss.TheVariants.{Overrun}
 use Rattle.isolation.specs.declared.seat.Seat.{Seat}
@@ -13,7 +13,6 @@ use Rattle.cdp_session.specs.Outboxes.{fits}
 use Rattle.cdp_session.specs.Sessions.{Session}
 use Rattle.cdp_session.specs.Stops.{resumed}
 use Rattle.js_tree.specs.declared.script.Script.{Script}
-use Rattle.cdp_host.specs.Hosts.{NoneAttached}
 use Rattle.cdp_host.specs.Protocols.{protocol}
 use Rattle.cdp_host.specs.Watching.{losses_from}
 use Rattle.cdp_host.specs.declared.losses.SessionLost.{SessionLost}
@@ -69,18 +68,6 @@ each-reported [] [] over = refl
 each-reported [] (new ∷ news) over = absurd over
 each-reported (old ∷ olds) [] over = absurd over
 each-reported (old ∷ olds) (new ∷ news) over = ap (λ seat. seat ∷ news) over.0 ∙ ap (λ seats. reported old ∷ seats) (each-reported olds news over.1)
-
--- ---- losses with the host
-
--- no session is attached there any more
-abbrev pub IsGone : Seat Session → Seat Session → Type 0
-IsGone old new = is_attached new ≡ false
-
-pub all-gone : (olds news : List (Seat Session)) → OverAll IsGone olds news → NoneAttached news
-all-gone [] [] over = refl
-all-gone [] (new ∷ news) over = absurd over
-all-gone (old ∷ olds) [] over = absurd over
-all-gone (old ∷ olds) (new ∷ news) over = ap (λ b. b || some is_attached news) over.0 ∙ all-gone olds news over.1
 
 -- ---- losses that wait
 

@@ -1,5 +1,5 @@
 -- The start of a host.
-use Rattle.std.proofs.Common.{◌≡◌, ℕ, ◌+◌, List, [], map, Bool, false, Option, None, Some, sym, ap, subst, ◌∙◌}
+use Rattle.std.proofs.Common.{◌≡◌, ℕ, List, [], map, Bool, false, Option, None, refl, sym, ap, subst, ◌∙◌}
 use Rattle.js_tree.specs.declared.script.Script.{Script}
 use Rattle.js_semantics.specs.Run.{Run, placed_scripts, program_from}
 use Rattle.js_semantics.specs.Sources.{terms_of_scripts}
@@ -12,9 +12,12 @@ use Rattle.js_machine.specs.Machines.{IsKept}
 use Rattle.js_machine.specs.Starts.{IsStarted}
 use Rattle.cdp_host.specs.Programs.{code_of, start, printed_of}
 use Rattle.isolation.specs.Meanings.{phase_of}
+use Rattle.isolation.specs.Seats.{is_attached, some}
 use Rattle.cdp_host.specs.Histories.{Meaning, begin}
 use Rattle.pure_eval.specs.Workspaces.{Workspace, begun}
+use Rattle.cdp_host.specs.Fallbacks.{HasRoom, fallback_held, fallback_of}
 use Rattle.cdp_host.specs.Hosts.{Parts, AreLines, IsSound, machine_run}
+use Rattle.cdp_host.specs.declared.fallback.Fallback.{Fallback}
 use Rattle.cdp_host.proofs.ProgramLemmas.{start-prints}
 use Rattle.cdp_host.proofs.PartLemmas.{run-printed}
 
@@ -30,9 +33,10 @@ started_prints scripts input s is =
     sym (run-printed p []) ∙ ap (λ m. printed_of m.program) (start-means scripts input false s is) ∙ start-prints scripts input
 
 pub start-sound : (scripts : List Script) (input lines : List (List ℕ)) (spots : List (List Spot)) (s : Started) → IsStarted (terms_of_scripts scripts) input s → AreLines scripts lines → spots ≡ map break_locations scripts
-    → IsSound scripts lines spots s.machine false []
+    → (held : Fallback) → HasRoom 0 held → fallback_held held ≡ fallback_of []
+    → IsSound scripts lines spots s.machine false [] 0 held []
 unfolding code_of
-start-sound scripts input lines spots s is located found =
+start-sound scripts input lines spots s is located found held room made =
     let K : Option End → Type 0 = IsKept in
     record {
       lines = located;
@@ -40,7 +44,10 @@ start-sound scripts input lines spots s is located found =
       code = is.program;
       handed = λ works. started_prints scripts input s is;
       kept = λ works. subst K (sym is.going) tt;
+      quiet = λ works. refl;
+      room = λ works. room;
       alone = λ fails. absurd cc;
+      gone = ap (λ f. some is_attached f.seats) made;
       fit = tt;
     }
 

@@ -1,11 +1,11 @@
 -- What a host is.
-use Rattle.std.specs.Prelude.{◌≡◌, ◌-◌, ◌+◌, ◌++◌, ◌∷◌, List, [], ℕ, map, length, All, Bool, true, false, is_some, if◌then◌else◌, Option, Some, None}
+use Rattle.std.specs.Prelude.{◌≡◌, ◌-◌, ◌++◌, ◌∷◌, List, [], ℕ, map, length, All, Bool, true, false, is_some, if◌then◌else◌, Option, None}
 use Rattle.std.specs.Option.{option_map}
 use Rattle.isolation.specs.Histories.{Entry}
 use Rattle.isolation.specs.Meanings.{is_paused, mapped, next_number, settle, with_seats}
 use Rattle.isolation.specs.Runs.{AllFit, IsLongest}
 use Rattle.isolation.specs.Seats.{each, is_attached, numbers_from, reported, some}
-use Rattle.isolation.specs.Standing.{LeavesAs, StandsAs, fallen_in, less}
+use Rattle.isolation.specs.Standing.{BrokenAs, LeavesAs, StandsAs, fallen_in, less}
 use Rattle.isolation.specs.declared.phase.Phase.TheVariants.{Woken, Running}
 use Rattle.isolation.specs.declared.seat.Seat.{Seat}
 use Rattle.js_tree.specs.declared.script.Script.{Script}
@@ -23,6 +23,7 @@ use Rattle.cdp_session.specs.declared.situation.Pause.{Pause}
 use Rattle.cdp_session.specs.Sessions.{Session}
 use Rattle.cdp_session.specs.Situations.{Standing}
 use Rattle.cdp_host.specs.Arrivals.{place_at, is_uncaught, starts_of, IsShort}
+use Rattle.cdp_host.specs.Fallbacks.{Fallback, HasRoom}
 use Rattle.cdp_host.specs.Histories.{IsHistory, Meaning, whole}
 use Rattle.cdp_host.specs.Programs.{code_of, printed_of}
 use Rattle.cdp_host.specs.Protocols.{protocol}
@@ -31,6 +32,7 @@ use Rattle.cdp_host.specs.Standings.{ending_of, standing_of}
 use Rattle.cdp_host.specs.States.{state_of}
 use Rattle.cdp_host.specs.Steps.{Step}
 use Rattle.cdp_host.specs.Watching.{is_for_memory, losses_from}
+use Rattle.cdp_host.specs.declared.fallback.Fallback.{Fallback as HeldFallback}
 use Rattle.cdp_host.specs.declared.losses.SessionLost.{SessionLost}
 use Rattle.cdp_host.specs.declared.state.State.{State}
 use Rattle.cdp_host.specs.declared.state.State.TheVariants.{Broken}
@@ -101,11 +103,14 @@ pub record AreLines (scripts : List Script) (lines : List (List ℕ)) : Type 0 w
   pub starts : lines ≡ map starts_of scripts
   pub short : All IsShort scripts
 
--- the scripts, what is kept of the program and the session, and whether want of memory broke the host
+-- the scripts, what is kept of the program and the sessions, and whether want of memory in a run broke the host; what it falls
+-- back to where it does, and the losses that it has to hand out then
 pub record HostState : Type 0 where
   pub scripts : List Script
   pub meaning : Meaning Parts
   pub broken : Bool
+  pub fallback : Fallback
+  pub fallen : List SessionLost
 
 -- what a host means, behind the texts that its runs have handed out
 abbrev pub meaning_with : HostState → List (List ℕ) → Meaning Run
@@ -123,17 +128,18 @@ NoneAttached seats = some is_attached seats ≡ false
 
 -- A host stands for a history of its scripts with this input, where they may be to wait, whose runs have handed out all that they
 -- printed: it is what the history means, but for sessions that a resume lost for want of memory, of which the next run tells. A
--- broken one stands for each history that leaves no session.
+-- broken one has the seats that the history leaves: none of them is attached, and none waits for a run.
 pub record Stands (scripts : List Script) (input : List (List ℕ)) (wait : Bool) (host : HostState) (history : List Entry) : Type 0 where
   pub runs : host.scripts ≡ scripts
   pub fits : IsHistory scripts input wait history
   pub means : host.broken ≡ false → StandsAs (meaning_with host (printed_of (whole scripts input wait history).program)) (whole scripts input wait history)
-  pub alone : host.broken ≡ true → NoneAttached (whole scripts input wait history).seats
+  pub lost : host.broken ≡ true → BrokenAs host.meaning.seats (whole scripts input wait history).seats
 
 -- what a call with this entry, which makes no steps, leaves of a host
 pub record Leaves (old : HostState) (entry : Entry) (new : HostState) : Type 0 where
   pub runs : new.scripts ≡ old.scripts
   pub works : new.broken ≡ old.broken
+  pub fallen : new.fallen ≡ old.fallen
   pub means : (taken : List (List ℕ)) → (is_paused old.meaning ≡ true → fallen_in old.meaning.seats ≡ [])
       → LeavesAs (protocol old.scripts) (meaning_with old taken) entry (meaning_with new taken)
 
@@ -161,14 +167,33 @@ pub record RunsTo (scripts : List Script) (moment most : ℕ) (m : Meaning Run) 
   pub is : n ≡ less n.seats (settle (protocol scripts) (with_seats (each reported middle.seats) middle))
   pub all_there : is_paused n ≡ true → fallen_in n.seats ≡ []
 
--- What holds of every host: its machine has the code of its scripts, and beside them stand where their lines begin and where
--- their break locations are. Until want of memory breaks it, all texts were handed out and the machine isn't given up; then it
--- has no session. The texts that wait fit.
-pub record IsSound (scripts : List Script) (starts : List (List ℕ)) (found : List (List Spot)) (machine : Machine) (broken : Bool) (seats : List (Seat Session)) : Type 0 where
+-- ---- want of memory in a run
+
+-- what is handed out then, and what a host falls back to, is what it was
+pub record KeepsFallback (old new : HostState) : Type 0 where
+  pub fallback : new.fallback ≡ old.fallback
+  pub fallen : new.fallen ≡ old.fallen
+
+-- a host fell back
+pub record FallsBack (old new : HostState) : Type 0 where
+  pub broken : new.broken ≡ true
+  pub seats : new.meaning.seats ≡ old.fallback.seats
+  pub fallen : new.fallen ≡ old.fallback.losses
+
+-- ---- every host
+
+-- What holds of every host: its machine has the code of its scripts, and beside them stand where their lines begin and
+-- where their break locations are. Until want of memory breaks it, all texts were handed out, the machine isn't given up,
+-- no loss is to be handed out, and there is room for what it falls back to with so many seats; then it has no session,
+-- nor has what it falls back to. The texts that wait fit.
+pub record IsSound (scripts : List Script) (starts : List (List ℕ)) (found : List (List Spot)) (machine : Machine) (broken : Bool) (seats : List (Seat Session)) (count : ℕ) (fallback : HeldFallback) (fallen : List SessionLost) : Type 0 where
   pub lines : AreLines scripts starts
   pub spots : found ≡ map break_locations scripts
   pub code : program_of machine ≡ code_of scripts
   pub handed : broken ≡ false → machine.context.printed ≡ []
   pub kept : broken ≡ false → IsKept machine.ended
+  pub quiet : broken ≡ false → fallen ≡ []
+  pub room : broken ≡ false → HasRoom count fallback
   pub alone : broken ≡ true → NoneAttached seats
+  pub gone : NoneAttached fallback.seats.items
   pub fit : AllFit (protocol scripts) seats

@@ -1,5 +1,5 @@
 -- A host's program and its sessions, in the words of a program and any sessions that debug it.
-use Rattle.std.specs.Prelude.{ℕ, List, [], ◌++◌, Bool, true, false, if◌then◌else◌, Option}
+use Rattle.std.specs.Prelude.{ℕ, List, ◌++◌, Bool, true, false, Option}
 use Rattle.isolation.specs.Protocols.{Protocol}
 use Rattle.isolation.specs.Texts.{Texts}
 use Rattle.js_tree.specs.declared.script.Script.{Script}
@@ -56,10 +56,11 @@ begun_with scripts number = fresh number (begun (code_of scripts))
 abbrev pub has_enabled : Session → Bool
 has_enabled x = x.rules.enabled
 
--- the texts that wait for it, and whether so many may
+-- the texts that wait for it
 abbrev pub waiting_for : Session → List (List ℕ)
 waiting_for x = x.outbox
 
+-- so many texts may wait
 abbrev pub texts_fit : Session → Bool
 texts_fit x = fits x.outbox
 
@@ -67,16 +68,19 @@ texts_fit x = fits x.outbox
 abbrev pub replied : List Script → Option Pause → Run → List ℕ → Session → Session
 replied scripts q r text x = (answer_at scripts q r text x).session
 
+-- a text asks the program to go on
 abbrev pub asks_on : List Script → Option Pause → Run → List ℕ → Session → Bool
 asks_on scripts q r text x = asks_to_resume (answer_at scripts q r text x).asks
 
+-- a text asks a program that waits to begin
 abbrev pub asks_begin : List Script → Option Pause → Run → List ℕ → Session → Bool
 asks_begin scripts q r text x = asks_to_wake (answer_at scripts q r text x).asks
 
--- it was told of a step at a moment, and of a stop behind it
+-- it was told of a step at a moment
 abbrev pub step_told : List Script → ℕ → Step → Session → Session
 step_told scripts moment t x = told (seen_behind scripts t) moment t x
 
+-- it was told of a stop of this number behind a step
 abbrev pub stop_told : List Script → ℕ → Step → Session → Session
 stop_told scripts number t x = stopped (seen_behind scripts t) number t.arrival x
 
@@ -121,5 +125,6 @@ step_texts scripts moment t x =
 abbrev pub stop_texts_of : List Script → ℕ → Step → Session → List (List ℕ)
 stop_texts_of scripts number t x = stop_texts (seen_behind scripts t) number t.arrival x
 
+-- those of each kind
 abbrev pub texts : (scripts : List Script) → Texts (protocol scripts)
 texts scripts = record { reply = reply_texts scripts; resumed = resume_texts; told = step_texts scripts; stopped = stop_texts_of scripts }

@@ -69,10 +69,12 @@ session_behind s number moment step x = if names step x then stopped s number st
 
 -- ---- the texts of that
 
+-- of values that were printed at a moment, if any were
 abbrev pub print_texts : Situation → Option (List Value) → ℕ → Session → List (List ℕ)
 print_texts s None moment x = []
 print_texts s (Some values) moment x = printed_texts s values moment x
 
+-- of the end of the run at a moment, if it ended
 abbrev pub end_texts : Situation → Option Ending → ℕ → Session → List (List ℕ)
 end_texts s None moment x = []
 end_texts s (Some ending) moment x = ended_texts s ending moment x

@@ -4,8 +4,8 @@ ghost use Rattle.std.specs.Prelude.{◌≡◌, ◌++◌, ◌∷◌, ◌+◌, ◌
 ghost use Rattle.isolation.specs.Histories.{Entry, Attach, Tell, Take, Detach, Ran as RanEntry, Shut, asked, waiting, with_seat};
 ghost use Rattle.isolation.specs.Meanings.{is_enabled_seat, is_held, is_paused, is_ready, longest, resume, settle, waits};
 ghost use Rattle.isolation.specs.Runs.{HasMade, IsLongest};
-ghost use Rattle.isolation.specs.Seats.{is_attached, put, reported, each, seat_of, some, waits_for_report};
-ghost use Rattle.isolation.specs.Standing.{fell, less};
+ghost use Rattle.isolation.specs.Seats.{is_attached, put, reported, each, fallen, seat_of, some, waits_for_report};
+ghost use Rattle.isolation.specs.Standing.{broken_seat, fell, less};
 ghost use Rattle.isolation.specs.declared.seat.Seat.TheVariants.{Attached, Left};
 ghost use Rattle.js_tree.specs.declared.script.Script.{Script as AnyScript};
 ghost use Rattle.cdp_json.specs.Messages.{refusal_text};
@@ -13,21 +13,22 @@ ghost use Rattle.cdp_json.specs.declared.refusal.Refusal.{Refusal};
 ghost use Rattle.cdp_session.specs.Replies.{answer_of, outcome_of, IsRefused};
 ghost use Rattle.cdp_session.specs.Sessions.{Session as Kept, sent};
 ghost use Rattle.pure_eval.specs.Workspaces.{begun};
+ghost use Rattle.cdp_host.specs.Fallbacks.{fallback_of};
 ghost use Rattle.cdp_host.specs.Histories.{begin};
 ghost use Rattle.cdp_host.specs.Programs.{code_of, is_over, has_thrown};
 ghost use Rattle.cdp_host.specs.Protocols.{asks_to_resume, asks_to_wake, protocol, situation, texts_fit};
-ghost use Rattle.cdp_host.specs.Hosts.{CarriesOn, Leaves, NoneAttached, RunsTo, Stands, everybody, lost_for_memory, meaning_with, parts_standing, state_at};
+ghost use Rattle.cdp_host.specs.Hosts.{CarriesOn, FallsBack, KeepsFallback, Leaves, NoneAttached, RunsTo, Stands, everybody, lost_for_memory, meaning_with, parts_standing, state_at};
 ghost use Rattle.cdp_host.specs.Ran.{IsStretch};
 ghost use Rattle.cdp_host.specs.Rules.{printed_between};
 ghost use Rattle.cdp_host.specs.Watching.{AnswersIn, loss_told, losses_from};
 
 use crate::advance::{Advanced, advance};
 use crate::debuggee::Debuggee;
+use crate::fallback::Fallback;
 use crate::lines::lines_of_all;
 use crate::losses::SessionLost;
 use crate::seats::{
-    break_all, fell, is_attached, losses_of, report_all, resume_all, some_enabled,
-    some_wait_for_report,
+    fell, is_attached, losses_of, report_all, resume_all, some_enabled, some_wait_for_report,
 };
 use crate::state::State;
 use crate::stops::{is_first, pause_behind, phase_of, stops_behind, waits, woken};
@@ -50,6 +51,7 @@ use pure_eval::workspace::Workspace;
 use std::alloc::{AllocError, Global};
 use std::collections::VecDeque;
 use std::marker::Model;
+use std::mem;
 
 /// A program and the sessions that debug it.
 #[derive(Drop)]
@@ -67,12 +69,16 @@ pub struct Host {
     // what became of the sessions, in the order of their numbers, which count from 1
     seats: Vec<Seat<Session>>,
     broken: bool,
+    fallback: Fallback,
+    // the losses that want of memory in a run brought, until they are handed out
+    fallen: Vec<SessionLost>,
 }
 
 impl Model for Host {
     ghost use Rattle.js_tree.specs.contracts.tree.Stmt as stmt;
     ghost use Rattle.std.specs.Coded.{codes};
     ghost use Rattle.pure_eval.specs.TermCodes.{term_coded};
+    ghost use Rattle.cdp_host.specs.Fallbacks.{fallback_held};
     ghost use Rattle.cdp_host.specs.Hosts.{HostState, IsSound};
 
     ghost Value = { HostState };
@@ -83,9 +89,11 @@ impl Model for Host {
       scripts = a.scripts.items;
       meaning = record { program = record { machine = a.machine; heap = a.heap }; phase = a.phase; stop = a.stop; stops = a.stops; shut = a.shut; seats = a.seats.items };
       broken = a.broken;
+      fallback = fallback_held a.fallback;
+      fallen = a.fallen.items;
     } };
 
-    ghost invariant = { λ a. IsSound a.scripts.items a.lines.items a.spots a.machine a.broken a.seats.items };
+    ghost invariant = { λ a. IsSound a.scripts.items a.lines.items a.spots a.machine a.broken a.seats.items a.seats.len a.fallback a.fallen.items };
 }
 
 /// What the evaluations of a session begin with, for a program of these scripts and names.
@@ -156,6 +164,7 @@ impl Host {
         ensures host { IfOk result (λ host. meaning_with host [] ≡ begin scripts.items input.items wait) }
         ensures scripts { IfOk result (λ host. host.scripts ≡ scripts.items) }
         ensures works { IfOk result (λ host. host.broken ≡ false) }
+        ensures fallen { IfOk result (λ host. host.fallen ≡ []) }
         ensures stands { IfOk result (λ host. Stands scripts.items input.items wait host []) }
     {
         let lines = lines_of_all(alloc, scripts.as_slice())?;
@@ -174,6 +183,8 @@ impl Host {
             shut: false,
             seats: Vec::new(alloc),
             broken: false,
+            fallback: Fallback::new(alloc),
+            fallen: Vec::new(alloc),
         })
     }
 
@@ -254,6 +265,7 @@ impl Host {
         let workspace = workspace_of(self.alloc, self.scripts.as_slice(), self.machine.names())?;
         let number = self.sessions() + 1;
         let session = Session::new(self.alloc, number, workspace);
+        self.fallback.reserve(self.seats.len() + 1)?;
         self.seats.push(Seat::Attached(session))?;
         Ok(number)
     }
@@ -309,12 +321,13 @@ impl Host {
     }
 
     /// Detaches this session, if it is attached; a paused program goes on where no session is left that has the debugger
-    /// enabled. Where it was lost by a run or by a resume, its loss is answered, once. Takes no memory but for the event of a
-    /// resume.
+    /// enabled. Where it was lost by a run or by a resume, or with its host, its loss is answered, once. Takes no memory but for
+    /// the event of a resume.
     pub fn detach(&mut self, s: u64) -> Option<SessionLost>
         ensures told { result ≡ loss_told s (seat_of s self.old.meaning.seats) }
         // of a session that is attached
         ensures leaves { is_attached (seat_of s self.old.meaning.seats) ≡ true → Leaves self.old (Detach s) self.new }
+        ensures fallen { self.new.fallen ≡ self.old.fallen }
         ensures stands { CarriesOn self.old (Detach s) self.new }
     {
         if self.attached(s) {
@@ -331,6 +344,18 @@ impl Host {
         ensures stands { CarriesOn self.old Shut self.new }
     {
         self.shut = true;
+    }
+
+    /// Hands out the sessions that a run lost which met want of memory, once, in the order of their numbers: those whose loss
+    /// waited for that run, and for want of memory all that were attached. At every other time it hands out none. Takes no memory.
+    pub fn fallen(&mut self) -> Vec<SessionLost>
+        ensures list { result.items ≡ self.old.fallen }
+        ensures once { self.new ≡ record self.old { fallen = [] } }
+        ensures works { self.old.broken ≡ false → result.items ≡ [] }
+        ensures stands { (scripts : List AnyScript) (input : List (List ℕ)) (wait : Bool) (history : List Entry)
+            → Stands scripts input wait self.old history → Stands scripts input wait self.new history }
+    {
+        mem::replace(&mut self.fallen, Vec::new(self.alloc))
     }
 }
 
@@ -367,6 +392,7 @@ impl Host {
         ensures stays { is_paused self.new.meaning ≡ true → (self.new.meaning.seats ≡ self.old.meaning.seats) × (self.new.meaning.stop ≡ self.old.meaning.stop) }
         ensures scripts { self.new.scripts ≡ self.old.scripts }
         ensures works { self.new.broken ≡ self.old.broken }
+        ensures fallen { self.new.fallen ≡ self.old.fallen }
     {
         match asks {
             Asks::Resume => self.resume(),
@@ -383,6 +409,7 @@ impl Host {
         ensures stays { is_paused self.new.meaning ≡ true → (self.new.meaning.seats ≡ self.old.meaning.seats) × (self.new.meaning.stop ≡ self.old.meaning.stop) }
         ensures scripts { self.new.scripts ≡ self.old.scripts }
         ensures works { self.new.broken ≡ self.old.broken }
+        ensures fallen { self.new.fallen ≡ self.old.fallen }
     {
         self.phase = woken(self.phase);
         self.settle();
@@ -402,6 +429,7 @@ impl Host {
     fn tell_loss(&mut self, s: u64) -> Option<SessionLost>
         requires { is_attached (seat_of s self.old.meaning.seats) ≡ false }
         ensures told { result ≡ loss_told s (seat_of s self.old.meaning.seats) }
+        ensures fallen { self.new.fallen ≡ self.old.fallen }
         ensures stands { CarriesOn self.old (Detach s) self.new }
     {
         tell_loss(self.seats.as_mut_slice(), s)
@@ -415,6 +443,8 @@ impl Host {
         ensures goes { is_paused self.new.meaning ≡ false }
         ensures scripts { self.new.scripts ≡ self.old.scripts }
         ensures works { self.new.broken ≡ self.old.broken }
+        ensures program { self.new.meaning.program ≡ self.old.meaning.program }
+        ensures fallen { self.new.fallen ≡ self.old.fallen }
     {
         if self.stop.is_some() {
             self.stop = None;
@@ -430,6 +460,8 @@ impl Host {
         ensures stays { is_paused self.new.meaning ≡ true → self.new ≡ self.old }
         ensures scripts { self.new.scripts ≡ self.old.scripts }
         ensures works { self.new.broken ≡ self.old.broken }
+        ensures program { self.new.meaning.program ≡ self.old.meaning.program }
+        ensures fallen { self.new.fallen ≡ self.old.fallen }
     {
         if !some_enabled(self.seats.as_slice()) {
             self.resume();
@@ -440,7 +472,8 @@ impl Host {
 impl Host {
     /// Makes the longest run of at most `n` steps at a moment, in milliseconds since the epoch: it ends earlier only where the
     /// program isn't ready any more. It tells of the sessions that were lost. A run that makes no step needs no memory, but for
-    /// the list of the sessions that were lost before it. After an error the host is broken and all sessions are lost.
+    /// the list of the sessions that were lost before it. After an error the host is broken and all sessions are lost: `fallen`
+    /// hands out who and why, and `detach` answers it to each owner.
     ///
     /// # Errors
     ///
@@ -453,6 +486,9 @@ impl Host {
         ensures scripts { self.new.scripts ≡ self.old.scripts }
         ensures broken { self.old.broken ≡ true → IfOk result (λ ran. ran.steps ≡ 0) }
         ensures err { OnErr result ((self.new.broken ≡ true) × NoneAttached self.new.meaning.seats) }
+        ensures err_seats { OnErr result (self.new.meaning.seats ≡ each broken_seat self.old.meaning.seats) }
+        ensures err_fallen { OnErr result (self.new.fallen ≡ losses_from 1 (each fallen self.old.meaning.seats)) }
+        ensures fallen { OnOk result (self.new.fallen ≡ self.old.fallen) }
         ensures err_works { OnErr result (self.old.broken ≡ false) }
         // a run that makes no step needs no memory, but for the list of the losses
         ensures err_steps { OnErr result ((taken : List (List ℕ)) → (0 < longest (protocol self.old.scripts) moment n (meaning_with self.old taken)) ⊎ (some waits_for_report self.old.meaning.seats ≡ true)) }
@@ -466,17 +502,11 @@ impl Host {
                 lost: Vec::new(self.alloc),
             });
         }
-        match self.try_run(n, moment) {
-            Ok(ran) => Ok(ran),
-            Err(error) => {
-                self.broken = true;
-                break_all(self.seats.as_mut_slice());
-                Err(error)
-            }
-        }
+        self.prepare();
+        self.try_run(n, moment)
     }
 
-    /// The same of a host that works. After an error it may not.
+    /// The same of a host that works. After an error it fell back.
     fn try_run(&mut self, n: u64, moment: u64) -> Result<Ran, AllocError>
         requires moment { moment < 2 ^ 53 }
         requires works { self.old.broken ≡ false }
@@ -484,17 +514,27 @@ impl Host {
             → RunsTo self.old.scripts moment n (meaning_with self.old taken) ran.steps ran.printed.items ran.lost.items (meaning_with self.new (taken ++ ran.printed.items))) }
         ensures same { IfOk result (λ ran. self.new.broken ≡ false) }
         ensures scripts { self.new.scripts ≡ self.old.scripts }
+        ensures fallen { OnOk result (self.new.fallen ≡ self.old.fallen) }
+        ensures handed { OnOk result (self.new.meaning.program.machine.context.printed ≡ []) }
+        ensures back { OnErr result (FallsBack self.old self.new) }
         ensures err_steps { OnErr result ((taken : List (List ℕ)) → (0 < longest (protocol self.old.scripts) moment n (meaning_with self.old taken)) ⊎ (some waits_for_report self.old.meaning.seats ≡ true)) }
     {
         let Made { steps, printed } = self.make(n, moment)?;
-        let lost = losses_of(self.alloc, self.seats.as_slice())?;
-        report_all(self.seats.as_mut_slice());
-        self.settle();
-        Ok(Ran {
-            steps,
-            printed,
-            lost,
-        })
+        match losses_of(self.alloc, self.seats.as_slice()) {
+            Ok(lost) => {
+                report_all(self.seats.as_mut_slice());
+                self.settle();
+                Ok(Ran {
+                    steps,
+                    printed,
+                    lost,
+                })
+            }
+            Err(error) => {
+                self.fall_back();
+                Err(error)
+            }
+        }
     }
 
     /// The same without reporting the losses. It takes memory only where a step may be made.
@@ -505,6 +545,8 @@ impl Host {
         ensures printed { IfOk result (λ ran. (taken : List (List ℕ)) → ran.printed.items ≡ printed_between (meaning_with self.old taken).program (meaning_with self.new (taken ++ ran.printed.items)).program) }
         ensures same { IfOk result (λ ran. self.new.broken ≡ false) }
         ensures scripts { self.new.scripts ≡ self.old.scripts }
+        ensures keeps { OnOk result (KeepsFallback self.old self.new) }
+        ensures back { OnErr result (FallsBack self.old self.new) }
         // nothing has changed, or a step may be made
         ensures still { OnOk result ((self.new ≡ self.old) ⊎ ((taken : List (List ℕ)) → 0 < longest (protocol self.old.scripts) moment n (meaning_with self.old taken))) }
         ensures err_steps { OnErr result ((taken : List (List ℕ)) → 0 < longest (protocol self.old.scripts) moment n (meaning_with self.old taken)) }
@@ -527,9 +569,14 @@ impl Host {
         ensures printed { IfOk result (λ ran. (taken : List (List ℕ)) → ran.printed.items ≡ printed_between (meaning_with self.old taken).program (meaning_with self.new (taken ++ ran.printed.items)).program) }
         ensures same { IfOk result (λ ran. self.new.broken ≡ false) }
         ensures scripts { self.new.scripts ≡ self.old.scripts }
+        ensures keeps { OnOk result (KeepsFallback self.old self.new) }
+        ensures back { OnErr result (FallsBack self.old self.new) }
     {
         let mut printed = Vec::new(self.alloc);
-        let mut named = unset_flags(self.alloc, self.seats.len())?;
+        let Ok(mut named) = unset_flags(self.alloc, self.seats.len()) else {
+            self.fall_back();
+            return Err(AllocError);
+        };
         let mut left = n;
         while self.may_step(left) {
             left -= self.advance(left, moment, &mut printed, named.as_mut_slice())?;
@@ -541,7 +588,7 @@ impl Host {
     }
 
     /// Makes steps, at least one, until the program stops, raises, prints or ends, until a session is lost, or until so many
-    /// are made; what it prints comes behind the other texts. After an error the host is broken and all sessions are lost.
+    /// are made; what it prints comes behind the other texts. After an error the host fell back.
     fn advance(
         &mut self,
         most: u64,
@@ -560,6 +607,8 @@ impl Host {
         ensures handed { OnOk result (self.new.meaning.program.machine.context.printed ≡ []) }
         ensures flags { OnOk result (length named.new ≡ length self.new.meaning.seats) }
         ensures scripts { self.new.scripts ≡ self.old.scripts }
+        ensures keeps { OnOk result (KeepsFallback self.old self.new) }
+        ensures back { OnErr result (FallsBack self.old self.new) }
     {
         match advance(
             &mut self.machine,
@@ -583,10 +632,27 @@ impl Host {
             }
             Err(error) => {
                 self.broken = true;
-                break_all(self.seats.as_mut_slice());
+                self.fallback.restore(&mut self.seats, &mut self.fallen);
                 Err(error)
             }
         }
+    }
+
+    /// Makes what the host falls back to where there is no memory for a run.
+    fn prepare(&mut self)
+        requires { self.old.broken ≡ false }
+        ensures { self.new ≡ record self.old { fallback = fallback_of self.old.meaning.seats } }
+    {
+        self.fallback.prepare(self.seats.as_slice());
+    }
+
+    /// Falls back, for want of memory.
+    fn fall_back(&mut self)
+        ensures back { FallsBack self.old self.new }
+        ensures scripts { self.new.scripts ≡ self.old.scripts }
+    {
+        self.broken = true;
+        self.fallback.restore(&mut self.seats, &mut self.fallen);
     }
 
     /// Whether one of so many steps that are left may be made.

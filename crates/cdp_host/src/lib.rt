@@ -5,6 +5,7 @@ mod advance;
 mod arrival;
 mod debuggee;
 mod endings;
+mod fallback;
 pub mod host;
 pub mod laws;
 mod lines;

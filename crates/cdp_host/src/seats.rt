@@ -1,6 +1,6 @@
 //! The seats of a host's sessions: who is attached, and what a resume and a report do.
 
-ghost use Rattle.std.specs.Prelude.{◌≡◌, ◌+◌, ◌++◌, ◌∷◌, [], IfOk, OnOk, List, true, false, option_to_list, is_some, OnErr};
+ghost use Rattle.std.specs.Prelude.{◌≡◌, ◌+◌, ◌++◌, ◌∷◌, ◌<◌, ◌≤◌, [], IfOk, OnOk, List, true, option_to_list, is_some, vec_capacity, vec_len, IsOk, OnErr};
 ghost use Rattle.isolation.specs.Meanings.{is_enabled_seat};
 ghost use Rattle.isolation.specs.Passes.{HearsOn, OverAll};
 ghost use Rattle.isolation.specs.Runs.{AllFit};
@@ -8,7 +8,6 @@ ghost use Rattle.isolation.specs.Seats.{each, is_attached, lost_by, reported, so
 ghost use Rattle.isolation.specs.Standing.{fell};
 ghost use Rattle.isolation.specs.Texts.{Fits};
 ghost use Rattle.js_tree.specs.declared.script.Script.{Script};
-ghost use Rattle.cdp_host.specs.Hosts.{NoneAttached};
 ghost use Rattle.cdp_host.specs.Protocols.{protocol};
 ghost use Rattle.cdp_host.specs.Watching.{loss_of, losses_from};
 
@@ -154,9 +153,16 @@ fn loss_waiting(session: u64, seat: &Seat<Session>) -> Option<SessionLost>
 }
 
 /// Puts a loss behind others, if there is one.
-fn push_loss(losses: &mut Vec<SessionLost>, loss: Option<SessionLost>) -> Result<(), AllocError>
+pub(crate) fn push_loss(
+    losses: &mut Vec<SessionLost>,
+    loss: Option<SessionLost>,
+) -> Result<(), AllocError>
     ensures pushed { OnOk result (losses.new.items ≡ losses.old.items ++ option_to_list loss) }
     ensures err { OnErr result (is_some loss ≡ true) }
+    // where there is room it needs no memory
+    ensures succeeds { vec_len losses.old < vec_capacity losses.old → IsOk result }
+    ensures len { vec_len losses.new ≤ vec_len losses.old + 1 }
+    ensures room { vec_capacity losses.old ≤ vec_capacity losses.new }
 {
     if let Some(loss) = loss {
         losses.push(loss)?;
@@ -200,29 +206,5 @@ pub(crate) fn report_all(seats: &mut [Seat<Session>])
 {
     for seat in seats.iter_mut() {
         report_seat(seat);
-    }
-}
-
-// ---- want of memory in the program
-
-/// A session is lost with its host.
-fn break_seat(seat: &mut Seat<Session>)
-    ensures { is_attached seat.new ≡ false }
-{
-    if is_attached(seat) {
-        *seat = Seat::Lost {
-            loss: Loss::Memory,
-            reported: true,
-            told: false,
-        };
-    }
-}
-
-/// All sessions are lost with their host.
-pub(crate) fn break_all(seats: &mut [Seat<Session>])
-    ensures { NoneAttached seats.new }
-{
-    for seat in seats.iter_mut() {
-        break_seat(seat);
     }
 }

@@ -1,4 +1,4 @@
-use Rattle.std.proofs.Common.{ℕ, ◌++◌, [], is_some, ap, subst, sym, ◌∙◌, arith}
+use Rattle.std.proofs.Common.{ℕ, ◌++◌, [], is_some, subst, arith}
 use Rattle.std.specs.Option.{option_map}
 use Rattle.isolation.specs.Passes.{Behind, Over}
 use Rattle.isolation.proofs.PassLemmas.{behind-each}

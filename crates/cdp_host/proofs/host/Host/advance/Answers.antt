@@ -1,7 +1,7 @@
-use Rattle.std.proofs.Common.{◌≡◌, [], ◌++◌, sym, ap, subst, ◌∙◌, arith}
+use Rattle.std.proofs.Common.{◌≡◌, [], ◌++◌, ap, ◌∙◌, arith}
 use Rattle.std.specs.Vec.{with_items}
 use Rattle.std.proofs.lemmas.List.{with_items_is}
-use Rattle.isolation.specs.Seats.{some, waits_for_report}
+use Rattle.isolation.specs.Seats.{is_attached, some, waits_for_report}
 use Rattle.cdp_host.specs.Hosts.{NoneAttached, machine_run, meaning_with}
 use Rattle.cdp_host.specs.Programs.{is_over}
 use Rattle.cdp_host.specs.Protocols.{protocol}
@@ -27,18 +27,19 @@ advance-requires-clause-all_told c =
 pub invariant_of-self-in-Err : goal.invariant_of-self-in-Err
 invariant_of-self-in-Err c =
     let a = c.self.inside in
-    let middle = with_items a.seats c.advance.new.seats in
-    let seats : (with_items middle c.break_all.new.seats).items ≡ c.break_all.new.seats =
-    with_items_is middle c.break_all.new.seats (omega (arith, c.break_all.auto.seats, c.as_mut_slice-in-Err.ensures.len)) in
-    let none : NoneAttached (with_items middle c.break_all.new.seats).items = subst (λ ss. NoneAttached ss) (sym seats) c.break_all.ensures in
+    let none : NoneAttached c.restore.new.seats.items =
+    ap (λ ss. some is_attached ss) c.restore.ensures.seats ∙ c.self.invariant.gone in
     record {
       lines = c.self.invariant.lines;
       spots = c.self.invariant.spots;
       code = same-program a.machine c.advance.new.machine c.in-Err.ensures.code ∙ c.self.invariant.code;
       handed = λ works. absurd cc;
       kept = λ works. absurd cc;
+      quiet = λ works. absurd cc;
+      room = λ works. absurd cc;
       alone = λ _. none;
-      fit = gone-fit (protocol a.scripts.items) (with_items middle c.break_all.new.seats).items none;
+      gone = ap (λ ss. some is_attached ss) c.restore.ensures.gone;
+      fit = gone-fit (protocol a.scripts.items) c.restore.new.seats.items none;
     }
 
 pub returns-in-Ok-clause-made : goal.returns-in-Ok-clause-made

@@ -8,6 +8,7 @@ use Rattle.cdp_host.specs.Hosts.{AreLines, HostState, machine_standing, parts_st
 use Rattle.cdp_host.specs.Protocols.{situation}
 use Rattle.cdp_host.specs.Watching.{AnswersIn}
 use Rattle.cdp_host.proofs.CallLemmas.{answer-fit, answers-back, sound-seats, whose, works-at}
+use Rattle.cdp_host.proofs.ViewLemmas.{seen_as}
 use Rattle.cdp_host.proofs.host.Host.answer.Goals as goal
 
 pub invariant_of-program : goal.invariant_of-program
@@ -28,7 +29,9 @@ invariant_of-self c =
     let it = whose (seat_of c.args.s a.seats.items) held in
     let rest = drop (length c.answer.new.seats) a.seats.items in
     let f : List Script → List Script → Answer = λ ss ts. answer_of (record { scripts = ss; paused = a.stop; standing = machine_standing ts a.machine a.heap }) it.0 c.args.text.now in
-    sound-seats a.scripts.items a.lines.items a.spots a.machine a.broken a.seats.items (take a.seats.len (c.answer.new.seats ++ rest)) c.self.invariant
+    sound-seats a.scripts.items a.lines.items a.spots a.machine a.broken a.seats.items
+    (take a.seats.len (c.answer.new.seats ++ rest)) a.seats.len a.fallback a.fallen.items
+    c.self.invariant
     (works-at c.args.s a.broken a.seats.items c.self.invariant.alone held)
     (answer-fit a.scripts.items c.answer.result (f c.as_slice-3.result.now c.as_slice.result.now) c.args.s a.seats.items (take a.seats.len (c.answer.new.seats ++ rest))
     (answers-back c.answer.result (f c.as_slice-3.result.now c.as_slice.result.now) a.seats.len c.args.s a.seats.items c.as_mut_slice.result.now c.answer.new.seats rest
@@ -39,7 +42,7 @@ invariant_of-self c =
 pub returns-clause-answers : goal.returns-clause-answers
 returns-clause-answers c =
     let a = c.self.inside in
-    let h : HostState = record { scripts = a.scripts.items; meaning = record { program = record { machine = a.machine; heap = a.heap }; phase = a.phase; stop = a.stop; stops = a.stops; shut = a.shut; seats = a.seats.items }; broken = a.broken } in
+    let h : HostState = seen_as a in
     let rest = drop (length c.answer.new.seats) a.seats.items in
     let news = take a.seats.len (c.answer.new.seats ++ rest) in
     let f : Session → List Script → List Script → Answer = λ x ss ts. answer_of (record { scripts = ss; paused = a.stop; standing = machine_standing ts a.machine a.heap }) x c.args.text.now in

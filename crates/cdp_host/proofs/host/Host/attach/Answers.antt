@@ -1,27 +1,38 @@
-use Rattle.std.proofs.Common.{◌+◌, ℕ, length, ap, sym, ◌∙◌}
+use Rattle.std.proofs.Common.{◌+◌, ℕ, length, ap, subst, sym, ◌∙◌}
+use Rattle.isolation.specs.Histories.{Attach}
 use Rattle.pure_eval.specs.Workspaces.{Workspace, begun}
 use Rattle.cdp_session.specs.Sessions.{fresh}
-use Rattle.cdp_host.specs.Hosts.{HostState}
+use Rattle.cdp_host.specs.Fallbacks.{Fallback, HasRoom}
+use Rattle.cdp_host.specs.Hosts.{HostState, Leaves}
 use Rattle.cdp_host.specs.Programs.{code_of}
-use Rattle.cdp_host.proofs.CallLemmas.{attach-fit, attach-leaves, attach-stands, sound-seats}
+use Rattle.cdp_host.proofs.CallLemmas.{attach-fit, attach-leaves, attach-stands, sound-more}
+use Rattle.cdp_host.proofs.ViewLemmas.{seen_as}
 use Rattle.cdp_host.proofs.host.Host.attach.Goals as goal
 
 pub invariant_of-self-2 : goal.invariant_of-self-2
 invariant_of-self-2 c =
     let a = c.self.inside in
-    sound-seats a.scripts.items a.lines.items a.spots a.machine a.broken a.seats.items c.push.new.self.items c.self.invariant c.if-self.false
+    let P : ℕ → Type 0 = λ n. HasRoom n c.reserve.new.self in
+    sound-more a.scripts.items a.lines.items a.spots a.machine a.broken a.seats.items c.push.new.self.items
+    a.seats.len c.push.new.self.len
+    a.fallback c.reserve.new.self a.fallen.items c.self.invariant c.if-self.false
     (attach-fit a.scripts.items c.new-session.result _ _ a.seats.items c.push.new.self.items c.new-session.ensures c.in_ok-push.ensures.items c.self.invariant.fit)
+    (subst P (ap (λ n. n + 1) c.len.ensures ∙ sym c.in_ok-push.ensures.len) c.in_ok-reserve.ensures.room)
+    c.in_ok-reserve.ensures.same
 
 pub returns-clause-leaves : goal.returns-clause-leaves
 returns-clause-leaves c =
     let a = c.self.inside in
-    let h : HostState = record { scripts = a.scripts.items; meaning = record { program = record { machine = a.machine; heap = a.heap }; phase = a.phase; stop = a.stop; stops = a.stops; shut = a.shut; seats = a.seats.items }; broken = a.broken } in
+    let h : HostState = seen_as a in
     let f : ℕ → Workspace → _ = λ n w. fresh n w in
-    attach-leaves h c.args.self.now c.push.new.self.items c.new-session.result c.self.view_is
+    let P : Fallback → Type 0 = λ held.
+    Leaves c.args.self.now Attach (record h { meaning = record h.meaning { seats = c.push.new.self.items }; fallback = held }) in
+    subst P (sym c.in_ok-reserve.ensures.same)
+    (attach-leaves h c.args.self.now c.push.new.self.items c.new-session.result c.self.view_is
     (c.new-session.ensures
     ∙ ap (λ n. f (n + 1) c.in_ok-workspace.workspace) (c.sessions-number.ensures ∙ sym (ap (λ o. length o.meaning.seats) c.self.view_is))
     ∙ ap (f (length a.seats.items + 1)) (c.in_ok-workspace.ensures ∙ ap (λ ss. begun (code_of ss)) c.as_slice.ensures.value))
-    c.in_ok-push.ensures.items
+    c.in_ok-push.ensures.items)
 
 pub returns-clause-stands : goal.returns-clause-stands
 returns-clause-stands c = attach-stands c.args.self.now _ (ap (λ h. h.broken) (sym c.self.view_is) ∙ c.if-self.false) (returns-clause-leaves c)

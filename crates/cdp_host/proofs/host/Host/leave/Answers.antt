@@ -7,6 +7,7 @@ use Rattle.cdp_host.proofs.CallLemmas.{sound-seats, whose, works-at}
 use Rattle.cdp_host.proofs.LeaveLemmas.{OnlySeats, leaves-left, stays-same}
 use Rattle.cdp_host.proofs.PlacedLemmas.{fit-put, put-back}
 use Rattle.isolation.specs.Runs.{AllFit}
+use Rattle.cdp_host.proofs.ViewLemmas.{seen_as}
 use Rattle.cdp_host.proofs.host.Host.leave.Goals as goal
 
 pub invariant_of-self : goal.invariant_of-self
@@ -19,7 +20,9 @@ invariant_of-self c =
     let held : is_attached (seat_of c.args.s a.seats.items) ≡ true = subst (λ o. is_attached (seat_of c.args.s o.meaning.seats) ≡ true) (sym c.self.view_is) c.requires in
     let back : w ≡ put c.args.s Left a.seats.items =
     put-back a.seats.len c.args.s Left a.seats.items news rest (sym c.as_mut_slice.ensures.len ∙ ap length c.as_mut_slice.ensures.value) (c.leave.ensures ∙ ap (put c.args.s Left) c.as_mut_slice.ensures.value) in
-    sound-seats a.scripts.items a.lines.items a.spots a.machine a.broken a.seats.items w c.self.invariant (works-at c.args.s a.broken a.seats.items c.self.invariant.alone held)
+    sound-seats a.scripts.items a.lines.items a.spots a.machine a.broken a.seats.items w a.seats.len a.fallback
+    a.fallen.items
+    c.self.invariant (works-at c.args.s a.broken a.seats.items c.self.invariant.alone held)
     (subst (AllFit P) (sym back) (fit-put P c.args.s Left a.seats.items tt c.self.invariant.fit))
 
 pub settle-requires : goal.settle-requires
@@ -36,11 +39,13 @@ returns-clause-leaves c =
     let w = take a.seats.len (news ++ rest) in
     let back : w ≡ put c.args.s Left a.seats.items =
     put-back a.seats.len c.args.s Left a.seats.items news rest (sym c.as_mut_slice.ensures.len ∙ ap length c.as_mut_slice.ensures.value) (c.leave.ensures ∙ ap (put c.args.s Left) c.as_mut_slice.ensures.value) in
-    let h : HostState = record { scripts = a.scripts.items; meaning = record { program = record { machine = a.machine; heap = a.heap }; phase = a.phase; stop = a.stop; stops = a.stops; shut = a.shut; seats = a.seats.items }; broken = a.broken } in
+    let h : HostState = seen_as a in
     let mid : HostState = record h { meaning = record h.meaning { seats = w } } in
     let it = whose (seat_of c.args.s now.meaning.seats) c.requires in
     leaves-left now mid c.settle.new.self c.args.s it.0 it.1 (subst (λ o. OnlySeats o mid) c.self.view_is refl)
-    (back ∙ ap (λ o. put c.args.s Left o.meaning.seats) c.self.view_is) c.settle.ensures.scripts c.settle.ensures.works (stays-same mid c.settle.new.self c.settle.ensures.stays) c.settle.ensures.means
+    (back ∙ ap (λ o. put c.args.s Left o.meaning.seats) c.self.view_is) c.settle.ensures.scripts
+    c.settle.ensures.works c.settle.ensures.fallen (stays-same mid c.settle.new.self c.settle.ensures.stays)
+    c.settle.ensures.means
 
 pub returns-clause-works : goal.returns-clause-works
 returns-clause-works c =

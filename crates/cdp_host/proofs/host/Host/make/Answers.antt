@@ -3,7 +3,7 @@ use Rattle.isolation.specs.Meanings.{is_ready}
 use Rattle.cdp_host.specs.Hosts.{meaning_with}
 use Rattle.cdp_host.specs.Protocols.{protocol}
 use Rattle.cdp_host.proofs.StateLemmas.{may-parts}
-use Rattle.cdp_host.proofs.RunLemmas.{at-error, at-none, ran-nothing, some-longest}
+use Rattle.cdp_host.proofs.RunLemmas.{at-error, at-none, keeps-none, ran-nothing, some-longest}
 use Rattle.cdp_host.proofs.host.Host.make.Goals as goal
 
 pub returns-then-may_step-clause-still : goal.returns-then-may_step-clause-still
@@ -29,3 +29,6 @@ returns-else-may_step-clause-makes c = λ taken.
     let now = c.args.self.now in
     let none = c.new.result.items in
     ran-nothing now.scripts c.args.moment now c.args.n none taken c.may_step.result c.new.ensures.items c.requires.works (c.may_step.ensures (taken ++ none)) c.if-may_step.false
+
+pub returns-else-may_step-clause-keeps : goal.returns-else-may_step-clause-keeps
+returns-else-may_step-clause-keeps c = keeps-none c.args.self.now

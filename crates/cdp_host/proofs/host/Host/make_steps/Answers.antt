@@ -5,7 +5,7 @@ use Rattle.isolation.specs.Meanings.{is_ready}
 use Rattle.cdp_host.specs.Hosts.{meaning_with}
 use Rattle.cdp_host.specs.Protocols.{protocol}
 use Rattle.cdp_host.proofs.StateLemmas.{may-parts}
-use Rattle.cdp_host.proofs.RunLemmas.{ran-longest, ran-more, ran-none, ran-prints}
+use Rattle.cdp_host.proofs.RunLemmas.{at-error, falls-from, keeps-more, keeps-none, ran-longest, ran-more, ran-none, ran-prints}
 use Rattle.cdp_host.proofs.host.Host.make_steps.Goals as goal
 
 -- ---- the loop
@@ -16,7 +16,8 @@ loop-self-init c = record {
   scripts = refl;
   same = c.requires.works;
   handed = sym (ap (λ h. h.meaning.program.machine.context.printed) c.self.view_is) ∙ c.self.invariant.handed (ap (λ h. h.broken) c.self.view_is ∙ c.requires.works);
-  flags = c.in_ok-named.ensures ∙ c.len.ensures ∙ c.self.inside.seats.ok.0 ∙ ap (λ h. length h.meaning.seats) c.self.view_is;
+  flags = c.in-Ok.ensures ∙ c.len.ensures ∙ c.self.inside.seats.ok.0 ∙ ap (λ h. length h.meaning.seats) c.self.view_is;
+  keeps = keeps-none c.args.self.now;
   made = λ taken. ran-none c.args.self.now.scripts c.args.moment c.args.self.now c.args.n c.new-printed.result.items taken c.new-printed.ensures.items;
 }
 
@@ -58,6 +59,7 @@ loop-self-preserved c =
       same = now.same;
       handed = now.handed;
       flags = ap (λ flags. length flags) flags ∙ now.flags;
+      keeps = keeps-more c.args.self.now host c.advance.new.self was.keeps now.keeps;
       made = λ taken.
           let there = taken ++ c.loop-self.printed.items in
           let go = (may-parts c.loop-self.left host.broken (is_ready (protocol host.scripts) (meaning_with host there)) (sym (c.may_step.ensures there) ∙ c.loop-self-test.true)).2 in
@@ -91,7 +93,16 @@ returns-clause-same c = c.loop-self.invariant.same
 pub returns-clause-scripts : goal.returns-clause-scripts
 returns-clause-scripts c = c.loop-self.invariant.scripts
 
+pub returns-clause-keeps : goal.returns-clause-keeps
+returns-clause-keeps c = c.loop-self.invariant.keeps
+
 -- ---- where there is no memory
+
+pub returns-in_err-left-clause-back : goal.returns-in_err-left-clause-back
+returns-in_err-left-clause-back c =
+    at-error c.from_residual.result _
+    (falls-from c.args.self.now c.loop-self.self c.advance.new.self c.loop-self.invariant.keeps
+    c.in_err-left.ensures.back)
 
 pub returns-in_err-left-clause-scripts : goal.returns-in_err-left-clause-scripts
 returns-in_err-left-clause-scripts c = c.in_err-left.ensures.scripts ∙ c.loop-self.invariant.scripts

@@ -1,6 +1,6 @@
 use Rattle.std.proofs.Common.{◌-◌, ◌≡◌, ◌++◌, ◌≤◌, false, length, List, [], ℕ}
 use Rattle.isolation.specs.Runs.{HasMade}
-use Rattle.cdp_host.specs.Hosts.{meaning_with}
+use Rattle.cdp_host.specs.Hosts.{KeepsFallback, meaning_with}
 use Rattle.cdp_host.specs.Protocols.{protocol}
 use Rattle.cdp_host.proofs.host.Host.make_steps.Given as goal
 
@@ -12,6 +12,7 @@ invariant-loop-self l = record {
   same : l.self.broken ≡ false;
   handed : l.self.meaning.program.machine.context.printed ≡ [];
   flags : length l.named.items ≡ length l.self.meaning.seats;
+  keeps : KeepsFallback l.fn.self l.self;
   made : (taken : List (List ℕ)) → HasMade (protocol l.fn.self.scripts) l.moment (meaning_with l.fn.self taken) (meaning_with l.self (taken ++ l.printed.items)) (l.n - l.left);
 }
 

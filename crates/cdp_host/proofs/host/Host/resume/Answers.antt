@@ -10,6 +10,7 @@ use Rattle.cdp_host.specs.Protocols.{protocol}
 use Rattle.cdp_host.proofs.CallLemmas.{sound-seats}
 use Rattle.cdp_host.proofs.LeaveLemmas.{resumed-is, unresumed-is}
 use Rattle.cdp_host.proofs.PlacedLemmas.{given-back}
+use Rattle.cdp_host.proofs.ViewLemmas.{seen_as}
 use Rattle.cdp_host.proofs.host.Host.resume.Goals as goal
 
 pub invariant_of-self : goal.invariant_of-self
@@ -19,7 +20,9 @@ invariant_of-self c =
     let news = c.resume_all.new.seats in
     let rest = drop (length news) a.seats.items in
     let back = given-back a.seats.len news rest (sym c.as_mut_slice.ensures.len ∙ sym (over-all-length (HearsOn P) c.as_mut_slice.result.now news (c.resume_all.ensures a.scripts.items))) in
-    sound-seats a.scripts.items a.lines.items a.spots a.machine a.broken a.seats.items (take a.seats.len (news ++ rest)) c.self.invariant (ap (λ h. h.broken) c.self.view_is ∙ c.requires)
+    sound-seats a.scripts.items a.lines.items a.spots a.machine a.broken a.seats.items
+    (take a.seats.len (news ++ rest)) a.seats.len a.fallback a.fallen.items
+    c.self.invariant (ap (λ h. h.broken) c.self.view_is ∙ c.requires)
     (subst (AllFit P) (sym back) (on-each P c.as_mut_slice.result.now news (c.resume_all.ensures a.scripts.items)).1)
 
 pub returns-then-is_some-clause-means : goal.returns-then-is_some-clause-means
@@ -30,7 +33,7 @@ returns-then-is_some-clause-means c =
     let rest = drop (length news) a.seats.items in
     let back = given-back a.seats.len news rest (sym c.as_mut_slice.ensures.len ∙ sym (over-all-length (HearsOn P) c.as_mut_slice.result.now news (c.resume_all.ensures a.scripts.items))) in
     let w = take a.seats.len (news ++ rest) in
-    let h : HostState = record { scripts = a.scripts.items; meaning = record { program = record { machine = a.machine; heap = a.heap }; phase = a.phase; stop = a.stop; stops = a.stops; shut = a.shut; seats = a.seats.items }; broken = a.broken } in
+    let h : HostState = seen_as a in
     let new : HostState = record h { meaning = record h.meaning { stop = None; seats = w } } in
     let over = subst (λ ss. OverAll (HearsOn P) a.seats.items ss) (sym back) (subst (λ ss. OverAll (HearsOn P) ss news) c.as_mut_slice.ensures.value (c.resume_all.ensures a.scripts.items)) in
     let Q : HostState → Type 0 = λ o. (taken : List (List ℕ)) → meaning_with new taken ≡ less w (resume (protocol o.scripts) (meaning_with o taken)) in

@@ -2,6 +2,7 @@ use Rattle.std.proofs.Common.{◌≡◌, ◌++◌, take, drop, length, true, sym
 use Rattle.isolation.specs.Seats.{is_attached, seat_of}
 use Rattle.cdp_host.specs.Hosts.{HostState}
 use Rattle.cdp_host.proofs.CallLemmas.{sound-seats, take-back, take-fit, take-leaves, take-stands, works-at}
+use Rattle.cdp_host.proofs.ViewLemmas.{seen_as}
 use Rattle.cdp_host.proofs.host.Host.take.Goals as goal
 
 pub invariant_of-self : goal.invariant_of-self
@@ -9,7 +10,9 @@ invariant_of-self c =
     let a = c.self.inside in
     let held : is_attached (seat_of c.args.s a.seats.items) ≡ true = subst (λ o. is_attached (seat_of c.args.s o.meaning.seats) ≡ true) (sym c.self.view_is) c.requires in
     let rest = drop (length c.take.new.seats) a.seats.items in
-    sound-seats a.scripts.items a.lines.items a.spots a.machine a.broken a.seats.items (take a.seats.len (c.take.new.seats ++ rest)) c.self.invariant
+    sound-seats a.scripts.items a.lines.items a.spots a.machine a.broken a.seats.items
+    (take a.seats.len (c.take.new.seats ++ rest)) a.seats.len a.fallback a.fallen.items
+    c.self.invariant
     (works-at c.args.s a.broken a.seats.items c.self.invariant.alone held)
     (take-fit a.scripts.items c.args.s a.seats.items (take a.seats.len (c.take.new.seats ++ rest)) held
     (take-back a.seats.len c.args.s a.seats.items c.as_mut_slice.result.now c.take.new.seats rest c.as_mut_slice.ensures.value (sym c.as_mut_slice.ensures.len) c.take.ensures.seats)
@@ -18,7 +21,7 @@ invariant_of-self c =
 pub returns-clause-leaves : goal.returns-clause-leaves
 returns-clause-leaves c =
     let a = c.self.inside in
-    let h : HostState = record { scripts = a.scripts.items; meaning = record { program = record { machine = a.machine; heap = a.heap }; phase = a.phase; stop = a.stop; stops = a.stops; shut = a.shut; seats = a.seats.items }; broken = a.broken } in
+    let h : HostState = seen_as a in
     let rest = drop (length c.take.new.seats) a.seats.items in
     take-leaves h c.args.self.now c.args.s (take a.seats.len (c.take.new.seats ++ rest)) c.self.view_is c.requires
     (take-back a.seats.len c.args.s a.seats.items c.as_mut_slice.result.now c.take.new.seats rest c.as_mut_slice.ensures.value (sym c.as_mut_slice.ensures.len) c.take.ensures.seats)
@@ -26,5 +29,5 @@ returns-clause-leaves c =
 pub returns-clause-stands : goal.returns-clause-stands
 returns-clause-stands c =
     let a = c.self.inside in
-    let h : HostState = record { scripts = a.scripts.items; meaning = record { program = record { machine = a.machine; heap = a.heap }; phase = a.phase; stop = a.stop; stops = a.stops; shut = a.shut; seats = a.seats.items }; broken = a.broken } in
+    let h : HostState = seen_as a in
     take-stands h c.args.self.now _ c.args.s c.self.view_is c.self.invariant.alone c.requires (returns-clause-leaves c)

@@ -7,6 +7,7 @@ use Rattle.cdp_host.specs.Protocols.{protocol}
 use Rattle.cdp_host.specs.Watching.{owner_told}
 use Rattle.cdp_host.proofs.LossLemmas.{loss-stands, put-gone, told-fits, told-gone}
 use Rattle.cdp_host.proofs.PlacedLemmas.{fit-put, put-back}
+use Rattle.cdp_host.proofs.ViewLemmas.{seen_as}
 use Rattle.cdp_host.proofs.host.Host.tell_loss.Goals as goal
 
 pub invariant_of-self : goal.invariant_of-self
@@ -27,6 +28,9 @@ invariant_of-self c =
       code = c.self.invariant.code;
       handed = c.self.invariant.handed;
       kept = c.self.invariant.kept;
+      quiet = c.self.invariant.quiet;
+      room = c.self.invariant.room;
+      gone = c.self.invariant.gone;
       alone = λ fails. subst NoneAttached (sym back) (put-gone s (owner_told (seat_of s a.seats.items)) a.seats.items (told-gone (seat_of s a.seats.items) gone) (c.self.invariant.alone fails));
       fit = subst (AllFit P) (sym back) (fit-put P s (owner_told (seat_of s a.seats.items)) a.seats.items (told-fits a.scripts.items (seat_of s a.seats.items) gone) c.self.invariant.fit);
     }
@@ -39,7 +43,7 @@ returns-clause-stands c =
     let news = c.tell_loss.new.seats in
     let rest = drop (length news) a.seats.items in
     let w = take a.seats.len (news ++ rest) in
-    let h : HostState = record { scripts = a.scripts.items; meaning = record { program = record { machine = a.machine; heap = a.heap }; phase = a.phase; stop = a.stop; stops = a.stops; shut = a.shut; seats = a.seats.items }; broken = a.broken } in
+    let h : HostState = seen_as a in
     let gone : is_attached (seat_of s a.seats.items) ≡ false = subst (λ o. is_attached (seat_of s o.meaning.seats) ≡ false) (sym c.self.view_is) c.requires in
     let back : w ≡ put s (owner_told (seat_of s a.seats.items)) a.seats.items =
     put-back a.seats.len s (owner_told (seat_of s a.seats.items)) a.seats.items news rest (sym c.as_mut_slice.ensures.len ∙ ap length c.as_mut_slice.ensures.value)

@@ -8,7 +8,7 @@ use Rattle.isolation.specs.Standing.{fallen_in}
 use Rattle.cdp_host.specs.Hosts.{meaning_with}
 use Rattle.cdp_host.specs.Protocols.{protocol}
 use Rattle.cdp_host.specs.Watching.{losses_from}
-use Rattle.cdp_host.proofs.RunLemmas.{at-error, listed-by, reported-fit, reported-none, settled-as}
+use Rattle.cdp_host.proofs.RunLemmas.{at-error, falls-from, listed-by, reported-fit, reported-none, settled-as}
 use Rattle.cdp_host.proofs.host.Host.try_run.Goals as goal
 
 pub invariant_of-self : goal.invariant_of-self
@@ -24,15 +24,18 @@ invariant_of-self c =
       code = c.self.invariant.code;
       handed = c.self.invariant.handed;
       kept = c.self.invariant.kept;
+      quiet = c.self.invariant.quiet;
+      room = c.self.invariant.room;
       alone = λ fails. absurd cc;
+      gone = c.self.invariant.gone;
       fit = subst (λ ss. AllFit (protocol a.scripts.items) ss) (sym seats) (reported-fit (protocol a.scripts.items) a.seats.items c.self.invariant.fit);
     }
 
 pub settle-requires : goal.settle-requires
 settle-requires c = ap (λ h. h.broken) c.self.view_is ∙ c.in_ok-steps.ensures.same
 
-pub returns-clause-runs : goal.returns-clause-runs
-returns-clause-runs c = λ taken.
+pub returns-in-Ok-clause-runs : goal.returns-in-Ok-clause-runs
+returns-in-Ok-clause-runs c = λ taken.
     let a = c.self.inside in
     let made = c.make.new.self in
     let there = taken ++ c.in_ok-steps.field-0.printed.items in
@@ -43,7 +46,8 @@ returns-clause-runs c = λ taken.
       middle = meaning_with made there;
       longest = c.in_ok-steps.ensures.makes taken;
       prints = c.in_ok-steps.ensures.printed taken;
-      reports = c.in_ok-lost.ensures.losses ∙ ap (λ ss. losses_from 1 ss) c.as_slice.ensures.value ∙ ap (λ h. losses_from 1 h.meaning.seats) c.self.view_is;
+      reports = c.in-Ok.ensures.losses ∙ ap (λ ss. losses_from 1 ss) c.as_slice.ensures.value
+          ∙ ap (λ h. losses_from 1 h.meaning.seats) c.self.view_is;
       is = settled-as _ made c.settle.new.self c.args.self.now.scripts (with_items a.seats c.report_all.new.seats).items there
           c.self.view_is c.in_ok-steps.ensures.scripts seats (c.settle.ensures.means there);
       all_there = λ paused.
@@ -55,10 +59,27 @@ returns-clause-runs c = λ taken.
 pub returns-in_err-steps-clause-err_steps : goal.returns-in_err-steps-clause-err_steps
 returns-in_err-steps-clause-err_steps c = at-error c.from_residual.result _ (λ taken. inl (c.in_err-steps.ensures.err_steps taken))
 
-pub returns-in_err-lost-clause-err_steps : goal.returns-in_err-lost-clause-err_steps
-returns-in_err-lost-clause-err_steps c =
+pub returns-in-Err-clause-err_steps : goal.returns-in-Err-clause-err_steps
+returns-in-Err-clause-err_steps c =
     let now = c.args.self.now in
-    at-error c.from_residual-in_err-lost.result _
-    (listed-by now c.make.new.self (List (List ℕ)) (λ taken. 0 < longest (protocol now.scripts) c.args.moment c.args.n (meaning_with now taken))
+    listed-by now c.make.new.self (List (List ℕ))
+    (λ taken. 0 < longest (protocol now.scripts) c.args.moment c.args.n (meaning_with now taken))
     c.in_ok-steps.ensures.still
-    (sym (ap (λ ss. some waits_for_report ss) c.as_slice.ensures.value ∙ ap (λ h. some waits_for_report h.meaning.seats) c.self.view_is) ∙ c.in_err-lost.ensures.err))
+    (sym (ap (λ ss. some waits_for_report ss) c.as_slice.ensures.value
+    ∙ ap (λ h. some waits_for_report h.meaning.seats) c.self.view_is) ∙ c.in-Err.ensures.err)
+
+pub returns-in-Err-clause-back : goal.returns-in-Err-clause-back
+returns-in-Err-clause-back c =
+    falls-from c.args.self.now c.make.new.self c.fall_back.new.self c.in_ok-steps.ensures.keeps
+    c.fall_back.ensures.back
+
+-- ---- what is handed out
+
+pub returns-in-Ok-clause-fallen : goal.returns-in-Ok-clause-fallen
+returns-in-Ok-clause-fallen c =
+    c.settle.ensures.fallen ∙ ap (λ h. h.fallen) c.self.view_is ∙ c.in_ok-steps.ensures.keeps.fallen
+
+pub returns-in-Ok-clause-handed : goal.returns-in-Ok-clause-handed
+returns-in-Ok-clause-handed c =
+    ap (λ p. p.machine.context.printed) c.settle.ensures.program
+    ∙ c.self.invariant.handed (ap (λ h. h.broken) c.self.view_is ∙ c.in_ok-steps.ensures.same)
