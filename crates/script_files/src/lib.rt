@@ -5,5 +5,5 @@ pub mod fault;
 pub mod input;
 mod refusal;
 pub mod scripts;
-mod source;
+pub mod source;
 mod top_names;

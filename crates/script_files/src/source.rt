@@ -16,7 +16,7 @@ use std::alloc::Global;
 /// # Errors
 ///
 /// `Refused` where they aren't UTF-8, or where the parser refuses what they spell, and `Memory`.
-pub(crate) fn script_of(
+pub fn script_of(
     alloc: Global,
     bytes: &[u8],
     name: &str,
