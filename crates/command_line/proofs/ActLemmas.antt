@@ -34,8 +34,8 @@ use Rattle.cdp_host.specs.Watching.{losses_from}
 use Rattle.cdp_host.proofs.HistoryLemmas.{longer}
 use Rattle.cdp_host.proofs.RunLemmas.{lost-fallen}
 use Rattle.cdp_host.proofs.StandingLemmas.{standing-taken}
-use Rattle.command_line.specs.Lines as lines
-use Rattle.command_line.specs.Lines.{line_of}
+use Rattle.cdp_journal.specs.Lines as lines
+use Rattle.cdp_journal.specs.Lines.{line_of}
 use Rattle.command_line.specs.Journal.{entry_at, entry_of, is_there}
 use Rattle.command_line.specs.Output.{Output, Attached, To, Out, Overran, RanTo, joined, output_at, output_text, overrun_at, overrun_in, overruns, printed_at}
 use Rattle.command_line.specs.Played.{Acts, Plays, StandsBehind, line_output}

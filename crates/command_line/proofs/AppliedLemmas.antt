@@ -11,8 +11,8 @@ use Rattle.cdp_host.specs.Histories.{Meaning, apply}
 use Rattle.cdp_host.specs.Protocols.{protocol}
 use Rattle.command_line.specs.Applied.{MayStand, IsEntry, AreEntries, RefusesAt}
 use Rattle.command_line.specs.Journal.{entry_at, entry_of, entries, is_there, refused}
-use Rattle.command_line.specs.Lines.{Line, Attach, Tell, Take, Detach, Run, Shut, line_of}
-use Rattle.command_line.proofs.LineLemmas.{choice-some, line-read, line-some}
+use Rattle.cdp_journal.specs.Lines.{Line, Attach, Tell, Take, Detach, Run, Shut, line_of}
+use Rattle.cdp_journal.proofs.LineLemmas.{choice-some, line-read, line-some}
 
 -- ---- one line
 

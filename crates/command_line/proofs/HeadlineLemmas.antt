@@ -31,13 +31,15 @@ use Rattle.cdp_host.specs.declared.state.State.TheVariants as states
 use Rattle.cdp_host.proofs.ProgramLemmas.{plain-start, start-prints}
 use Rattle.cdp_host.proofs.LawLemmas.{goes-plainly, plain-prints}
 use Rattle.cdp_host.proofs.ProtocolLemmas.{enabled-kept, sent}
-use Rattle.command_line.specs.Escapes.{escaped, printed_escaped}
-use Rattle.command_line.specs.Lines as lines
-use Rattle.command_line.specs.Lines.{IsInForm, line_of}
+use Rattle.cdp_journal.specs.Escapes.{escaped, printed_escaped}
+use Rattle.cdp_journal.specs.Fronts.{behind_each}
+use Rattle.cdp_journal.specs.Lines as lines
+use Rattle.cdp_journal.specs.Lines.{IsInForm, line_of}
 use Rattle.command_line.specs.Journal.{entry_at, entry_of, entries, is_there}
 use Rattle.command_line.specs.Output.{Output, Attached, To, Out, Overran, RanTo, overrun_at, overruns, printed_at, state_name, output_at, output_of, output_bytes}
-use Rattle.command_line.specs.Headline.{behind_each, to_front, is_stopped, is_waiting, losses_at, losses_of, ran_state, ran_at, ran_texts, texts_to, waiting_to, Headline}
-use Rattle.command_line.proofs.LineLemmas.{choice-some, line-some}
+use Rattle.command_line.specs.Headline.{Headline}
+use Rattle.command_line.specs.Shown.{to_front, is_stopped, is_waiting, losses_at, losses_of, ran_state, ran_at, ran_texts, texts_to, waiting_to}
+use Rattle.cdp_journal.proofs.LineLemmas.{choice-some, line-some}
 use Rattle.command_line.proofs.PausedLemmas.{names-enabled, rest-paused, run-paused, run-phase, run-shut}
 use Rattle.command_line.proofs.PlainLemmas.{apply-plain, run-prints, steps-plain}
 use Rattle.command_line.proofs.ShownLemmas.{out_texts, to_of, ran_of, lost_of, shown, lines-one, out-each, ran-each, lost-each, to-each, to-own, to-others, to_of-append, to-printed, ran-append, ran-printed, ran-sent, lost-append, lost-printed, lost-sent, lost-out, lost-ran, lost-to, lost-told}
@@ -356,14 +358,20 @@ headline-of lines scripts input wait =
     let sends : (s : ℕ) → s < 2 ^ 64 → behind_each (to_front s) (lines_of (output_bytes shows)) ≡ map escaped (sent_to scripts input wait s history) =
     λ s s_small. ap (behind_each (to_front s)) cut ∙ to-each s shows ∙ sent-all history scripts first s s_small goes.1 in
     record {
-      prints_plainly = ap (behind_each (codes "out ")) cut ∙ out-each shows ∙ ap (map printed_escaped) prints;
-      prints_a_prefix = plain-prints scripts input (steps_made history) (plain (steps_made history) scripts input) refl;
-      is_history = fits;
-      stops_exactly = stops-exactly (protocol scripts) (start scripts input) wait history fits;
-      tells_stops = ap (behind_each (codes "ran ")) cut ∙ ran-each shows ∙ ran-all history scripts input 0 first begins well goes.1;
-      tells_losses = ap (behind_each (codes "overrun ")) cut ∙ lost-each shows ∙ ap (map decimal) (lost-all history scripts first);
-      sends_what_is_taken = sends;
-      sends_as_alone = λ s. alone (protocol scripts) s (start scripts input) wait history fits;
-      sends_exactly = λ s s_small there. sends-exact scripts input wait history s (behind_each (to_front s) (lines_of (output_bytes shows))) fits (sends s s_small) there;
-      sends_a_prefix = λ s s_small. sends-first scripts input wait history s (behind_each (to_front s) (lines_of (output_bytes shows))) fits (sends s s_small);
+      prints = record {
+        lines = ap (behind_each (codes "out ")) cut ∙ out-each shows ∙ ap (map printed_escaped) prints;
+        is_prefix = plain-prints scripts input (steps_made history) (plain (steps_made history) scripts input) refl;
+      };
+      stops = record {
+        is_history = fits;
+        exactly = stops-exactly (protocol scripts) (start scripts input) wait history fits;
+        lines = ap (behind_each (codes "ran ")) cut ∙ ran-each shows ∙ ran-all history scripts input 0 first begins well goes.1;
+      };
+      sends = record {
+        lines = sends;
+        alone = λ s. alone (protocol scripts) s (start scripts input) wait history fits;
+        all = λ s s_small there. sends-exact scripts input wait history s (behind_each (to_front s) (lines_of (output_bytes shows))) fits (sends s s_small) there;
+        first = λ s s_small. sends-first scripts input wait history s (behind_each (to_front s) (lines_of (output_bytes shows))) fits (sends s s_small);
+        losses = ap (behind_each (codes "overrun ")) cut ∙ lost-each shows ∙ ap (map decimal) (lost-all history scripts first);
+      };
     }

@@ -1,8 +1,4 @@
 pub mod WordLemmas
-pub mod UnescapeLemmas
-pub mod LineLemmas
-pub mod OneLineLemmas
-pub mod EscapeLemmas
 pub mod ShownLemmas
 pub mod AppliedLemmas
 pub mod PlainLemmas
@@ -12,5 +8,7 @@ pub mod SeatLemmas
 pub mod LossLemmas
 pub mod ActLemmas
 pub mod PlayLemmas
+pub mod ReplayedLemmas
 pub mod RunLemmas
 pub mod ReplayLemmas
+pub mod DrillLemmas

@@ -1,75 +1,23 @@
 -- What each end of a replay says of the files, and of what was written.
 use Rattle.std.proofs.Common.{◌≡◌, ◌⊎◌, ℕ, List, Bool, Option, Some, None, refl, sym, subst, ◌∙◌, inl, inr}
-use Rattle.cdp_edge.specs.Outside.{Named, Told, Rose, content_of, gains, GainsPrefix, GainsLess}
+use Rattle.cdp_edge.specs.Outside.{Named, Told, Rose, content_of}
 use Rattle.cdp_edge.specs.Blame.{Faults, Blames, Read}
 use Rattle.cdp_edge.proofs.Gains.{gains-nil, GainsPrefix-refl, Told-GainsPrefix}
-use Rattle.cdp_text.specs.Lines.{lines_of}
 use Rattle.js_tree.specs.declared.script.Script.{Script}
-use Rattle.cdp_host.specs.Histories.{begin}
 use Rattle.script_files.specs.declared.fault.Refusal.{Refusal}
 use Rattle.command_line.specs.Files.{HoldsReplay, HoldsSources, IsReachedBy, IsReachedIn, IsRefusedBehind, IsRefusedIn}
-use Rattle.command_line.specs.Journal.{entries, refused}
-use Rattle.command_line.specs.Played.{IsCut, end_of, journal_output}
-use Rattle.command_line.specs.ReplayCauses.{AppliesUpTo, Replays, ReplaysWhole, ReplaysInPart, ReplaysShort, BecauseJournal, BecauseReplay, outcome_of_play}
+use Rattle.command_line.specs.Replays.{WritesLess, WritesPart, WritesReplay}
+use Rattle.command_line.specs.ReplayCauses.{ReplaysWhole, ReplaysInPart, ReplaysShort, BecauseJournal, BecauseReplay, outcome_of_replay}
 use Rattle.command_line.specs.RunCauses.{BecauseSources}
 use Rattle.command_line.specs.Status.{GivenReplay, status_of}
 use Rattle.command_line.specs.Words.{Command, Replay, Request}
 use Rattle.command_line.specs.declared.outcome.Outcome.{Outcome}
 use Rattle.command_line.specs.declared.outcome.Outcome.TheVariants as ends
-use Rattle.command_line.specs.declared.play.ReplayEnd.{ReplayEnd}
-use Rattle.command_line.specs.declared.play.ReplayEnd.TheVariants as plays
-use Rattle.command_line.proofs.AppliedLemmas.{applied-all, refused-one}
-use Rattle.command_line.proofs.HeadlineLemmas.{headline-of}
+use Rattle.command_line.specs.declared.journal.ReplayEnd.{ReplayEnd}
+use Rattle.command_line.specs.declared.journal.ReplayEnd.TheVariants as plays
 use Rattle.command_line.proofs.RunLemmas.{run_stands, told_always, told_map}
 
 pub ruleset untouched = (gains-nil, GainsPrefix-refl, Told-GainsPrefix)
-
--- ---- a replay that the files hold
-
-applies : (scripts : List Script) (input : List (List ℕ)) (wait : Bool) (texts : List (List ℕ)) (line : Option ℕ) → refused scripts 1 (begin scripts input wait) texts ≡ line
-    → AppliesUpTo line scripts input wait texts (entries scripts (begin scripts input wait) texts)
-applies scripts input wait texts None is = applied-all 1 scripts (begin scripts input wait) texts is
-applies scripts input wait texts (Some number) is = refused-one 1 number scripts (begin scripts input wait) texts is
-
-replays : (files : List Named) (request : Request) (journal : List ℕ) (scripts : List Script) (input : List (List ℕ)) (line : Option ℕ) → HoldsReplay files request journal scripts input
-    → refused scripts 1 (begin scripts input request.wait) (lines_of journal) ≡ line → Replays files request line (journal_output scripts (begin scripts input request.wait) (lines_of journal))
-replays files request journal scripts input line holds is = record {
-  journal = journal;
-  scripts = scripts;
-  input = input;
-  history = entries scripts (begin scripts input request.wait) (lines_of journal);
-  holds = holds;
-  applied = applies scripts input request.wait (lines_of journal) line is;
-  writes = refl;
-  headline = headline-of (lines_of journal) scripts input request.wait;
-}
-
-pub replays-whole : (files : List Named) (request : Request) (journal : List ℕ) (scripts : List Script) (input : List (List ℕ)) (line : Option ℕ) (old new : Option (List ℕ))
-    → HoldsReplay files request journal scripts input → refused scripts 1 (begin scripts input request.wait) (lines_of journal) ≡ line
-    → new ≡ gains old (journal_output scripts (begin scripts input request.wait) (lines_of journal)) → ReplaysWhole files request line old new
-replays-whole files request journal scripts input line old new holds is whole = record {
-  output = journal_output scripts (begin scripts input request.wait) (lines_of journal);
-  replays = replays files request journal scripts input line holds is;
-  whole = whole;
-}
-
-pub replays-part : (files : List Named) (request : Request) (journal : List ℕ) (scripts : List Script) (input : List (List ℕ)) (old new : Option (List ℕ)) → HoldsReplay files request journal scripts input
-    → GainsPrefix old new (journal_output scripts (begin scripts input request.wait) (lines_of journal)) → ReplaysInPart files request old new
-replays-part files request journal scripts input old new holds part = record {
-  line = refused scripts 1 (begin scripts input request.wait) (lines_of journal);
-  output = journal_output scripts (begin scripts input request.wait) (lines_of journal);
-  replays = replays files request journal scripts input (refused scripts 1 (begin scripts input request.wait) (lines_of journal)) holds refl;
-  part = part;
-}
-
-pub replays-short : (files : List Named) (request : Request) (journal : List ℕ) (scripts : List Script) (input : List (List ℕ)) (old new : Option (List ℕ)) → HoldsReplay files request journal scripts input
-    → GainsLess old new (journal_output scripts (begin scripts input request.wait) (lines_of journal)) → ReplaysShort files request old new
-replays-short files request journal scripts input old new holds less = record {
-  line = refused scripts 1 (begin scripts input request.wait) (lines_of journal);
-  output = journal_output scripts (begin scripts input request.wait) (lines_of journal);
-  replays = replays files request journal scripts input (refused scripts 1 (begin scripts input request.wait) (lines_of journal)) holds refl;
-  less = less;
-}
 
 -- ---- causes
 
@@ -116,14 +64,14 @@ unread (ends.CannotRead name) request told before mid after was old journal ther
 unread ends.CannotWrite request told before mid after was old journal there quiet h = absurd h
 unread (ends.LineRefused n) request told before mid after was old journal there quiet h = absurd h
 
--- what is known of the lines' replay
-pub record HasPlayed (e : ReplayEnd) (scripts : List Script) (input : List (List ℕ)) (wait : Bool) (journal : List ℕ) (was now : ℕ) (old new : Option (List ℕ)) : Type 0 where
-  pub end : IsCut e ⊎ (e ≡ end_of (refused scripts 1 (begin scripts input wait) (lines_of journal)))
-  pub whole : IsCut e ⊎ (new ≡ gains old (journal_output scripts (begin scripts input wait) (lines_of journal)))
-  pub part : GainsPrefix old new (journal_output scripts (begin scripts input wait) (lines_of journal))
-  pub less : e ≡ plays.CannotWrite → GainsLess old new (journal_output scripts (begin scripts input wait) (lines_of journal))
-  pub quiet : (e ≡ plays.CannotWrite) ⊎ (now ≡ was)
-  pub failed : e ≡ plays.CannotWrite → Rose was now
+-- what is known of the journal's replay
+pub record HasReplayed (e : ReplayEnd) (scripts : List Script) (input : List (List ℕ)) (wait : Bool) (journal : List ℕ) (was now : ℕ) (old new : Option (List ℕ)) : Type 0 where
+  pub done : e ≡ plays.Done → WritesReplay scripts input wait journal None old new
+  pub refused : (line : ℕ) → e ≡ plays.Refused line → WritesReplay scripts input wait journal (Some line) old new
+  pub part : WritesPart scripts input wait journal old new
+  pub less : e ≡ plays.WriteFault → WritesLess scripts input wait journal old new
+  pub quiet : (e ≡ plays.WriteFault) ⊎ (now ≡ was)
+  pub failed : e ≡ plays.WriteFault → Rose was now
 
 -- the files hold the replay
 abbrev HasHeld : Option (List Named) → Request → List ℕ → List Script → List (List ℕ) → Type 0
@@ -135,88 +83,66 @@ held told request journal scripts input there sources =
     told_both told (λ files. content_of request.journal files ≡ Some journal) (λ files. HoldsSources files request.sources scripts input) (λ files. HoldsReplay files request journal scripts input)
     (λ files t s. record { there = t; sources = s }) there sources
 
-ended_by : (e : ReplayEnd) (o : Option ℕ) → ¬ (IsCut e) → IsCut e ⊎ (e ≡ end_of o) → e ≡ end_of o
-ended_by e o uncut (inl cut) = absurd (uncut cut)
-ended_by e o uncut (inr is) = is
+in_part : (files : List Named) (request : Request) (journal : List ℕ) (scripts : List Script) (input : List (List ℕ)) (old new : Option (List ℕ))
+    → HoldsReplay files request journal scripts input → WritesPart scripts input request.wait journal old new → ReplaysInPart files request old new
+in_part files request journal scripts input old new holds part =
+    record { journal = journal; scripts = scripts; input = input; holds = holds; writes = part }
 
-wrote_by : (e : ReplayEnd) (old new : Option (List ℕ)) (bytes : List ℕ) → ¬ (IsCut e) → IsCut e ⊎ (new ≡ gains old bytes) → new ≡ gains old bytes
-wrote_by e old new bytes uncut (inl cut) = absurd (uncut cut)
-wrote_by e old new bytes uncut (inr is) = is
-
-quiet_by : (e : ReplayEnd) (was now : ℕ) → ¬ (e ≡ plays.CannotWrite) → (e ≡ plays.CannotWrite) ⊎ (now ≡ was) → now ≡ was
+quiet_by : (e : ReplayEnd) (was now : ℕ) → ¬ (e ≡ plays.WriteFault) → (e ≡ plays.WriteFault) ⊎ (now ≡ was) → now ≡ was
 quiet_by e was now other (inl is) = absurd (other is)
 quiet_by e was now other (inr is) = is
 
-none_of : (o : Option ℕ) → plays.Done ≡ end_of o → o ≡ None
-none_of None is = refl
-none_of (Some n) is = cc
-
-some_of : (o : Option ℕ) (number : ℕ) → plays.Refused number ≡ end_of o → o ≡ Some number
-some_of None number is = cc
-some_of (Some n) number is = cc
-
-uncut-done : ¬ (IsCut plays.Done)
-uncut-done (inl is) = cc
-uncut-done (inr is) = cc
-
-uncut-refused : (number : ℕ) → ¬ (IsCut (plays.Refused number))
-uncut-refused number (inl is) = cc
-uncut-refused number (inr is) = cc
-
 -- why a replay ended so whose lines were played
 pub because : (e : ReplayEnd) (request : Request) (told : Option (List Named)) (before after : Faults) (was now : ℕ) (old new : Option (List ℕ)) (journal : List ℕ) (scripts : List Script) (input : List (List ℕ))
-    → HasHeld told request journal scripts input → after ≡ before → HasPlayed e scripts input request.wait journal was now old new
-    → BecauseReplay (outcome_of_play e) request told before after was now old new
-because plays.Done request told before after was now old new journal scripts input holds same h =
-    let o = refused scripts 1 (begin scripts input request.wait) (lines_of journal) in (
-      same,
-      quiet_by plays.Done was now (λ is. cc) h.quiet,
-      told_map told (λ files. HoldsReplay files request journal scripts input) (λ files. ReplaysWhole files request None old new)
-          (λ files i. replays-whole files request journal scripts input None old new i (none_of o (ended_by plays.Done o uncut-done h.end)) (wrote_by plays.Done old new _ uncut-done h.whole)) holds,
-    )
-because (plays.Refused number) request told before after was now old new journal scripts input holds same h =
-    let o = refused scripts 1 (begin scripts input request.wait) (lines_of journal) in (
-      same,
-      quiet_by (plays.Refused number) was now (λ is. cc) h.quiet,
-      told_map told (λ files. HoldsReplay files request journal scripts input) (λ files. ReplaysWhole files request (Some number) old new)
-          (λ files i. replays-whole files request journal scripts input (Some number) old new i (some_of o number (ended_by (plays.Refused number) o (uncut-refused number) h.end))
-          (wrote_by (plays.Refused number) old new _ (uncut-refused number) h.whole)) holds,
-    )
-because plays.CannotWrite request told before after was now old new journal scripts input holds same h = (
+    → HasHeld told request journal scripts input → after ≡ before → HasReplayed e scripts input request.wait journal was now old new
+    → BecauseReplay (outcome_of_replay e) request told before after was now old new
+because plays.Done request told before after was now old new journal scripts input holds same h = (
+  same,
+  quiet_by plays.Done was now (λ is. cc) h.quiet,
+  told_map told (λ files. HoldsReplay files request journal scripts input) (λ files. ReplaysWhole files request None old new)
+      (λ files i. record { journal = journal; scripts = scripts; input = input; holds = i; writes = h.done refl }) holds,
+)
+because (plays.Refused number) request told before after was now old new journal scripts input holds same h = (
+  same,
+  quiet_by (plays.Refused number) was now (λ is. cc) h.quiet,
+  told_map told (λ files. HoldsReplay files request journal scripts input) (λ files. ReplaysWhole files request (Some number) old new)
+      (λ files i. record { journal = journal; scripts = scripts; input = input; holds = i; writes = h.refused number refl }) holds,
+)
+because plays.WriteFault request told before after was now old new journal scripts input holds same h = (
   same,
   h.failed refl,
   told_map told (λ files. HoldsReplay files request journal scripts input) (λ files. ReplaysShort files request old new)
-      (λ files i. replays-short files request journal scripts input old new i (h.less refl)) holds,
+      (λ files i. record { journal = journal; scripts = scripts; input = input; holds = i; writes = h.less refl }) holds,
 )
 because plays.Memory request told before after was now old new journal scripts input holds same h = (
   same,
   quiet_by plays.Memory was now (λ is. cc) h.quiet,
   told_map told (λ files. HoldsReplay files request journal scripts input) (λ files. (new ≡ old) ⊎ ReplaysInPart files request old new)
-      (λ files i. inr (replays-part files request journal scripts input old new i h.part)) holds,
+      (λ files i. inr (in_part files request journal scripts input old new i h.part)) holds,
 )
 
 pub in-part : (told : Option (List Named)) (request : Request) (old new : Option (List ℕ)) (journal : List ℕ) (scripts : List Script) (input : List (List ℕ)) → HasHeld told request journal scripts input
-    → GainsPrefix old new (journal_output scripts (begin scripts input request.wait) (lines_of journal)) → Told told (λ files. (new ≡ old) ⊎ ReplaysInPart files request old new)
+    → WritesPart scripts input request.wait journal old new → Told told (λ files. (new ≡ old) ⊎ ReplaysInPart files request old new)
 in-part told request old new journal scripts input holds part =
     told_map told (λ files. HoldsReplay files request journal scripts input) (λ files. (new ≡ old) ⊎ ReplaysInPart files request old new)
-    (λ files i. inr (replays-part files request journal scripts input old new i part)) holds
+    (λ files i. inr (in_part files request journal scripts input old new i part)) holds
 
 -- the same, as the calls before the lines' replay tell of their shelves and bytes
 pub played : (e : ReplayEnd) (request : Request) (told mid_told : Option (List Named)) (before mid after : Faults) (was now : ℕ) (old new : Option (List ℕ)) (bytes journal : List ℕ) (scripts : List Script) (input : List (List ℕ))
     → HasJournal told request bytes → mid ≡ before → mid_told ≡ told → Told mid_told (λ files. HoldsSources files request.sources scripts input) → after ≡ mid → journal ≡ bytes
-    → HasPlayed e scripts input request.wait journal was now old new → BecauseReplay (outcome_of_play e) request told before after was now old new
+    → HasReplayed e scripts input request.wait journal was now old new → BecauseReplay (outcome_of_replay e) request told before after was now old new
 played e request told mid_told before mid after was now old new bytes journal scripts input there quiet same sources still is h =
     let held_all : HasHeld told request bytes scripts input =
     held told request bytes scripts input there (subst (λ (t : Option (List Named)). Told t (λ files. HoldsSources files request.sources scripts input)) same sources) in
-    because e request told before after was now old new bytes scripts input held_all (still ∙ quiet) (subst (λ (j : List ℕ). HasPlayed e scripts input request.wait j was now old new) is h)
+    because e request told before after was now old new bytes scripts input held_all (still ∙ quiet) (subst (λ (j : List ℕ). HasReplayed e scripts input request.wait j was now old new) is h)
 
 pub played-part : (request : Request) (told mid_told : Option (List Named)) (old new : Option (List ℕ)) (bytes journal : List ℕ) (scripts : List Script) (input : List (List ℕ))
     → HasJournal told request bytes → mid_told ≡ told → Told mid_told (λ files. HoldsSources files request.sources scripts input) → journal ≡ bytes
-    → GainsPrefix old new (journal_output scripts (begin scripts input request.wait) (lines_of journal)) → Told told (λ files. (new ≡ old) ⊎ ReplaysInPart files request old new)
+    → WritesPart scripts input request.wait journal old new → Told told (λ files. (new ≡ old) ⊎ ReplaysInPart files request old new)
 played-part request told mid_told old new bytes journal scripts input there same sources is part =
     let held_all : HasHeld told request bytes scripts input =
     held told request bytes scripts input there (subst (λ (t : Option (List Named)). Told t (λ files. HoldsSources files request.sources scripts input)) same sources) in
-    in-part told request old new bytes scripts input held_all (subst (λ (j : List ℕ). GainsPrefix old new (journal_output scripts (begin scripts input request.wait) (lines_of j))) is part)
+    in-part told request old new bytes scripts input held_all (subst (λ (j : List ℕ). WritesPart scripts input request.wait j old new) is part)
 
 -- ---- the status that the files decide
 
@@ -245,20 +171,21 @@ taken_of (ends.Threw text) request told before after was now old new h = absurd 
 abbrev IsLeft : ℕ → Request → List Named → Type 0
 IsLeft n request files = (name : List ℕ) (refusal : Refusal) → IsRefusedBehind files request name refusal → (n ≡ 3) ⊎ (n ≡ 1) ⊎ (n ≡ 4)
 
-not_left : (told : Option (List Named)) (request : Request) (n : ℕ) (line : Option ℕ) (output : List ℕ) (files : List Named) → Replays files request line output → IsLeft n request files
-not_left told request n line output files i name r refused = absurd (replay_stands files request i.journal i.scripts i.input name r i.holds refused)
+not_left : (request : Request) (n : ℕ) (journal : List ℕ) (scripts : List Script) (input : List (List ℕ)) (files : List Named)
+    → HoldsReplay files request journal scripts input → IsLeft n request files
+not_left request n journal scripts input files holds name r refused = absurd (replay_stands files request journal scripts input name r holds refused)
 
 left_of : (end : Outcome) (request : Request) (told : Option (List Named)) (before after : Faults) (was now : ℕ) (old new : Option (List ℕ)) → BecauseReplay end request told before after was now old new
     → Told told (IsLeft (status_of end) request)
 left_of ends.Done request told before after was now old new h =
-    told_map told (λ files. ReplaysWhole files request None old new) (IsLeft 0 request) (λ files i. not_left told request 0 None i.output files i.replays) h.2
+    told_map told (λ files. ReplaysWhole files request None old new) (IsLeft 0 request) (λ files i. not_left request 0 i.journal i.scripts i.input files i.holds) h.2
 left_of (ends.LineRefused n) request told before after was now old new h =
-    told_map told (λ files. ReplaysWhole files request (Some n) old new) (IsLeft 6 request) (λ files i. not_left told request 6 (Some n) i.output files i.replays) h.2
+    told_map told (λ files. ReplaysWhole files request (Some n) old new) (IsLeft 6 request) (λ files i. not_left request 6 i.journal i.scripts i.input files i.holds) h.2
 left_of ends.OutOfMemory request told before after was now old new h = told_always told (IsLeft 1 request) (λ files name r refused. inr (inl refl))
 left_of (ends.Refused name r) request told before after was now old new h = told_always told (IsLeft 3 request) (λ files name q refused. inl refl)
 left_of (ends.CannotRead name) request told before after was now old new h = told_always told (IsLeft 4 request) (λ files name r refused. inr (inr refl))
 left_of ends.CannotWrite request told before after was now old new h =
-    told_map told (λ files. ReplaysShort files request old new) (IsLeft 5 request) (λ files i. not_left told request 5 i.line i.output files i.replays) h.2
+    told_map told (λ files. ReplaysShort files request old new) (IsLeft 5 request) (λ files i. not_left request 5 i.journal i.scripts i.input files i.holds) h.2
 left_of ends.Usage request told before after was now old new h = absurd h
 left_of (ends.Threw text) request told before after was now old new h = absurd h
 

@@ -7,10 +7,11 @@ use Rattle.cdp_text.specs.Lines.{lines_of}
 use Rattle.cdp_text.specs.Parts.{behind, halves}
 use Rattle.cdp_text.proofs.PartsLemmas.{behind-append, behind-some, halves-decimal}
 use Rattle.cdp_host.specs.declared.state.State.TheVariants.{Broken, Shut, Threw, Ended, Paused, Waiting, Ready}
-use Rattle.command_line.specs.Escapes.{escaped, printed_escaped}
+use Rattle.cdp_journal.specs.Escapes.{escaped, printed_escaped}
+use Rattle.cdp_journal.specs.Fronts.{behind_each}
 use Rattle.cdp_text.specs.Units.{utf8_of}
-use Rattle.command_line.proofs.OneLineLemmas.{is_other, is_one_line, are_one_line, one-append, decimal-one, escaped-one}
-use Rattle.command_line.specs.Headline.{behind_each, to_front}
+use Rattle.cdp_journal.proofs.OneLineLemmas.{is_other, is_one_line, are_one_line, one-append, decimal-one, escaped-one}
+use Rattle.command_line.specs.Shown.{to_front}
 use Rattle.command_line.specs.Output.{Output, Attached, To, Out, Overran, RanTo, state_name, output_text, output_bytes}
 
 -- ---- lines of output

@@ -8,7 +8,7 @@ use Rattle.js_semantics.specs.Run.{Run as Program}
 use Rattle.cdp_host.specs.Histories.{Meaning, apply}
 use Rattle.cdp_host.specs.Protocols.{protocol}
 use Rattle.command_line.specs.Journal.{is_there}
-use Rattle.command_line.specs.Lines.{Line, Attach, Tell, Take, Detach, Run, Shut, IsLine}
+use Rattle.cdp_journal.specs.Lines.{Line, Attach, Tell, Take, Detach, Run, Shut, IsLine}
 
 -- a line may stand there, and this is its entry: one that attaches or shuts at any place, one that tells, takes or detaches where its
 -- session is attached, and one that runs at any place, for the longest run of at most its steps at its moment that loses nobody for

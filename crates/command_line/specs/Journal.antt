@@ -8,7 +8,7 @@ use Rattle.js_tree.specs.declared.script.Script.{Script}
 use Rattle.js_semantics.specs.Run.{Run as Program}
 use Rattle.cdp_host.specs.Histories.{Meaning, apply}
 use Rattle.cdp_host.specs.Protocols.{protocol}
-use Rattle.command_line.specs.Lines.{Line, Attach, Tell, Take, Detach, Run, Shut, line_of}
+use Rattle.cdp_journal.specs.Lines.{Line, Attach, Tell, Take, Detach, Run, Shut, line_of}
 
 -- the session of this number is attached
 abbrev pub is_there : Meaning Program → ℕ → Bool

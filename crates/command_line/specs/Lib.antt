@@ -1,14 +1,14 @@
 pub mod Words
 pub mod RequestHeld
 pub mod Files
-pub mod Escapes
-pub mod Lines
-pub mod LineRead
 pub mod Journal
 pub mod Applied
 pub mod Output
+pub mod Shown
 pub mod Headline
 pub mod Played
+pub mod Replays
 pub mod RunCauses
 pub mod ReplayCauses
+pub mod DrillCauses
 pub mod Status

@@ -16,7 +16,7 @@ use Rattle.cdp_host.specs.Protocols.{protocol, replied, texts_fit}
 use Rattle.cdp_host.specs.Rules.{printed_between}
 use Rattle.cdp_host.specs.States.{state_of}
 use Rattle.cdp_host.specs.Watching.{is_for_memory, losses_from}
-use Rattle.command_line.specs.Escapes.{escaped, printed_escaped}
+use Rattle.cdp_journal.specs.Escapes.{escaped, printed_escaped}
 
 -- a line of output
 pub data Output : Type 0 where

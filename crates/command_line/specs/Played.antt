@@ -11,10 +11,10 @@ use Rattle.cdp_host.specs.Histories.{Meaning, whole}
 use Rattle.cdp_host.specs.Hosts.{HostState, Stands}
 use Rattle.command_line.specs.Journal.{entries}
 use Rattle.command_line.specs.Output.{output_at, output_of, output_bytes, output_text}
-use Rattle.command_line.specs.declared.play.LineFault.{LineFault}
-use Rattle.command_line.specs.declared.play.LineFault.TheVariants as fault
-use Rattle.command_line.specs.declared.play.ReplayEnd.{ReplayEnd}
-use Rattle.command_line.specs.declared.play.ReplayEnd.TheVariants as ends
+use Rattle.command_line.specs.declared.journal.LineFault.{LineFault}
+use Rattle.command_line.specs.declared.journal.LineFault.TheVariants as fault
+use Rattle.command_line.specs.declared.journal.ReplayEnd.{ReplayEnd}
+use Rattle.command_line.specs.declared.journal.ReplayEnd.TheVariants as ends
 
 -- ---- one line
 
@@ -57,4 +57,4 @@ end_of (Some number) = ends.Refused number
 
 -- the ends that memory and the sink decide
 abbrev pub IsCut : ReplayEnd → Type 0
-IsCut end = (end ≡ ends.Memory) ⊎ (end ≡ ends.CannotWrite)
+IsCut end = (end ≡ ends.Memory) ⊎ (end ≡ ends.WriteFault)

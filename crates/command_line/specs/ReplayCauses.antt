@@ -1,67 +1,50 @@
 -- How a replay ends, and why.
-use Rattle.std.specs.Prelude.{◌≡◌, ◌⊎◌, ℕ, List, Bool, Option, Some, None}
-use Rattle.cdp_edge.specs.Outside.{Rose, Named, Told, gains, GainsPrefix, GainsLess}
+use Rattle.std.specs.Prelude.{◌≡◌, ◌⊎◌, ℕ, List, Option, Some, None}
+use Rattle.cdp_edge.specs.Outside.{Rose, Named, Told}
 use Rattle.cdp_edge.specs.Blame.{Faults, Blames, Read}
-use Rattle.cdp_text.specs.Lines.{lines_of}
-use Rattle.isolation.specs.Histories.{Entry}
 use Rattle.js_tree.specs.declared.script.Script.{Script}
-use Rattle.cdp_host.specs.Histories.{begin}
-use Rattle.command_line.specs.Applied.{AreEntries, RefusesAt}
 use Rattle.command_line.specs.Files.{HoldsReplay, IsNamedBy, IsReachedBy, IsRefusedBehind}
-use Rattle.command_line.specs.Headline.{Headline}
-use Rattle.command_line.specs.Output.{output_bytes, output_of}
+use Rattle.command_line.specs.Replays.{WritesLess, WritesPart, WritesReplay}
 use Rattle.command_line.specs.Words.{Request}
 use Rattle.command_line.specs.declared.outcome.Outcome.{Outcome}
 use Rattle.command_line.specs.declared.outcome.Outcome.TheVariants as ends
-use Rattle.command_line.specs.declared.play.ReplayEnd.{ReplayEnd}
-use Rattle.command_line.specs.declared.play.ReplayEnd.TheVariants as plays
-
--- these entries are those of all lines of a journal, or of the lines before the one of this number, which is refused
-abbrev pub AppliesUpTo : Option ℕ → List Script → List (List ℕ) → Bool → List (List ℕ) → List Entry → Type 0
-AppliesUpTo None scripts input wait texts history = AreEntries scripts (begin scripts input wait) texts history
-AppliesUpTo (Some number) scripts input wait texts history = RefusesAt scripts 1 (begin scripts input wait) texts history number
-
--- The replay that the files hold, up to the line that is refused, if one is: its history, its output, and what a debugger leaves of the run in it.
-pub record Replays (files : List Named) (request : Request) (line : Option ℕ) (output : List ℕ) : Type 0 where
-  pub journal : List ℕ
-  pub scripts : List Script
-  pub input : List (List ℕ)
-  pub history : List Entry
-  pub holds : HoldsReplay files request journal scripts input
-  pub applied : AppliesUpTo line scripts input request.wait (lines_of journal) history
-  pub writes : output ≡ output_bytes (output_of scripts (begin scripts input request.wait) history)
-  pub headline : Headline scripts input request.wait history output
+use Rattle.command_line.specs.declared.journal.ReplayEnd.{ReplayEnd}
+use Rattle.command_line.specs.declared.journal.ReplayEnd.TheVariants as plays
 
 -- ---- of a sink that had this content before and after
 
--- all of its output is written
+-- the files hold the replay, up to the line that is refused, if one is, and all of its output is written
 pub record ReplaysWhole (files : List Named) (request : Request) (line : Option ℕ) (before now : Option (List ℕ)) : Type 0 where
-  pub output : List ℕ
-  pub replays : Replays files request line output
-  pub whole : now ≡ gains before output
+  pub journal : List ℕ
+  pub scripts : List Script
+  pub input : List (List ℕ)
+  pub holds : HoldsReplay files request journal scripts input
+  pub writes : WritesReplay scripts input request.wait journal line before now
 
 -- a first part of it is written
 pub record ReplaysInPart (files : List Named) (request : Request) (before now : Option (List ℕ)) : Type 0 where
-  pub line : Option ℕ
-  pub output : List ℕ
-  pub replays : Replays files request line output
-  pub part : GainsPrefix before now output
+  pub journal : List ℕ
+  pub scripts : List Script
+  pub input : List (List ℕ)
+  pub holds : HoldsReplay files request journal scripts input
+  pub writes : WritesPart scripts input request.wait journal before now
 
 -- and not all of it
 pub record ReplaysShort (files : List Named) (request : Request) (before now : Option (List ℕ)) : Type 0 where
-  pub line : Option ℕ
-  pub output : List ℕ
-  pub replays : Replays files request line output
-  pub less : GainsLess before now output
+  pub journal : List ℕ
+  pub scripts : List Script
+  pub input : List (List ℕ)
+  pub holds : HoldsReplay files request journal scripts input
+  pub writes : WritesLess scripts input request.wait journal before now
 
 -- ---- causes
 
 -- the end that the end of a journal's replay is
-abbrev pub outcome_of_play : ReplayEnd → Outcome
-outcome_of_play plays.Done = ends.Done
-outcome_of_play (plays.Refused number) = ends.LineRefused number
-outcome_of_play plays.CannotWrite = ends.CannotWrite
-outcome_of_play plays.Memory = ends.OutOfMemory
+abbrev pub outcome_of_replay : ReplayEnd → Outcome
+outcome_of_replay plays.Done = ends.Done
+outcome_of_replay (plays.Refused number) = ends.LineRefused number
+outcome_of_replay plays.WriteFault = ends.CannotWrite
+outcome_of_replay plays.Memory = ends.OutOfMemory
 
 -- why a replay ended so while its journal was read; the counts are those of the shelf
 abbrev pub BecauseJournal : Outcome → List ℕ → Faults → Faults → Type 0

@@ -2,7 +2,7 @@
 use Rattle.std.specs.Prelude.{List, ℕ, Option, map, string_bytes}
 use Rattle.std.specs.Option.{option_map}
 use Rattle.std.specs.Borrow.{Bor}
-use Rattle.command_line.specs.Words.{Command, Names, Request, Sources, Run, Replay}
+use Rattle.command_line.specs.Words.{Command, Names, Request, Sources, Run, Replay, Drill}
 use Rattle.command_line.specs.declared.words.Command.{Command as HeldCommand}
 use Rattle.command_line.specs.declared.words.Command.TheVariants as held
 use Rattle.command_line.specs.declared.words.Names.{Names as HeldNames}
@@ -29,3 +29,4 @@ request_held request = record { wait = request.wait; journal = request.journal.n
 abbrev pub command_held : HeldCommand → Command
 command_held (held.Run sources) = Run (sources_held sources)
 command_held (held.Replay request) = Replay (request_held request)
+command_held (held.Drill count) = Drill count

@@ -4,7 +4,7 @@ use Rattle.cdp_edge.specs.Outside.{Named, Told}
 use Rattle.cdp_edge.specs.Blame.{Faults}
 use Rattle.script_files.specs.declared.fault.Refusal.{Refusal}
 use Rattle.script_files.specs.declared.fault.Refusal.TheVariants as refusals
-use Rattle.command_line.specs.Words.{Command, Request, Sources, Run, Replay}
+use Rattle.command_line.specs.Words.{Command, Request, Sources, Run, Replay, Drill}
 use Rattle.command_line.specs.declared.outcome.Outcome.{Outcome}
 use Rattle.command_line.specs.declared.outcome.Outcome.TheVariants as ends
 
@@ -64,24 +64,35 @@ abbrev pub ForRun : Option Command → (Sources → Type 0) → Type 0
 ForRun None P = Unit {0}
 ForRun (Some (Run sources)) P = P sources
 ForRun (Some (Replay request)) P = Unit {0}
+ForRun (Some (Drill n)) P = Unit {0}
 
 -- what holds of a run and the files, where the words ask for one and the files are told
 abbrev pub GivenRun : Option Command → Option (List Named) → (Sources → List Named → Type 0) → Type 0
 GivenRun None files P = Unit {0}
 GivenRun (Some (Run sources)) files P = Told files (P sources)
 GivenRun (Some (Replay request)) files P = Unit {0}
+GivenRun (Some (Drill n)) files P = Unit {0}
 
 -- what holds of a replay, where the words ask for one
 abbrev pub ForReplay : Option Command → (Request → Type 0) → Type 0
 ForReplay None P = Unit {0}
 ForReplay (Some (Run sources)) P = Unit {0}
 ForReplay (Some (Replay request)) P = P request
+ForReplay (Some (Drill n)) P = Unit {0}
 
 -- what holds of a replay and the files, where the words ask for one and the files are told
 abbrev pub GivenReplay : Option Command → Option (List Named) → (Request → List Named → Type 0) → Type 0
 GivenReplay None files P = Unit {0}
 GivenReplay (Some (Run sources)) files P = Unit {0}
 GivenReplay (Some (Replay request)) files P = Told files (P request)
+GivenReplay (Some (Drill n)) files P = Unit {0}
+
+-- what holds of a drill, where the words ask for one
+abbrev pub ForDrill : Option Command → (ℕ → Type 0) → Type 0
+ForDrill None P = Unit {0}
+ForDrill (Some (Run sources)) P = Unit {0}
+ForDrill (Some (Replay request)) P = Unit {0}
+ForDrill (Some (Drill n)) P = P n
 
 -- neither a read nor a write failed, as the counts tell
 pub record Unfailed (before after : Faults) (writes_before writes_after : ℕ) : Type 0 where

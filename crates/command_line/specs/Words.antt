@@ -1,7 +1,8 @@
 -- The words of the command line.
-use Rattle.std.specs.Prelude.{ℕ, List, [], ◌∷◌, Bool, true, false, nat_eq, if◌then◌else◌, bytes_eq, codes, Option, Some, None, map, string_bytes}
+use Rattle.std.specs.Prelude.{ℕ, List, [], ◌∷◌, Bool, true, false, ◌&&◌, nat_eq, nat_le, if◌then◌else◌, bytes_eq, codes, Option, Some, None, map, string_bytes}
 use Rattle.std.specs.List.{list_any, starts_with}
 use Rattle.std.specs.Option.{option_and_then}
+use Rattle.cdp_text.specs.Decimal.{decimal_value}
 use Rattle.cdp_text.specs.Parts.{behind}
 use Rattle.std.specs.declared.string.String.{String}
 use Rattle.std.specs.declared.alloc.Global.{Global}
@@ -21,6 +22,8 @@ pub record Request : Type 0 where
 pub data Command : Type 0 where
   Run : Sources → Command
   Replay : Request → Command
+  -- the drill of this number
+  Drill : ℕ → Command
 
 -- a word that begins like an option
 abbrev pub is_option : List ℕ → Bool
@@ -77,12 +80,27 @@ replay_words [] = None
 replay_words (word ∷ words) =
     if bytes_eq word (codes "--wait") then option_and_then (replay_of true) (names_of words) else option_and_then (replay_of false) (names_of (word ∷ words))
 
--- what these words ask for: a run, a replay, or nothing
+-- the greatest number of a drill
+abbrev pub most_drilled : ℕ
+most_drilled = 10000
+
+-- a drill of this number, from 1 to the greatest
+abbrev pub drill_numbered : ℕ → Option Command
+drill_numbered n = if nat_le 1 n && nat_le n most_drilled then Some (Drill n) else None
+
+-- the command `drill`, by the words behind it: `N`
+abbrev pub drill_words : List (List ℕ) → Option Command
+drill_words [] = None
+drill_words (word ∷ []) = option_and_then drill_numbered (decimal_value word)
+drill_words (word ∷ other ∷ words) = None
+
+-- what these words ask for: a run, a replay, a drill, or nothing
 abbrev pub form : List (List ℕ) → Option Command
 form [] = None
 form (command ∷ words) =
     if bytes_eq command (codes "run") then option_and_then run_of (names_of words)
-    else if bytes_eq command (codes "replay") then replay_words words else None
+    else if bytes_eq command (codes "replay") then replay_words words
+    else if bytes_eq command (codes "drill") then drill_words words else None
 
 -- what the words that the program was given ask for
 abbrev pub asked : List (String Global) → Option Command

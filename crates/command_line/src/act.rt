@@ -7,17 +7,17 @@ ghost use Rattle.js_tree.specs.declared.script.Script.{Script};
 ghost use Rattle.cdp_host.specs.Histories.{whole};
 ghost use Rattle.cdp_host.specs.Hosts.{Stands, lost_for_memory};
 ghost use Rattle.cdp_host.specs.Watching.{is_for_memory};
-ghost use Rattle.command_line.specs.Lines.{Attach, Tell, Take, Detach, Run, Shut, IsInForm};
+ghost use Rattle.cdp_journal.specs.Lines.{Attach, Tell, Take, Detach, Run, Shut, IsInForm};
 ghost use Rattle.command_line.specs.Journal.{entry_at, is_there};
-ghost use Rattle.command_line.specs.LineRead.{line_held};
+ghost use Rattle.cdp_journal.specs.LineRead.{line_held};
 ghost use Rattle.command_line.specs.Played.{Acts};
 
-use crate::line::Line;
 use crate::output::{
     attached_line, overrun_line, printed_lines, push_overruns, ran_line, sent_lines,
 };
 use cdp_host::host::{Host, Told};
 use cdp_host::losses::SessionLost;
+use cdp_journal::line::Line;
 use isolation::Loss;
 use std::alloc::{AllocError, Global};
 

@@ -2,16 +2,16 @@
 #![tactic(auto)]
 
 mod act;
-mod escape;
-mod line;
+mod drill;
+pub mod journal;
 mod outcome;
 mod output;
-mod play;
 mod program;
 mod replay;
 mod report;
 mod run;
 mod sources;
+mod transcript;
 mod words;
 
 pub use program::debug_main;

@@ -1,16 +1,20 @@
 // The program's one top call.
-ghost use Rattle.std.specs.Prelude.{◌≡◌, ◌≢◌, ◌⊎◌, ◌↔◌, ◌≤◌, ◌<◌, ℕ, List, None, Some};
+ghost use Rattle.std.specs.Prelude.{◌≡◌, ◌≢◌, ◌⊎◌, ◌↔◌, ◌≤◌, ◌<◌, ℕ, List, [], None, Some};
 ghost use Rattle.cdp_edge.specs.Blame.{Blames, Read};
 ghost use Rattle.cdp_edge.specs.Outside.{Rose, Told, GainsPrefix};
 ghost use Rattle.js_tree.specs.declared.script.Script.{Script};
 ghost use Rattle.script_files.specs.declared.fault.Refusal.{Refusal};
+ghost use Rattle.cdp_journal.specs.Drills.{drill_source};
+ghost use Rattle.script_files.specs.Refusals.{IsRefused};
+ghost use Rattle.command_line.specs.DrillCauses.{DrillRefuses, DrillsInPart, DrillsShort, DrillsWhole, script_name};
 ghost use Rattle.command_line.specs.Files.{HoldsReplay, HoldsSources, IsNamed, IsNamedBy, IsReachedBy, IsReachedIn, IsRefusedBehind, IsRefusedIn};
 ghost use Rattle.command_line.specs.ReplayCauses.{ReplaysInPart, ReplaysShort, ReplaysWhole};
 ghost use Rattle.command_line.specs.RunCauses.{RunsInPart, RunsShort, RunsToEnd, RunsToThrow};
-ghost use Rattle.command_line.specs.Status.{ForReplay, ForRun, GivenReplay, GivenRun, Unfailed, line_said, refusal_said, said, status_of, uncaught_said, unread_said};
+ghost use Rattle.command_line.specs.Status.{ForDrill, ForReplay, ForRun, GivenReplay, GivenRun, Unfailed, line_said, refusal_said, said, status_of, uncaught_said, unread_said};
 ghost use Rattle.command_line.specs.Words.{asked};
 ghost use Rattle.command_line.specs.declared.outcome.Outcome.{Outcome};
 
+use crate::drill::drill;
 use crate::outcome::Outcome;
 use crate::replay::replay;
 use crate::report::{report, status_of};
@@ -24,9 +28,9 @@ use std::sync::Wait;
 ///
 /// | Status | Where | Line on `err` |
 /// |---|---|---|
-/// | 0 | `run`: only where the run ended by its last script; `replay`: only where every line was applied | none |
+/// | 0 | `run`: only where the run ended by its last script; `replay`: only where every line was applied; `drill`: only where the summary is written | none |
 /// | 1 | want of memory, also where a session is lost for want of it | `debug_host: out of memory` |
-/// | 2 | exactly where the words aren't `run SCRIPT...`, `replay JOURNAL SCRIPT...` or `replay --wait JOURNAL SCRIPT...`, with `--input FILE` or `--input=FILE` before the first name, with names that don't begin with `-` | `usage: debug_host run/replay/serve/send/drill` |
+/// | 2 | exactly where the words aren't `run SCRIPT...`, `replay JOURNAL SCRIPT...` or `replay --wait JOURNAL SCRIPT...`, with `--input FILE` or `--input=FILE` before the first name, with names that don't begin with `-`, nor `drill N` with N from 1 to 10,000 | `usage: debug_host run/replay/serve/send/drill` |
 /// | 3 | only where the input or a script isn't UTF-8, or a script is refused by the parser | `debug_host: NAME: not UTF-8`, `debug_host: NAME:LINE:COL: unexpected token`, `debug_host: NAME: too long: N units`, `debug_host: NAME: too deep`, `debug_host: NAME: too many tokens` |
 /// | 4 | only where the shelf tells a fault at a file that the words name | `debug_host: cannot read NAME` |
 /// | 5 | only where the count of `out` rose or stands at the greatest `u64`, with output left to write | `debug_host: cannot write` |
@@ -36,6 +40,8 @@ use std::sync::Wait;
 /// The first that comes decides: the words; of a replay the journal's read; then the input's read and its text, and each
 /// script's read and its text, in order; and then the run, or the journal's lines one after another.
 /// A run that never ends prints as it goes, and the call doesn't return.
+/// `drill N` reads no file: it replays a journal and a script that are made from N, in memory, and writes a summary of that
+/// replay's output. Its script or a line of its journal may be refused as those of a replay may.
 /// What `err` does changes no status.
 pub fn debug_main<R: Wait, F: Shelf, O: Sink, E: Sink>(
     rt: &R,
@@ -85,9 +91,19 @@ pub fn debug_main<R: Wait, F: Shelf, O: Sink, E: Sink>(
         → (result ≡ 3) ⊎ (result ≡ 1) ⊎ (result ≡ 4)) }
     // the headline, at every status: what `out` took is a first part of an output of which it holds, and all of that at 0 and 6
     ensures headline { GivenReplay (asked words.now) (F.files shelf.old) (λ request files. (O.content out.new ≡ O.content out.old) ⊎ ReplaysInPart files request (O.content out.old) (O.content out.new)) }
+    // `drill`: the cause of each status
+    ensures drill_done { result ≡ 0 → ForDrill (asked words.now) (λ n. DrillsWhole n (O.content out.old) (O.content out.new)) }
+    ensures drill_refused { result ≡ 3 → ForDrill (asked words.now) (λ n. (refusal : Refusal) × IsRefused [] (drill_source n) refusal
+        × GainsPrefix (E.content err.old) (E.content err.new) (refusal_said script_name refusal)) }
+    ensures drill_offered { result ≡ 5 → ForDrill (asked words.now) (λ n. DrillsShort n (O.content out.old) (O.content out.new)) }
+    ensures drill_line { result ≡ 6 → ForDrill (asked words.now) (λ n. (number : ℕ) × DrillRefuses n number
+        × (O.content out.new ≡ O.content out.old) × GainsPrefix (E.content err.old) (E.content err.new) (line_said number)) }
+    ensures drill_part { ForDrill (asked words.now) (λ n. (O.content out.new ≡ O.content out.old) ⊎ DrillsInPart n (O.content out.old) (O.content out.new)) }
+    ensures drill_shelf { ForDrill (asked words.now) (λ n. shelf.new ≡ shelf.old) }
     // what never comes of a command
     ensures run_statuses { ForRun (asked words.now) (λ sources. result ≢ 6) }
     ensures replay_statuses { ForReplay (asked words.now) (λ request. result ≢ 8) }
+    ensures drill_statuses { ForDrill (asked words.now) (λ n. (result ≢ 4) × (result ≢ 8)) }
     // where no count rose, the files or want of memory decided
     ensures complete { Unfailed (F.faults shelf.old) (F.faults shelf.new) (O.faults out.old) (O.faults out.new) → (result ≢ 4) × (result ≢ 5) }
 {
@@ -95,6 +111,7 @@ pub fn debug_main<R: Wait, F: Shelf, O: Sink, E: Sink>(
         None => end(alloc, Outcome::Usage, err),
         Some(Command::Run(sources)) => end(alloc, run(rt, alloc, sources, shelf, out), err),
         Some(Command::Replay(request)) => end(alloc, replay(alloc, request, shelf, out), err),
+        Some(Command::Drill(number)) => end(alloc, drill(alloc, number, out), err),
     }
 }
 

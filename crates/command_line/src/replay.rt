@@ -2,24 +2,24 @@
 ghost use Rattle.std.specs.Prelude.{◌≡◌, ◌⊎◌, IfOk, IfErr, Some};
 ghost use Rattle.cdp_edge.specs.Outside.{Told, content_of};
 ghost use Rattle.command_line.specs.RequestHeld.{request_held};
-ghost use Rattle.command_line.specs.ReplayCauses.{BecauseJournal, BecauseReplay, ReplaysInPart, outcome_of_play};
+ghost use Rattle.command_line.specs.ReplayCauses.{BecauseJournal, BecauseReplay, ReplaysInPart, outcome_of_replay};
 ghost use Rattle.command_line.specs.RunCauses.{IsUnbegun};
 
+use crate::journal::{self, ReplayEnd};
 use crate::outcome::Outcome;
-use crate::play::{ReplayEnd, play};
 use crate::sources::read_sources;
 use crate::words::Request;
 use cdp_edge::{Shelf, ShelfFault, Sink};
 use std::alloc::Global;
 
-/// The end that the replay of a journal's lines has.
-fn outcome_of_play(end: ReplayEnd) -> Outcome<'static>
-    ensures { result ≡ outcome_of_play end }
+/// The end that the replay of a journal has.
+fn outcome_of_replay(end: ReplayEnd) -> Outcome<'static>
+    ensures { result ≡ outcome_of_replay end }
 {
     match end {
         ReplayEnd::Done => Outcome::Done,
-        ReplayEnd::Refused(number) => Outcome::LineRefused(number),
-        ReplayEnd::CannotWrite => Outcome::CannotWrite,
+        ReplayEnd::Refused { line } => Outcome::LineRefused(line),
+        ReplayEnd::WriteFault => Outcome::CannotWrite,
         ReplayEnd::Memory => Outcome::OutOfMemory,
     }
 }
@@ -61,7 +61,7 @@ pub(crate) fn replay<'w, F: Shelf, O: Sink>(
     };
     match read_sources(alloc, request.sources, shelf) {
         Ok(program) => {
-            let end = play(
+            let end = journal::replay(
                 alloc,
                 program.scripts,
                 program.input,
@@ -69,7 +69,7 @@ pub(crate) fn replay<'w, F: Shelf, O: Sink>(
                 &journal,
                 out,
             );
-            outcome_of_play(end)
+            outcome_of_replay(end)
         }
         Err(end) => end,
     }

@@ -24,7 +24,7 @@ pub(crate) struct Program {
 }
 
 /// The end that the fault of a file of this name is.
-fn outcome_of(name: &str, fault: FileFault) -> Outcome<'_>
+pub(crate) fn outcome_of(name: &str, fault: FileFault) -> Outcome<'_>
     ensures { result ≡ outcome_of name.entry fault }
 {
     match fault {

@@ -2,10 +2,14 @@
 ghost use Rattle.std.specs.Prelude.{◌≡◌, map, string_bytes};
 ghost use Rattle.std.specs.List.{list_any};
 ghost use Rattle.std.specs.Option.{option_and_then, option_map};
-ghost use Rattle.command_line.specs.Words.{asked, is_option, names_behind_input, names_of, replay_of, replay_words, run_of};
+ghost use Rattle.command_line.specs.Words.{asked, drill_numbered, drill_words, is_option, names_behind_input, names_of, replay_of, replay_words, run_of};
 ghost use Rattle.command_line.specs.RequestHeld.{command_held, names_held};
 
+use cdp_text::decimal::read_decimal;
 use cdp_text::parts::behind;
+
+/// The greatest number of a drill.
+const MOST_DRILLED: u64 = 10_000;
 
 /// The files of a program, by their names: the input, if there is one, and the scripts.
 #[derive(Clone, Copy)]
@@ -27,6 +31,8 @@ pub(crate) struct Request<'w> {
 pub(crate) enum Command<'w> {
     Run(Sources<'w>),
     Replay(Request<'w>),
+    /// The drill of this number.
+    Drill(u64),
 }
 
 /// The names behind a command, behind that of an input, if there is one.
@@ -37,8 +43,8 @@ struct Names<'w> {
 }
 
 /// What the words after the program's name ask for: `run SCRIPT...`, `replay JOURNAL SCRIPT...` or `replay --wait JOURNAL
-/// SCRIPT...`, with `--input FILE` or `--input=FILE` before the first name. No name begins with `-`, but for one behind
-/// `--input=`. None for all other words.
+/// SCRIPT...`, with `--input FILE` or `--input=FILE` before the first name, or `drill N` with N from 1 to 10,000. No name begins
+/// with `-`, but for one behind `--input=`. None for all other words.
 pub(crate) fn read_words(words: &[String]) -> Option<Command<'_>>
     ensures { option_map command_held result ≡ asked words.now }
 {
@@ -49,10 +55,34 @@ pub(crate) fn read_words(words: &[String]) -> Option<Command<'_>>
                 run_of(read_names(rest)?)
             } else if command.as_str() == "replay" {
                 read_replay(rest)
+            } else if command.as_str() == "drill" {
+                read_drill(rest)
             } else {
                 None
             }
         }
+    }
+}
+
+/// What the words behind `drill` ask for.
+fn read_drill(words: &[String]) -> Option<Command<'static>>
+    ensures { option_map command_held result ≡ drill_words (map string_bytes words.now) }
+{
+    match words {
+        [] => None,
+        [word] => drill_numbered(read_decimal(word.as_str())?),
+        [_, _, ..] => None,
+    }
+}
+
+/// A drill of this number, where there is one.
+fn drill_numbered(number: u64) -> Option<Command<'static>>
+    ensures { option_map command_held result ≡ drill_numbered number }
+{
+    if 1 <= number && number <= MOST_DRILLED {
+        Some(Command::Drill(number))
+    } else {
+        None
     }
 }
 

@@ -1,0 +1,114 @@
+-- What each end of a drill says of its script, its journal and its summary.
+use Rattle.std.proofs.Common.{◌≡◌, ◌⊎◌, ℕ, List, [], ◌∷◌, Bool, false, Option, Some, None, refl, sym, subst, inl, inr, append-nil}
+use Rattle.std.proofs.lemmas.Option.{same_Some}
+use Rattle.cdp_edge.specs.Outside.{Rose, gains, GainsLess, GainsPrefix}
+use Rattle.std.specs.Borrow.{Bor}
+use Rattle.cdp_journal.specs.Drills.{drill_journal, drill_source}
+use Rattle.cdp_journal.specs.Summaries.{summary}
+use Rattle.js_tree.specs.declared.script.Script.{Script}
+use Rattle.script_files.specs.Refusals.{IsRefused}
+use Rattle.script_files.specs.Scripts.{FailsAs}
+use Rattle.script_files.specs.declared.fault.FileFault.{FileFault}
+use Rattle.script_files.specs.declared.fault.FileFault.TheVariants as faults
+use Rattle.command_line.specs.DrillCauses.{BecauseDrill, BecauseJournalOf, BecauseScript, DrillsInPart, DrillsShort, DrillsWhole, IsDrilled, IsDrillScript, script_name}
+use Rattle.command_line.specs.RunCauses.{outcome_of}
+use Rattle.command_line.specs.Replays.{IsReplay, WritesReplay}
+use Rattle.command_line.specs.declared.outcome.Outcome.{Outcome}
+use Rattle.command_line.specs.declared.outcome.Outcome.TheVariants as ends
+
+-- ---- the replay in memory
+
+-- what is kept of a replay in memory is its output
+pub drilled : (n : ℕ) (script : Script) (scripts : List Script) (input : List (List ℕ)) (journal before now : List ℕ) (line : Option ℕ)
+    → scripts ≡ script ∷ [] → input ≡ [] → journal ≡ drill_journal n → before ≡ []
+    → WritesReplay scripts input false journal line (Some before) (Some now) → IsDrilled n script line now
+drilled n script scripts input journal before now line one none is began written =
+    let w : WritesReplay scripts input false journal line (Some []) (Some now) =
+    subst (λ (b : List ℕ). WritesReplay scripts input false journal line (Some b) (Some now)) began written in
+    let here : now ≡ w.output = same_Some now w.output w.whole in
+    let all : IsReplay scripts input false journal line now = subst (λ (o : List ℕ). IsReplay scripts input false journal line o) (sym here) w.replay in
+    let told : IsReplay scripts input false (drill_journal n) line now = subst (λ (j : List ℕ). IsReplay scripts input false j line now) is all in
+    let empty : IsReplay scripts [] false (drill_journal n) line now = subst (λ (i : List (List ℕ)). IsReplay scripts i false (drill_journal n) line now) none told in
+    subst (λ (s : List Script). IsReplay s [] false (drill_journal n) line now) one empty
+
+-- ---- causes
+
+-- why its script wasn't read, of bytes that weren't taken as a script
+pub unread-by : (name : Bor (List ℕ)) (fault : FileFault) (n : ℕ) (bytes : List ℕ) → name.now ≡ script_name → bytes ≡ drill_source n
+    → FailsAs fault [] bytes → BecauseScript (outcome_of name fault) n
+unread-by name (faults.Refused r) n bytes is same h = (is, subst (λ (b : List ℕ). IsRefused [] b r) same h)
+unread-by name faults.CannotRead n bytes is same h = absurd h
+unread-by name faults.Memory n bytes is same h = tt
+
+-- why a drill ended so whose script wasn't read
+pub unread-script : (end : Outcome) (n was : ℕ) (old : Option (List ℕ)) → BecauseScript end n → BecauseDrill end n was was old old
+unread-script ends.Done n was old h = absurd h
+unread-script (ends.Threw text) n was old h = absurd h
+unread-script ends.OutOfMemory n was old h = (refl, inl refl)
+unread-script ends.Usage n was old h = absurd h
+unread-script (ends.Refused name r) n was old h = (refl, refl, h.0, h.1)
+unread-script (ends.CannotRead name) n was old h = absurd h
+unread-script ends.CannotWrite n was old h = absurd h
+unread-script (ends.LineRefused line) n was old h = absurd h
+
+-- why it ended so whose journal wasn't replayed to its end
+pub unplayed : (end : Outcome) (n was : ℕ) (old : Option (List ℕ)) (script : Script) → IsDrillScript n script → BecauseJournalOf end n script
+    → BecauseDrill end n was was old old
+unplayed ends.Done n was old script is h = absurd h
+unplayed (ends.Threw text) n was old script is h = absurd h
+unplayed ends.OutOfMemory n was old script is h = (refl, inl refl)
+unplayed ends.Usage n was old script is h = absurd h
+unplayed (ends.Refused name r) n was old script is h = absurd h
+unplayed (ends.CannotRead name) n was old script is h = absurd h
+unplayed ends.CannotWrite n was old script is h = absurd h
+unplayed (ends.LineRefused line) n was old script is (output, replay) =
+    (refl, refl, record { script = script; is = is; output = output; replay = replay })
+
+-- ---- what is written of the summary
+
+-- not all of something is a first part of it
+less-part : (old new : Option (List ℕ)) (bytes : List ℕ) → GainsLess old new bytes → GainsPrefix old new bytes
+less-part old new bytes (part, rest, some, e, g) = (part, rest, e, g)
+
+pub wrote-all : (n : ℕ) (script : Script) (output text : List ℕ) (old new : Option (List ℕ)) → IsDrillScript n script → IsDrilled n script None output
+    → text ≡ summary output → new ≡ gains old text → DrillsWhole n old new
+wrote-all n script output text old new is replay sum whole = record {
+  script = script;
+  is = is;
+  output = output;
+  replay = replay;
+  whole = subst (λ (t : List ℕ). new ≡ gains old t) sum whole;
+}
+
+pub wrote-less : (n : ℕ) (script : Script) (output text : List ℕ) (old new : Option (List ℕ)) → IsDrillScript n script → IsDrilled n script None output
+    → text ≡ summary output → GainsLess old new text → DrillsShort n old new
+wrote-less n script output text old new is replay sum less = record {
+  script = script;
+  is = is;
+  output = output;
+  replay = replay;
+  less = subst (λ (t : List ℕ). GainsLess old new t) sum less;
+}
+
+pub wrote-part : (n : ℕ) (script : Script) (output text : List ℕ) (old new : Option (List ℕ)) → IsDrillScript n script → IsDrilled n script None output
+    → text ≡ summary output → GainsLess old new text → DrillsInPart n old new
+wrote-part n script output text old new is replay sum less = record {
+  script = script;
+  is = is;
+  output = output;
+  replay = replay;
+  part = subst (λ (t : List ℕ). GainsPrefix old new t) sum (less-part old new text less);
+}
+
+gained : (old new : Option (List ℕ)) (bytes : List ℕ) → new ≡ gains old bytes → GainsPrefix old new bytes
+gained old new bytes is = (bytes, [], sym (append-nil bytes), is)
+
+-- what is written whole is written in part
+pub whole-part : (n : ℕ) (old new : Option (List ℕ)) → DrillsWhole n old new → DrillsInPart n old new
+whole-part n old new w = record {
+  script = w.script;
+  is = w.is;
+  output = w.output;
+  replay = w.replay;
+  part = gained old new (summary w.output) w.whole;
+}

@@ -1,8 +1,0 @@
-use Rattle.std.proofs.Common.{◌≡◌, string_bytes}
-use Rattle.std.specs.Prelude.{flat_map}
-use Rattle.command_line.proofs.EscapeLemmas.{char_escaped}
-use Rattle.command_line.proofs.escape.escape.Given as goal
-
--- the characters so far
-abbrev pub invariant-loop-character : goal.invariant-loop-character
-invariant-loop-character l = string_bytes l.line ≡ flat_map char_escaped l.yielded
