@@ -1,5 +1,9 @@
 // The first messages of clients of a Node target, after their public sources, and a first look around.
-use crate::calls::each_call;
+use crate::calls::{each_call, shelf_of, words_of};
+use cdp_edge::MemSink;
+use command_line::debug_main;
+use std::process::Abort;
+use std::sync::Wait;
 use std::test::Fail;
 
 // A step of its own, two of the first line, five to the call, eight in it, and the print: 17.
@@ -315,4 +319,33 @@ const CALLS: [(&str, &str, &str, &str, u8, &str, &str); 4] = [
 #[test]
 fn clients_begin(rt: HostRuntime) -> Result<(), Fail> {
     each_call(&rt, &FILES, b"", &CALLS)
+}
+
+// The write of this number fails: the lines before it are taken, and no other byte.
+fn fails_at(rt: &(impl Abort + Wait + AllocGlobal), write: u64, taken: usize) -> Result<(), Fail> {
+    let words = words_of(rt.alloc(), "replay --wait common sum.js")?;
+    let mut shelf = shelf_of(rt.alloc(), &FILES, b"", "")?;
+    let mut out = MemSink::new(vec![in rt.alloc(); write]?);
+    let mut err = MemSink::new(Vec::new(rt.alloc()));
+    let status = debug_main(rt, rt.alloc(), &words, &mut shelf, &mut out, &mut err);
+    assert_eq!(rt; status, 5);
+    assert_eq!(rt; out.taken().len(), taken);
+    assert!(rt; COMMON_OUTPUT.as_bytes().starts_with(out.taken()));
+    assert_eq!(rt; err.taken(), b"debug_host: cannot write\n".as_slice());
+    Ok(())
+}
+
+#[test]
+fn each_write_fails_in_turn(rt: HostRuntime) -> Result<(), Fail> {
+    let mut write: u64 = 1;
+    let mut taken: usize = 0;
+    for line in COMMON_OUTPUT.split('\n') {
+        if !line.is_empty() {
+            fails_at(&rt, write, taken)?;
+            write = write.saturating_add(1);
+            taken = taken.saturating_add(line.len()).saturating_add(1);
+        }
+    }
+    assert_eq!(rt; write, 29);
+    Ok(())
 }

@@ -12,6 +12,8 @@ mod conditions;
 #[cfg(test)]
 mod debugging;
 #[cfg(test)]
+mod drills;
+#[cfg(test)]
 mod edges;
 #[cfg(test)]
 mod evaluations;
