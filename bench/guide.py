@@ -3,8 +3,8 @@
 
     python3 bench/guide.py [--bin PROGRAM]
 
-Each command is run by bash in one folder of its own, with the program as ./debug_host. Prints each command that printed
-something else, and the counts; the status is 1 where there is one.
+Each command is run by bash in one folder of its own, with the program as ./debug_host and the files of examples/. Prints each
+command that printed something else, and the counts; the status is 1 where there is one.
 """
 
 import argparse
@@ -14,6 +14,7 @@ import sys
 import tempfile
 
 HERE = os.path.dirname(os.path.abspath(__file__))
+EXAMPLES = os.path.join(HERE, "..", "examples")
 PROGRAM = os.path.join(HERE, "..", "crates", "debug_host", "out", "debug_host")
 
 
@@ -44,6 +45,7 @@ def main():
     wrong = 0
     with tempfile.TemporaryDirectory() as folder:
         os.symlink(os.path.abspath(asked.bin), os.path.join(folder, "debug_host"))
+        os.symlink(os.path.abspath(EXAMPLES), os.path.join(folder, "examples"))
         for command, wanted in listed:
             done = subprocess.run(["bash", "-c", command], cwd=folder, stdout=subprocess.PIPE, stderr=subprocess.STDOUT)
             printed = done.stdout.decode("utf-8", "replace")

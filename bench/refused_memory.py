@@ -1,5 +1,5 @@
 #!/usr/bin/env python3
-"""Refuses the program's allocations one after another, over the example and the stored run.
+"""Refuses the program's allocations one after another, over two examples and the stored run.
 
     python3 bench/refused_memory.py [FIRST LAST]        (default 1 40)
 
@@ -17,14 +17,16 @@ TOP = os.path.dirname(os.path.dirname(os.path.abspath(__file__)))
 CRATE = os.path.join(TOP, "crates", "debug_host")
 RUNS = [
     ("examples/pause.journal", "examples/counters.js", "examples/pause.output"),
+    ("examples/two.journal", "examples/sum.js", "examples/two.output"),
     ("crates/debug_host/data/first.journal", "crates/debug_host/data/empty.js", "crates/debug_host/stdout"),
 ]
 
 
 def run(journal, script, number):
     command = ["rt", "try", "--fail-alloc", str(number)]
-    command += ["--data", f"journal={os.path.join(TOP, journal)}", "--data", f"script={os.path.join(TOP, script)}"]
-    command += ["--", "replay", "journal", "script"]
+    # under their own names, since a script's name is its url
+    command += ["--data", f"{journal}={os.path.join(TOP, journal)}", "--data", f"{script}={os.path.join(TOP, script)}"]
+    command += ["--", "replay", journal, script]
     ended = subprocess.run(command, cwd=CRATE, capture_output=True, text=True)
     return ended.returncode, ended.stdout, ended.stderr
 
