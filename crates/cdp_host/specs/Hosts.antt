@@ -183,9 +183,9 @@ pub record FallsBack (old new : HostState) : Type 0 where
 -- ---- every host
 
 -- What holds of every host: its machine has the code of its scripts, and beside them stand where their lines begin and
--- where their break locations are. Until want of memory breaks it, all texts were handed out, the machine isn't given up,
--- no loss is to be handed out, and there is room for what it falls back to with so many seats; then it has no session,
--- nor has what it falls back to. The texts that wait fit.
+-- where their break locations are. Until want of memory breaks it, all texts were handed out, the machine isn't given
+-- up, no loss is to be handed out, and there is room for what it falls back to with so many seats; then it has no
+-- session, nor has what it falls back to. The texts that wait fit.
 pub record IsSound (scripts : List Script) (starts : List (List ℕ)) (found : List (List Spot)) (machine : Machine) (broken : Bool) (seats : List (Seat Session)) (count : ℕ) (fallback : HeldFallback) (fallen : List SessionLost) : Type 0 where
   pub lines : AreLines scripts starts
   pub spots : found ≡ map break_locations scripts
