@@ -1,4 +1,4 @@
-use Rattle.std.proofs.Common.{◌+◌, ℕ, length, ap, subst, sym, ◌∙◌}
+use Rattle.std.proofs.Common.{◌+◌, ℕ, length, Result, Ok, Err, OnErr, ap, subst, sym, ◌∙◌}
 use Rattle.isolation.specs.Histories.{Attach}
 use Rattle.pure_eval.specs.Workspaces.{Workspace, begun}
 use Rattle.cdp_session.specs.Sessions.{fresh}
@@ -8,6 +8,22 @@ use Rattle.cdp_host.specs.Programs.{code_of}
 use Rattle.cdp_host.proofs.CallLemmas.{attach-fit, attach-leaves, attach-stands, sound-more}
 use Rattle.cdp_host.proofs.ViewLemmas.{seen_as}
 use Rattle.cdp_host.proofs.host.Host.attach.Goals as goal
+
+on-err : {T E : Type 0} (r : Result T E) (P : Type 0) → P → OnErr r P
+on-err (Ok value) P p = tt
+on-err (Err fault) P p = p
+
+pub returns-in_err-reserve-clause-err : goal.returns-in_err-reserve-clause-err
+returns-in_err-reserve-clause-err c =
+    let a = c.self.inside in
+    let V : Fallback → HostState = λ f. record {
+      scripts = a.scripts.items;
+      meaning = record { program = record { machine = a.machine; heap = a.heap }; phase = a.phase; stop = a.stop; stops = a.stops; shut = a.shut; seats = a.seats.items };
+      broken = a.broken;
+      fallback = f;
+      fallen = a.fallen.items;
+    } in
+    on-err c.from_residual-in_err-reserve.result _ (ap V c.in_err-reserve.ensures.same ∙ c.self.view_is)
 
 pub invariant_of-self-2 : goal.invariant_of-self-2
 invariant_of-self-2 c =
