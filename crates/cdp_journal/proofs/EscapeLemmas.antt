@@ -1,9 +1,10 @@
 -- Texts of one line, character by character.
 use Rattle.std.proofs.Common.{◌≡◌, ◌≢◌, ℕ, suc, ◌<◌, ◌∷◌, List, [], ◌++◌, length, get_or, refl, ap, sym, ◌∙◌, append_assoc, append-nil, arith}
-use Rattle.std.specs.Prelude.{encode_utf8, encode_utf8_all, flat_map}
-use Rattle.std.proofs.lemmas.Bool.{ne_eqb}
+use Rattle.std.specs.Prelude.{Bool, true, false, not, codes, ◌==◌, ◌&&◌, if◌then◌else◌, encode_utf8, encode_utf8_all, flat_map}
+use Rattle.std.specs.List.{list_all}
+use Rattle.std.proofs.lemmas.Bool.{and_parts, false≢true, ne_eqb}
 use Rattle.std.proofs.lemmas.Str.{inside_one}
-use Rattle.cdp_journal.specs.Escapes.{escaped, byte_escaped}
+use Rattle.cdp_journal.specs.Escapes.{byte_escaped, escaped, is_plain}
 
 pub escaped-append : (xs ys : List ℕ) → escaped (xs ++ ys) ≡ escaped xs ++ escaped ys
 escaped-append [] ys = refl
@@ -40,3 +41,18 @@ char_escaped c = escaped (encode_utf8 c)
 pub escaped-all : (cs : List ℕ) → flat_map char_escaped cs ≡ escaped (encode_utf8_all cs)
 escaped-all [] = refl
 escaped-all (c ∷ cs) = ap (λ rest. escaped (encode_utf8 c) ++ rest) (escaped-all cs) ∙ sym (escaped-append (encode_utf8 c) (encode_utf8_all cs))
+
+-- ---- a text that is written as it is
+
+plain_byte : (percent feed return : Bool) (byte : ℕ) → (not percent && not feed && not return) ≡ true
+    → (if percent then codes "%25" else if feed then codes "%0A" else if return then codes "%0D" else byte ∷ []) ≡ byte ∷ []
+plain_byte false false false byte h = refl
+plain_byte false false true byte h = absurd (false≢true h)
+plain_byte false true return byte h = absurd (false≢true h)
+plain_byte true feed return byte h = absurd (false≢true h)
+
+pub plain-escaped : (bytes : List ℕ) → list_all is_plain bytes ≡ true → escaped bytes ≡ bytes
+plain-escaped [] h = refl
+plain-escaped (byte ∷ bytes) h =
+    let both = and_parts (is_plain byte) (list_all is_plain bytes) h in
+    rw (plain_byte (byte == 37) (byte == 10) (byte == 13) byte both.0, plain-escaped bytes both.1) refl

@@ -1,5 +1,5 @@
 -- Texts of one line: `%`, LF and CR are written as `%25`, `%0A` and `%0D`.
-use Rattle.std.specs.Prelude.{ℕ, List, [], ◌∷◌, ◌++◌, Bool, ◌==◌, ◌&&◌, ◌||◌, if◌then◌else◌, codes, Option, Some, None}
+use Rattle.std.specs.Prelude.{ℕ, List, [], ◌∷◌, ◌++◌, Bool, ◌==◌, ◌&&◌, ◌||◌, not, if◌then◌else◌, codes, Option, Some, None}
 use Rattle.std.specs.Option.{option_and_then, option_map}
 use Rattle.cdp_text.specs.Units.{utf8_of}
 
@@ -9,6 +9,10 @@ use Rattle.cdp_text.specs.Units.{utf8_of}
 abbrev pub byte_escaped : ℕ → List ℕ
 byte_escaped byte =
     if byte == 37 then codes "%25" else if byte == 10 then codes "%0A" else if byte == 13 then codes "%0D" else byte ∷ []
+
+-- a byte that is written as it is
+abbrev pub is_plain : ℕ → Bool
+is_plain byte = not (byte == 37) && not (byte == 10) && not (byte == 13)
 
 -- what a text is written as
 abbrev pub escaped : List ℕ → List ℕ

@@ -1,8 +1,8 @@
 //! Texts of one line.
 ghost use Rattle.std.specs.Prelude.{◌≡◌, ◌∷◌, ◌++◌, ℕ, Some, None, OnOk, IfOk, IfSome, IfNone, string_bytes, encode_utf8};
-ghost use Rattle.std.specs.List.{list_any};
+ghost use Rattle.std.specs.List.{list_all, list_any};
 ghost use Rattle.std.specs.Option.{option_map};
-ghost use Rattle.cdp_journal.specs.Escapes.{escaped, is_line_end, stands_for, unescaped, unescaped_form};
+ghost use Rattle.cdp_journal.specs.Escapes.{escaped, is_line_end, is_plain, stands_for, unescaped, unescaped_form};
 
 use cdp_text::parts::{behind, halves};
 use std::alloc::{AllocError, Global};
@@ -22,10 +22,22 @@ fn push_escaped(text: &mut String, character: char) -> Result<(), AllocError>
     }
 }
 
+/// Whether a text is written as it is.
+fn is_plain(text: &str) -> bool
+    ensures { result ≡ list_all is_plain text.now }
+{
+    text.as_bytes()
+        .iter()
+        .all(|byte| *byte != b'%' && *byte != b'\n' && *byte != b'\r')
+}
+
 /// The text with `%`, LF and CR as `%25`, `%0A` and `%0D`.
 pub fn escape(alloc: Global, text: &str) -> Result<String, AllocError>
     ensures { IfOk result (λ line. string_bytes line ≡ escaped text.now) }
 {
+    if is_plain(text) {
+        return String::from_str(alloc, text);
+    }
     let mut line = String::new(alloc);
     for character in text.chars() {
         push_escaped(&mut line, character)?;
