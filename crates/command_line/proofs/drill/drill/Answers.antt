@@ -40,7 +40,7 @@ pub returns-clause-cause : goal.returns-clause-cause
 returns-clause-cause g c = (
   c.in-Err-Memory.ensures.memory (ap (λ fault. Err fault) c.in-Err-Memory.field-0-is),
   inr (wrote-part c.args.number c.in-Ok.script c.in-Ok-replay_over.transcript.bytes.items c.deref.result.now _ _ c.in-Ok.ensures.script c.in-Ok-replay_over.ensures.output
-  (c.deref.ensures.value ∙ c.in-Ok-summary.ensures ∙ ap summary c.bytes.ensures) c.in-Err-Memory.ensures.err),
+      (c.deref.ensures.value ∙ c.in-Ok-summary.ensures ∙ ap summary c.bytes.ensures) c.in-Err-Memory.ensures.err),
 )
 
 pub returns-clause-part : goal.returns-clause-part
