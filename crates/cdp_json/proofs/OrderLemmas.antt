@@ -1,14 +1,16 @@
 -- The order of members, as places and as the members themselves.
-use Rattle.std.proofs.Common.{◌≡◌, ℕ, suc, ◌+◌, ◌<◌, List, [], ◌∷◌, ◌++◌, length, get_or, map, zero, refl, sym, ap, ◌∙◌, arith, Bor, Ordering, Less, Equal, Greater}
-use Rattle.std.specs.Prelude.{fold, All}
-use Rattle.std.specs.Ordering.{nat_cmp, match_ordering, ordering_then}
-use Rattle.std.specs.Cmp.{nat_cmp_is}
-use Rattle.std.specs.Cmp.Lexicographic.{slice_cmp}
+use Rattle.std.proofs.Common.{◌≡◌, ℕ, suc, ◌+◌, ◌-◌, ◌≤◌, ◌<◌, List, [], ◌∷◌, ◌++◌, length, get_or, map, zero, refl, sym, ap, ◌∙◌, arith, subst, Bor, Ordering, Less, Equal, Greater}
+use Rattle.std.specs.Prelude.{Bool, true, false, not, ◌&&◌, Some, fold, All}
+use Rattle.std.specs.Ordering.{is_gt, is_some_and, nat_cmp, match_ordering, ordering_reverse, ordering_then}
+use Rattle.std.specs.Cmp.{nat_cmp_is, tied_itself, upto}
+use Rattle.std.specs.Cmp.Lexicographic.{lists_agrees, slice_cmp, slice_partial_cmp}
+use Rattle.std.proofs.lemmas.Bool.{and_parts, false≢true, true≢false}
+use Rattle.std.proofs.lemmas.Cmp.{nat_list_cmp_total}
 use Rattle.std.specs.List.{range_with_len}
 use Rattle.std.proofs.lemmas.List.Sums.{fold-append}
 use Rattle.std.proofs.lemmas.Map.Views.{All-insert_key}
 use Rattle.std.specs.BTreeSet.{insert_key}
-use Rattle.cdp_json.specs.KeyOrder.{insert_by, in_order, key_at}
+use Rattle.cdp_json.specs.KeyOrder.{ascends, insert_by, in_order, key_at, order_of}
 
 -- ---- the order of what a function gives
 
@@ -92,3 +94,83 @@ pub places_below : (keys : List (List ℕ)) (n : ℕ) (xs : List (Bor (List ℕ)
 places_below keys n [] all k d lt = omega (arith, lt)
 places_below keys n (x ∷ xs) all zero d lt = (all 0 x (omega arith)).1
 places_below keys n (x ∷ xs) all (suc k) d lt = places_below keys n xs (λ i e l. all (suc i) e (omega (arith, l))) k d (omega (arith, lt))
+
+-- ---- keys that ascend
+
+-- the test of two texts
+pub greater : (xs ys : List ℕ) → is_some_and is_gt (slice_partial_cmp (λ x y. Some (nat_cmp x y)) xs ys) ≡ is_gt (slice_cmp nat_cmp xs ys)
+greater xs ys = ap (is_some_and is_gt) (lists_agrees (λ x y. refl) xs ys)
+
+pub falls : (key next : List ℕ) (keys : List (List ℕ)) → is_gt (slice_cmp nat_cmp key next) ≡ true → ascends (key ∷ next ∷ keys) ≡ false
+falls key next keys h = ap (λ b. not b && ascends (next ∷ keys)) h
+
+pub rises : (key next : List ℕ) (keys : List (List ℕ)) → is_gt (slice_cmp nat_cmp key next) ≡ false → ascends (key ∷ next ∷ keys) ≡ ascends (next ∷ keys)
+rises key next keys h = ap (λ b. not b && ascends (next ∷ keys)) h
+
+pub only-one : {A : Type 0} (f : A → List ℕ) (key : List ℕ) (xs : List A) → length xs ≡ 0 → ascends (key ∷ map f xs) ≡ true
+only-one f key [] h = refl
+only-one f key (x ∷ xs) h = absurd (omega (arith, h))
+
+-- a key behind others that are at most it stays there
+last_by : {A : Type 0} (key : A → List ℕ) (x y : A) (ys zs : List A) (o : Ordering) → is_gt (ordering_reverse o) ≡ false
+    → zs ≡ ys ++ x ∷ []
+    → match_ordering o (x ∷ y ∷ ys) (y ∷ zs) (y ∷ zs) ≡ y ∷ (ys ++ x ∷ [])
+last_by key x y ys zs Less h e = absurd (true≢false h)
+last_by key x y ys zs Equal h e = ap (λ r. y ∷ r) e
+last_by key x y ys zs Greater h e = ap (λ r. y ∷ r) e
+
+insert_last : (key : ℕ → List ℕ) (x a n : ℕ)
+    → ((i : ℕ) → a ≤ i → i < a + n → is_gt (slice_cmp nat_cmp (key i) (key x)) ≡ false)
+    → insert_by key x (range_with_len a n) ≡ range_with_len a n ++ x ∷ []
+insert_last key x a zero below = refl
+insert_last key x a (suc n) below =
+    last_by key x a (range_with_len (a + 1) n) (insert_by key x (range_with_len (a + 1) n)) (slice_cmp nat_cmp (key x) (key a))
+    (ap is_gt (sym (nat_list_cmp_total.antisymm (key a) (key x))) ∙ below a (omega arith) (omega arith))
+    (insert_last key x (a + 1) n (λ i from to. below i (omega (arith, from)) (omega (arith, to))))
+
+risen : (b : Bool) → not b ≡ true → b ≡ false
+risen false h = refl
+risen true h = absurd (false≢true h)
+
+next-at_most : (keys : List (List ℕ)) (i : ℕ) → ascends keys ≡ true → suc i < length keys
+    → is_gt (slice_cmp nat_cmp (key_at keys i) (key_at keys (suc i))) ≡ false
+next-at_most [] i h within = absurd (omega (arith, within))
+next-at_most (key ∷ []) i h within = absurd (omega (arith, within))
+next-at_most (key ∷ next ∷ keys) zero h within = risen (is_gt (slice_cmp nat_cmp key next)) (and_parts _ _ h).0
+next-at_most (key ∷ next ∷ keys) (suc i) h within = next-at_most (next ∷ keys) i (and_parts _ _ h).1 (omega (arith, within))
+
+-- by how many places they are apart
+later-at_most : (keys : List (List ℕ)) (i d p : ℕ) → ascends keys ≡ true → p ≡ i + d → p < length keys
+    → is_gt (slice_cmp nat_cmp (key_at keys i) (key_at keys p)) ≡ false
+later-at_most keys i zero p h is within =
+    subst (λ q. is_gt (slice_cmp nat_cmp (key_at keys i) (key_at keys q)) ≡ false) (omega (arith, is)) (ap is_gt (tied_itself nat_list_cmp_total (key_at keys i)))
+later-at_most keys i (suc d) zero h is within = absurd (omega (arith, is))
+later-at_most keys i (suc d) (suc p) h is within =
+    upto nat_list_cmp_total (key_at keys i) (key_at keys p) (key_at keys (suc p)) (later-at_most keys i d p h (omega (arith, is)) (omega (arith, within))) (next-at_most keys p h within)
+
+in_order-ascending : (keys : List (List ℕ)) (n : ℕ) → ascends keys ≡ true → n ≤ length keys
+    → in_order (key_at keys) (range_with_len 0 n) ≡ range_with_len 0 n
+in_order-ascending keys zero h within = refl
+in_order-ascending keys (suc n) h within =
+    let next : suc n ≡ n + 1 = omega arith in
+    let last : n ≡ 0 + n = omega arith in
+    ap (λ m. in_order (key_at keys) (range_with_len 0 m)) next
+    ∙ in_order-place (key_at keys) n
+    ∙ ap (insert_by (key_at keys) n) (in_order-ascending keys n h (omega (arith, within)))
+    ∙ insert_last (key_at keys) n 0 n (λ i from to. later-at_most keys i (n - i) n h (omega (arith, to)) (omega (arith, within)))
+    ∙ ap (λ i. range_with_len 0 n ++ i ∷ []) last
+    ∙ sym (range-more 0 n)
+
+pub order-ascending : (keys : List (List ℕ)) → ascends keys ≡ true → order_of keys ≡ range_with_len 0 (length keys)
+order-ascending keys h = in_order-ascending keys (length keys) h (omega arith)
+
+pub range-next : (n : ℕ) → range_with_len 0 (n + 1) ≡ range_with_len 0 n ++ n ∷ []
+range-next n =
+    let next : n + 1 ≡ suc n = omega arith in
+    let last : 0 + n ≡ n = omega arith in
+    ap (range_with_len 0) next ∙ range-more 0 n ∙ ap (λ i. range_with_len 0 n ++ i ∷ []) last
+
+pub range-below : (a n m : ℕ) → a + n ≡ m → All (λ place. place < m) (range_with_len a n)
+range-below a zero m is k d lt = absurd (omega (arith, lt))
+range-below a (suc n) m is zero d lt = omega (arith, is)
+range-below a (suc n) m is (suc k) d lt = range-below (a + 1) n m (omega (arith, is)) k d (omega (arith, lt))

@@ -1,6 +1,6 @@
 -- The order in which an object's members are written: by the units of their keys, and equal keys as they were given.
-use Rattle.std.specs.Prelude.{ℕ, List, [], ◌∷◌, length, get_or, fold}
-use Rattle.std.specs.Ordering.{nat_cmp, match_ordering}
+use Rattle.std.specs.Prelude.{ℕ, List, [], ◌∷◌, Bool, true, not, ◌&&◌, length, get_or, fold}
+use Rattle.std.specs.Ordering.{is_gt, nat_cmp, match_ordering}
 use Rattle.std.specs.Cmp.Lexicographic.{slice_cmp}
 use Rattle.std.specs.List.{range_with_len}
 
@@ -20,3 +20,9 @@ key_at keys place = get_or keys place []
 -- the places of keys, in the order of these keys
 abbrev pub order_of : List (List ℕ) → List ℕ
 order_of keys = in_order (key_at keys) (range_with_len 0 (length keys))
+
+-- each key is at most the one behind it
+abbrev pub ascends : List (List ℕ) → Bool
+ascends [] = true
+ascends (key ∷ []) = true
+ascends (key ∷ next ∷ keys) = not (is_gt (slice_cmp nat_cmp key next)) && ascends (next ∷ keys)

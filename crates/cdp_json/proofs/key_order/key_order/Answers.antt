@@ -1,9 +1,22 @@
 use Rattle.std.proofs.Common.{rules, ◌≡◌, ◌∷◌, [], ◌++◌, ◌+◌, ◌<◌, List, ℕ, Bor, map, length, ap, sym, ◌∙◌, arith, append_assoc, append-nil, subst, ◌≤◌}
-use Rattle.std.specs.Prelude.{All}
-use Rattle.std.proofs.lemmas.List.{get_or-map, map-append}
-use Rattle.cdp_json.specs.KeyOrder.{insert_by, key_at}
-use Rattle.cdp_json.proofs.OrderLemmas.{Placed, insert_place, still_placed, in_order-place, places_below}
+use Rattle.std.specs.Prelude.{All, IfOk}
+use Rattle.std.specs.List.{range_with_len}
+use Rattle.std.proofs.lemmas.List.{get_or-map, length-map, map-append}
+use Rattle.std.proofs.lemmas.Result.{IfOk-weaker}
+use Rattle.cdp_json.specs.KeyOrder.{insert_by, key_at, order_of}
+use Rattle.cdp_json.proofs.OrderLemmas.{Placed, insert_place, still_placed, in_order-place, order-ascending, places_below, range-below}
 use Rattle.cdp_json.proofs.key_order.key_order.Goals as goal
+
+pub returns-then-ascends-clause-order : goal.returns-then-ascends-clause-order
+returns-then-ascends-clause-order c =
+    let keys = map (λ m. m.key) c.args.members.now in
+    let order = order-ascending keys (sym c.ascends.ensures ∙ c.if-ascends.true) ∙ ap (range_with_len 0) (length-map c.args.members.now (λ m. m.key)) in
+    rw order c.places_to.ensures
+
+pub returns-then-ascends-clause-within : goal.returns-then-ascends-clause-within
+returns-then-ascends-clause-within c =
+    IfOk-weaker c.places_to.result (λ places. places.items ≡ range_with_len 0 (length c.args.members.now)) (λ places. All (λ place. place < length c.args.members.now) places.items)
+    (λ places is. subst (λ ps. All (λ place. place < length c.args.members.now) ps) (sym is) (range-below 0 (length c.args.members.now) _ (omega arith))) c.places_to.ensures
 
 pub loop-place-preserved : goal.loop-place-preserved
 loop-place-preserved c =
