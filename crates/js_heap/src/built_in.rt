@@ -14,7 +14,7 @@ pub enum BuiltIn {
     ReadLine,
     /// A constructor of errors, called as a function (ECMA-262, 20.5.1.1).
     MakeError(ErrorClass),
-    /// `Object.keys` (20.1.2.19)
+    /// `Object.keys` (20.1.2.18)
     ObjectKeys,
     /// `Array.isArray` (23.1.2.2)
     ArrayIsArray,
@@ -32,7 +32,7 @@ pub enum BuiltIn {
     ArraySlice,
     /// `indexOf` of a string (22.1.3.9)
     StringIndexOf,
-    /// `slice` of a string (22.1.3.22)
+    /// `slice` of a string (22.1.3.21)
     StringSlice,
     /// `charCodeAt` of a string (22.1.3.3)
     StringCharCodeAt,

@@ -152,7 +152,7 @@ pub fn new_array<W: World>(world: &mut W, names: &Names, elements: Values) -> Re
     Ok(Value::Object(a))
 }
 
-/// `Object.keys` (20.1.2.19)
+/// `Object.keys` (20.1.2.18)
 fn keys_of<W: World>(
     alloc: Global,
     world: &mut W,

@@ -108,7 +108,7 @@ fn indices(alloc: Global, values: &[Value]) -> Result<Vec<Units>, AllocError>
     Ok(keys)
 }
 
-/// The enumerable own keys in order (ECMA-262, 20.1.2.19).
+/// The enumerable own keys in order (ECMA-262, 20.1.2.18).
 fn keys_of_stored(alloc: Global, cell: Option<&Stored>) -> Result<Vec<Units>, AllocError>
     ensures { IfOk result (λ keys. (names : List (List ℕ)) → keys.items ≡ keys_of_cell (cell_at names (option_copied cell.entry))) }
 {
@@ -120,7 +120,7 @@ fn keys_of_stored(alloc: Global, cell: Option<&Stored>) -> Result<Vec<Units>, Al
     }
 }
 
-/// The enumerable own keys of the object at an address in order (20.1.2.19).
+/// The enumerable own keys of the object at an address in order (20.1.2.18).
 pub fn keys_at<W: World>(
     alloc: Global,
     world: &W,

@@ -38,7 +38,7 @@ fn occurrence_of<W: World>(
     }
 }
 
-/// `slice` (22.1.3.22)
+/// `slice` (22.1.3.21)
 #[tactic(auto, using(crate::proofs::CallLemmas::slice_rules))]
 fn string_slice<W: World>(
     alloc: Global,

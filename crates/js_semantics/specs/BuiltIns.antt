@@ -68,7 +68,7 @@ abbrev pub enumerable_keys : List Property → List (List ℕ)
 enumerable_keys [] = []
 enumerable_keys (p ∷ ps) = if p.enumerable then p.key ∷ enumerable_keys ps else enumerable_keys ps
 
--- the enumerable own keys in order; a text has none here (20.1.2.19)
+-- the enumerable own keys in order; a text has none here (20.1.2.18)
 abbrev pub keys_of_cell : Option Cell → List (List ℕ)
 keys_of_cell (Some (cells.Object ps)) = enumerable_keys ps
 keys_of_cell (Some (cells.Error class ps)) = enumerable_keys ps
@@ -149,7 +149,7 @@ join w vs values.Undefined = joined_or_fail (codes ",") (joined_parts w vs)
 join w vs (values.Text a) = joined_or_fail (units_at w a) (joined_parts w vs)
 join w vs _ = wrong_type
 
--- ---- parts of arrays and strings (23.1.3.28, 22.1.3.22)
+-- ---- parts of arrays and strings (23.1.3.28, 22.1.3.21)
 
 -- the place that an argument names in so many: negative ones count from the end, and all are clamped; None where it is no number
 abbrev pub place : ℕ → ℕ → Value → Option ℕ

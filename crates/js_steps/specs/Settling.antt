@@ -46,7 +46,7 @@ closing_of ops.Finishing = closings.Finally
 closing_of ops.Ending = closings.Ending
 closing_of op = closings.Waits
 
--- a `for .. of` behind a turn, by its entry
+-- a `for .. of` behind a turn, by its entry; a number that names no entry gives the form `this` over the parts
 abbrev pub next_turn_term : List (List ℕ) → Option ForOfEntry → ℕ → Terms → Terms → Term
 next_turn_term ts None i now later = part this now later
 next_turn_term ts (Some e) i now later = part (turn_of (binding_at ts e.slot) i) end later

@@ -45,7 +45,7 @@ ArePreviews w [] (j ∷ js) = ⊥
 ArePreviews w (k ∷ ks) [] = ⊥
 ArePreviews w (k ∷ ks) (j ∷ js) = ((value : Value) × (j ≡ property_preview w (entry k value))) × ArePreviews w ks js
 
--- a preview lists the first of the keys that `Object.keys` gives (ECMA-262, 20.1.2.19)
+-- a preview lists the first of the keys that `Object.keys` gives (ECMA-262, 20.1.2.18)
 abbrev pub ListsFirstKeys : Type 0
 ListsFirstKeys = (w : World) (cell : Option Cell) → ArePreviews w (take (most_listed cell) (keys_of_cell cell)) (listed w cell).first
 
