@@ -74,6 +74,7 @@ mutual
 abbrev pub object_value : Tried Addr → Tried Value
 object_value t = after_try t (λ a w. fine (values.Object a) w)
 
+-- the values of JSON values, of the elements of an array and of the members of an object, with the world that has their cells
 abbrev mutual
   -- the value of a JSON value: each part before its whole, from left to right
   pub make_json : World → Json → Tried Value
@@ -84,10 +85,12 @@ abbrev mutual
   make_json w (json_array js) = after_try (make_jsons w js) (λ vs v. object_value (make_cell v (cells.Array vs)))
   make_json w (json_object ms) = after_try (make_members w [] ms) (λ ps v. object_value (make_cell v (cells.Object ps)))
 
+  -- the values of the elements of a JSON array, from the first to the last
   pub make_jsons : World → Jsons → Tried (List Value)
   make_jsons w no_jsons = fine [] w
   make_jsons w (a_json j js) = after_try (make_json w j) (λ x v. after_try (make_jsons v js) (λ xs u. fine (x ∷ xs) u))
 
+  -- properties, with those that the members of a JSON object make put among them, from the first to the last
   pub make_members : World → List Property → Members → Tried (List Property)
   make_members w ps no_members = fine ps w
   make_members w ps (a_member key j ms) = after_try (make_json w j) (λ x v. make_members v (put_property ps key x) ms)

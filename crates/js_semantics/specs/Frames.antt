@@ -88,6 +88,7 @@ abbrev pub is_catching : Form → Bool
 is_catching (catching n) = true
 is_catching f = false
 
+-- whether a `catch` will take a throw at the part about to be reduced, in a term and in parts
 abbrev mutual
   -- an enclosing `try` with a `catch`, in any frame, has the part about to be reduced within its block
   pub is_caught : Term → Bool
@@ -95,6 +96,7 @@ abbrev mutual
   is_caught (standing v place) = false
   is_caught (part f now later) = if is_catching f then true else is_caught_in now
 
+  -- the same of parts: of the first one that isn't done
   pub is_caught_in : Terms → Bool
   is_caught_in end = false
   is_caught_in (more (done v) ts) = is_caught_in ts
@@ -132,6 +134,7 @@ shown_frames a [] = []
 shown_frames a (f ∷ []) = in_bottom a f ∷ []
 shown_frames a (f ∷ g ∷ fs) = f ∷ shown_frames a (g ∷ fs)
 
+-- the innermost scope of each active frame, in a term and in parts
 abbrev mutual
   -- the innermost scope of each active frame, from the bottom to the top, behind the scope around the term
   pub scopes_at : Addr → Term → List Addr
@@ -140,6 +143,7 @@ abbrev mutual
   scopes_at scope (part (frame node a) now later) = scope ∷ scopes_in a now
   scopes_at scope (part f now later) = scopes_in (scope_in f scope) now
 
+  -- the same of parts: those of the first one that isn't done, in the scope around them
   pub scopes_in : Addr → Terms → List Addr
   scopes_in scope end = scope ∷ []
   scopes_in scope (more (done v) ts) = scopes_in scope ts

@@ -14,6 +14,7 @@ use Rattle.js_semantics.specs.Next.{next}
 
 -- ---- the cells of string literals, which are made before the first step
 
+-- the string literals of a part and of parts, each as its units
 abbrev mutual
   -- the string literals of a part, in order
   pub literals : Term → List (List ℕ)
@@ -22,10 +23,12 @@ abbrev mutual
   literals (part (literal us) now later) = us ∷ []
   literals (part f now later) = literals_of now ++ literals_of later
 
+  -- the string literals of parts, in order
   pub literals_of : Terms → List (List ℕ)
   literals_of end = []
   literals_of (more t ts) = literals t ++ literals_of ts
 
+-- a part and parts, in which each string literal has become the address of its cell
 abbrev mutual
   -- the part with the address of its cell in place of each literal, from a number on
   pub with_literals : (ℕ → Addr) → ℕ → Term → Term
@@ -34,6 +37,7 @@ abbrev mutual
   with_literals at n (part (literal us) now later) = done (values.Text (at n))
   with_literals at n (part f now later) = part f (all_with_literals at n now) (all_with_literals at (n + length (literals_of now)) later)
 
+  -- the parts with the addresses of their cells, from a number on for the first literal
   pub all_with_literals : (ℕ → Addr) → ℕ → Terms → Terms
   all_with_literals at n end = end
   all_with_literals at n (more t ts) = more (with_literals at n t) (all_with_literals at (n + length (literals t)) ts)
