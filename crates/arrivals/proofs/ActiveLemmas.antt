@@ -15,7 +15,7 @@ use Rattle.js_semantics.specs.State.{Frame, State, top_spot}
 use Rattle.js_semantics.specs.Frames.{Active, reduces, stands, nothing_left, Leftmost, only_values, inner, behind, active_of, active, leftmost, offset_of, arrival, is_debugger, in_bottom, shown_frames, scopes_at, with_scopes, reversed_onto, frame_at}
 use Rattle.locations.specs.declared.spot.SpotKind.TheVariants as kinds
 use Rattle.locations.specs.declared.marks.Marked.{Marked}
-use Rattle.arrivals.specs.Belonging.{HasMark, FirstReturns, Closes, FormBelongs, Sources, top, top_marks, sources_of, Stands, AllStand, ScriptStands, ScriptsStand, RunningStands}
+use Rattle.arrivals.specs.Belonging.{HasMark, FirstReturns, Closes, FormBelongs, Sources, top, top_marks, sources_of, TermStands, AllStand, ScriptStands, ScriptsStand, RunningStands}
 use Rattle.arrivals.proofs.StepLemmas.{Inside, opened}
 
 -- ---- what is about to be reduced
@@ -103,7 +103,7 @@ inside-runs R outside (frame node a) now later parts r i = runs-here R (i.0 ∷ 
 inside-runs R outside f now later parts r i = runs-here R outside parts i.0 r
 
 mutual
-  active-stands : (R : Sources) (outside : List Source) (t : Term) (all : List Source) → AllRun R outside → Stands R outside t all → ActiveStands R all (active t)
+  active-stands : (R : Sources) (outside : List Source) (t : Term) (all : List Source) → AllRun R outside → TermStands R outside t all → ActiveStands R all (active t)
   active-stands R outside (done v) all r h = record { all_run = runs-here R outside all h r; script_runs = tt; throw_known = tt; belongs = tt }
   active-stands R outside (standing v place) all r h = record { all_run = runs-here R outside all h.0 r; script_runs = tt; throw_known = h.1; belongs = tt }
   active-stands R outside (part f now later) all r h =

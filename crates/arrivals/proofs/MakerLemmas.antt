@@ -13,7 +13,7 @@ use Rattle.js_semantics.specs.declared.form.Mark.TheVariants.{Start as start}
 use Rattle.js_semantics.specs.declared.form.Reference.TheVariants.{Name as to_name}
 use Rattle.js_semantics.specs.declared.form.Form.TheVariants.{Choose as choose, Loop as loop, Return as return_, Throw as throw_, Read as read}
 use Rattle.js_semantics.specs.Terms.{Term, done, standing, part, Terms, end, more, one}
-use Rattle.js_semantics.specs.Makers.{Context, Made, Item, Items, PropertyKey, fixed_key, computed_key, PropertyMade, value_property, method_property, DeclaratorMade, CatchMade, Parts, nothing, loop_parts, for_parts, unnamed, naming, within, plain, plains, made, name_made, member_made, assigned_to, compounded, updated, deleted, type_of, assignment, unary_term, binary_term, conditional_made, comma_term, place_or, call_term, call_made, no_items, body_terms, function_made, returned_body, arrow_made, property_parts, properties_parts, and_items, block_term, block_item, empty_item, entered, expression_item, initializer_terms, declarators_terms, lexical_item, if_item, while_item, do_while_item, optional_term, optional_terms, for_item, for_lexical_item, for_of_item, continue_item, break_item, return_item, throw_item, caught, finally_term, try_item, debugger_item, function_item}
+use Rattle.js_semantics.specs.Makers.{Context, Made, Item, Items, PropertyKey, fixed_key, computed_key, PropertyMade, value_property, method_property, DeclaratorMade, CatchMade, Parts, nothing, loop_parts, for_parts, unnamed, naming, within, plain, plains, made, name_made, member_made, assigned_to, compounded, updated, deleted, type_of, assignment, unary_term, binary_term, conditional_made, comma_term, place_or, call_term, call_made, no_items, body_terms, function_made, returned_body, arrow_made, property_parts, properties_parts, and_items, block_term, block_item, empty_item, untouched, expression_item, initializer_terms, declarators_terms, lexical_item, if_item, while_item, do_while_item, optional_term, optional_terms, for_item, for_lexical_item, for_of_item, continue_item, break_item, return_item, throw_item, caught, finally_term, try_item, debugger_item, function_item}
 use Rattle.locations.specs.declared.spot.SpotKind.{SpotKind}
 use Rattle.locations.specs.declared.spot.SpotKind.TheVariants as kinds
 use Rattle.locations.specs.declared.marks.Marked.{Marked}
@@ -204,7 +204,7 @@ optional-none P = record { listed = λ c h. tt; or_other = λ c v h. tt }
 pub optional-some : (P : Marked → Type 0) (e : Made) (k : Marking) → ExpressionFits P e k → OptionalFits P (Some e) k.marks
 optional-some P e k f = record { listed = λ c h. (f.belongs (unnamed c) h, tt); or_other = λ c v h. f.belongs (unnamed c) h }
 
-entered-fits : (P : Marked → Type 0) (node : ℕ) (kind : SpotKind) (term : Context → Term) (ms : Marks) → ((c : Context) → AllMarks P ms → Belongs P (term c)) → ItemFits P (entered node term) (beginning kind node ++ ms)
+entered-fits : (P : Marked → Type 0) (node : ℕ) (kind : SpotKind) (term : Context → Term) (ms : Marks) → ((c : Context) → AllMarks P ms → Belongs P (term c)) → ItemFits P (untouched node term) (beginning kind node ++ ms)
 entered-fits P node kind term ms f = record { belongs = λ c h. ((kind, h.0), tt, (f (within node c) h.1, tt)); functions_belong = λ c h. tt }
 
 block-fits : (P : Marked → Type 0) (b : Items) (ms : Marks) (c : Context) → ItemsFit P b ms → AllMarks P ms → Belongs P (block_term b c)

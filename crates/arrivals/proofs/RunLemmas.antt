@@ -16,7 +16,7 @@ use Rattle.js_semantics.specs.Next.{Walked, all_values, moved, with_value, aroun
 use Rattle.js_semantics.specs.Run.{Run, running, over, run_of, run_after, step_in, steps_in}
 use Rattle.js_heap.specs.BuiltIns.{script_scope}
 use Rattle.locations.specs.declared.marks.Marked.{Marked}
-use Rattle.arrivals.specs.Belonging.{AllBelong, Sources, behind_step, sources_of, Stands, MoveStands, ProgramBelongs, AllWait, ScriptStands, ScriptsStand, RunningStands, RunStands}
+use Rattle.arrivals.specs.Belonging.{AllBelong, Sources, behind_step, sources_of, TermStands, MoveStands, ProgramBelongs, AllWait, ScriptStands, ScriptsStand, RunningStands, RunStands}
 use Rattle.arrivals.specs.Raises.{told_of}
 use Rattle.arrivals.proofs.PartLemmas.{BelongsAction, settle-belongs, functions-belongs, names-belongs}
 use Rattle.arrivals.proofs.StepLemmas.{ActionStands, action-stands, perform-stands, next-stands}
@@ -25,7 +25,7 @@ use Rattle.arrivals.proofs.StepLemmas.{ActionStands, action-stands, perform-stan
 
 -- the bottom frame, of a script that runs, with what it makes of a script
 abbrev ScriptMoves : Sources → Move Term → Type 0
-ScriptMoves R (goes t s told) = (source : Source) × R.runs source × Stands (behind_step R (Some told)) (source ∷ []) t (sources_of s.frames)
+ScriptMoves R (goes t s told) = (source : Source) × R.runs source × TermStands (behind_step R (Some told)) (source ∷ []) t (sources_of s.frames)
 ScriptMoves R (travels c s) = Unit {0}
 ScriptMoves R (has_effect s) = Unit {0}
 ScriptMoves R (is_full what s) = Unit {0}
@@ -67,7 +67,7 @@ waits-stand R source (more (standing v place) ts) all e h = absurd h.0
 waits-stand R source (more (part (script number names) now later) ts) all e h = ((e, h.0), h.1)
 waits-stand R source (more (part f now later) ts) all e h = absurd h.0
 
-script-stands : (R : Sources) (source : Source) (f : Form) (now later : Terms) (all : List Source) → Stands R (source ∷ []) (part f now later) all → ScriptStands R source (part f now later) all
+script-stands : (R : Sources) (source : Source) (f : Form) (now later : Terms) (all : List Source) → TermStands R (source ∷ []) (part f now later) all → ScriptStands R source (part f now later) all
 script-stands R source (script number names) now later all h = absurd h.0
 script-stands R source f now later all h = h
 

@@ -24,7 +24,7 @@ use Rattle.locations.specs.Marks.{Marks}
 use Rattle.locations.specs.Locations.{script_marks, break_locations}
 use Rattle.locations.proofs.CoverLemmas.{mark_found}
 use Rattle.arrivals.specs.Belonging.{Returns, FirstReturns, Closes, FormBelongs, Belongs, AllBelong, Sources, behind_step, top_marks, sources_of, ProgramBelongs, AllWait, RunStands}
-use Rattle.arrivals.specs.Arrivals.{AreNumbered, RunsIn, Arrives, RunArrives}
+use Rattle.arrivals.specs.Arrivals.{ScriptsAreNumbered, RunsIn, Arrives, RunArrives}
 use Rattle.arrivals.proofs.StrengthLemmas.{mark-located}
 use Rattle.arrivals.proofs.MakerLemmas.{AllMarks}
 use Rattle.arrivals.proofs.TreeLemmas.{statements-fit}
@@ -79,13 +79,13 @@ known scripts = record {
   raises = ⊥;
 }
 
-pub number-at : (n : ℕ) (ss : List Script) (i : ℕ) (other : Script) → AreNumbered n ss → i < length ss → (slice_index_or ss i other).number ≡ n + i
+pub number-at : (n : ℕ) (ss : List Script) (i : ℕ) (other : Script) → ScriptsAreNumbered n ss → i < length ss → (slice_index_or ss i other).number ≡ n + i
 number-at n [] i other h l = absurd (omega (arith, l))
 number-at n (s ∷ ss) zero other h l = omega (arith, h.0)
 number-at n (s ∷ ss) (suc i) other h l = let k : (slice_index_or ss i other).number ≡ (n + 1) + i = number-at (n + 1) ss i other h.1 (omega (arith, l)) in omega (arith, k)
 
 -- a script is the only one of its number
-only-one : (n : ℕ) (ss : List Script) (a b : Script) → AreNumbered n ss → Contains ss a → Contains ss b → a.number ≡ b.number → a ≡ b
+only-one : (n : ℕ) (ss : List Script) (a b : Script) → ScriptsAreNumbered n ss → Contains ss a → Contains ss b → a.number ≡ b.number → a ≡ b
 only-one n ss a b h k l e =
     let i : (slice_index_or ss k.0 a).number ≡ n + k.0 = number-at n ss k.0 a h k.1 in
     let j : (slice_index_or ss l.0 b).number ≡ n + l.0 = number-at n ss l.0 b h l.1 in
@@ -103,7 +103,7 @@ pub each-mark : (Q : Marked → Type 0) (ms : Marks) → ((m : Marked) → Conta
 each-mark Q [] h = tt
 each-mark Q (m ∷ ms) h = (h m (0, omega arith, refl), each-mark Q ms (λ x c. h x (suc c.0, omega (arith, c.1), c.2)))
 
-own-marks : (scripts : List Script) (s : Script) → AreNumbered 1 scripts → Contains scripts s → AllMarks ((known scripts).marks (script_source s.number)) (script_marks s)
+own-marks : (scripts : List Script) (s : Script) → ScriptsAreNumbered 1 scripts → Contains scripts s → AllMarks ((known scripts).marks (script_source s.number)) (script_marks s)
 own-marks scripts s h k = each-mark ((known scripts).marks (script_source s.number)) (script_marks s)
     (λ m c other l e. subst (λ (x : Script). Contains (script_marks x) m) (only-one 1 scripts s other h k l (same_number s.number other.number e)) c)
 
@@ -122,7 +122,7 @@ parts-belong P s own =
 
 -- ---- the start
 
-scripts-wait : (scripts : List Script) (ss : List Script) (n : ℕ) → AreNumbered 1 scripts → ((s : Script) → Contains ss s → Contains scripts s) → AllWait (known scripts) (all_with_literals (λ i. Base i) n (terms_of_scripts ss))
+scripts-wait : (scripts : List Script) (ss : List Script) (n : ℕ) → ScriptsAreNumbered 1 scripts → ((s : Script) → Contains ss s → Contains scripts s) → AllWait (known scripts) (all_with_literals (λ i. Base i) n (terms_of_scripts ss))
 scripts-wait scripts [] n h k = tt
 scripts-wait scripts (s ∷ ss) n h k =
     let here : Contains scripts s = k s (0, omega arith, refl) in (
@@ -130,7 +130,7 @@ scripts-wait scripts (s ∷ ss) n h k =
       scripts-wait scripts ss (n + length (literals (term_of_script s))) h (λ x c. k x (suc c.0, omega (arith, c.1), c.2)),
     )
 
-program-belongs : (scripts : List Script) (ss : List Script) (n first : ℕ) → AreNumbered 1 scripts → AreNumbered n ss → ((s : Script) → Contains ss s → Contains scripts s) → ProgramBelongs (known scripts) (program_from n (all_with_literals (λ i. Base i) first (terms_of_scripts ss)))
+program-belongs : (scripts : List Script) (ss : List Script) (n first : ℕ) → ScriptsAreNumbered 1 scripts → ScriptsAreNumbered n ss → ((s : Script) → Contains ss s → Contains scripts s) → ProgramBelongs (known scripts) (program_from n (all_with_literals (λ i. Base i) first (terms_of_scripts ss)))
 program-belongs scripts [] n first h g k = tt
 program-belongs scripts (s ∷ ss) n first h g k =
     let here : Contains scripts s = k s (0, omega arith, refl) in
@@ -140,11 +140,11 @@ program-belongs scripts (s ∷ ss) n first h g k =
       program-belongs scripts ss (n + 1) (first + length (literals (term_of_script s))) h g.1 (λ x c. k x (suc c.0, omega (arith, c.1), c.2)),
     )
 
-begins : (scripts : List Script) (ss : List Script) (input : List (List ℕ)) → ss ≡ scripts → AreNumbered 1 scripts → RunStands (behind_step (known scripts) None) (start_of (terms_of_scripts ss) input)
+begins : (scripts : List Script) (ss : List Script) (input : List (List ℕ)) → ss ≡ scripts → ScriptsAreNumbered 1 scripts → RunStands (behind_step (known scripts) None) (start_of (terms_of_scripts ss) input)
 begins scripts [] input e h = tt
 begins scripts (s ∷ ss) input e h =
     let within : (x : Script) → Contains (s ∷ ss) x → Contains scripts x = λ x c. subst (λ (xs : List Script). Contains xs x) e c in
-    let numbered : AreNumbered 1 (s ∷ ss) = subst (AreNumbered 1) (sym e) h in
+    let numbered : ScriptsAreNumbered 1 (s ∷ ss) = subst (ScriptsAreNumbered 1) (sym e) h in
     start-stands (behind_step (known scripts) None) (script_source 1) (placed_scripts (terms_of_scripts (s ∷ ss))) (first_state (terms_of_scripts (s ∷ ss)) input) refl
     (s, within s (0, omega arith, refl), ap (λ (m : ℕ). script_source m) (sym numbered.0)) (scripts-wait scripts (s ∷ ss) first_literal h within)
 
@@ -170,7 +170,7 @@ run-arrives : (scripts : List Script) (r : Run) → RunStandsBehind (known scrip
 run-arrives scripts (running t s) h = arrives scripts h.0 t s (running-active (behind_step (known scripts) h.0) t (sources_of s.frames) h.1)
 run-arrives scripts (over f s) h = tt
 
-pub plain-arrives : (k : ℕ) (scripts : List Script) (input : List (List ℕ)) → AreNumbered 1 scripts → RunArrives scripts (plain_run k (terms_of_scripts scripts) input)
+pub plain-arrives : (k : ℕ) (scripts : List Script) (input : List (List ℕ)) → ScriptsAreNumbered 1 scripts → RunArrives scripts (plain_run k (terms_of_scripts scripts) input)
 plain-arrives k scripts input h =
     run-arrives scripts (plain_run k (terms_of_scripts scripts) input)
     (steps-stand (known scripts) k (program_of (terms_of_scripts scripts)) script_scope (start_of (terms_of_scripts scripts) input)

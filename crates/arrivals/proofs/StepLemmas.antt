@@ -33,7 +33,7 @@ use Rattle.js_semantics.specs.Rows.{only, enter_row, block_row, chosen, kept_or,
 use Rattle.js_semantics.specs.Next.{Walked, all_values, moved, with_value, scope_in, around, next, walk}
 use Rattle.js_semantics.proofs.GiveLemmas.{GivesValues, put-gives, remove-gives, built_in-gives, type_of-gives, update_row-gives, function_row-gives}
 use Rattle.locations.specs.declared.marks.Marked.{Marked}
-use Rattle.arrivals.specs.Belonging.{FirstReturns, Closes, FormBelongs, Belongs, AllBelong, Sources, behind_step, top_marks, sources_of, Stands, AllStand, MoveStands, TreeBelongs, ProgramBelongs}
+use Rattle.arrivals.specs.Belonging.{FirstReturns, Closes, FormBelongs, Belongs, AllBelong, Sources, behind_step, top_marks, sources_of, TermStands, AllStand, MoveStands, TreeBelongs, ProgramBelongs}
 use Rattle.arrivals.proofs.PartLemmas.{finished-belongs, settled-belongs, settle-belongs, BelongsAction, gives-belongs, fail-belongs, result-belongs, enter-belongs, block-belongs, chosen-belongs, kept-belongs, otherwise-belongs, loop-belongs, for_in-belongs, enter_for_of-belongs, list-belongs, turn-belongs, comma-belongs, compound-belongs, callee-belongs, object-belongs, catch-belongs}
 use Rattle.arrivals.proofs.ReturnLemmas.{settle-returns, WalkKeeps, walk-keeps}
 
@@ -121,7 +121,7 @@ function_at-known R (t ∷ ts) source node h =
 -- ---- a part that waits, in its frame
 
 mutual
-  belongs-stands : (R : Sources) (outside : List Source) (t : Term) → Belongs (top_marks R outside) t → Stands R outside t outside
+  belongs-stands : (R : Sources) (outside : List Source) (t : Term) → Belongs (top_marks R outside) t → TermStands R outside t outside
   belongs-stands R outside (done v) h = refl
   belongs-stands R outside (standing v place) h = absurd h
   belongs-stands R outside (part (frame node a) now later) h = absurd h.0
@@ -140,7 +140,7 @@ outer_of [] = []
 outer_of (source ∷ sources) = sources
 
 abbrev pub ActionStands : Sources → List Source → List Source → Action → Type 0
-ActionStands R outside all (go t) = Stands (behind_step R (Some went)) outside t all
+ActionStands R outside all (go t) = TermStands (behind_step R (Some went)) outside t all
 ActionStands R outside all (raise v) = all ≡ outside
 ActionStands R outside all (leave c) = all ≡ outside
 ActionStands R outside all (make c k) = (all ≡ outside) × ((a : Addr) → ActionStands R outside all (k a))
@@ -247,7 +247,7 @@ abbrev pub Inside : Sources → List Source → Form → Terms → Terms → Lis
 Inside R outside (frame node a) now later parts = (source : Source) × (parts ≡ source ∷ outside) × R.runs source × Closes (R.marks source) node now
 Inside R outside f now later parts = (parts ≡ outside) × FormBelongs (top_marks R outside) f later
 
-pub opened : (R : Sources) (outside : List Source) (f : Form) (now later : Terms) (all : List Source) → Stands R outside (part f now later) all → (parts : List Source) × Inside R outside f now later parts × AllStand R parts now all × AllBelong (top_marks R outside) later
+pub opened : (R : Sources) (outside : List Source) (f : Form) (now later : Terms) (all : List Source) → TermStands R outside (part f now later) all → (parts : List Source) × Inside R outside f now later parts × AllStand R parts now all × AllBelong (top_marks R outside) later
 opened R outside (frame node a) now later all h = (h.0 ∷ outside, (h.0, refl, h.1, h.2), h.3, h.4)
 opened R outside f now later all h = (outside, (refl, h.0), h.1, h.2)
 
@@ -255,7 +255,7 @@ inside-keeps : (R : Sources) (outside : List Source) (f : Form) (now ts later : 
 inside-keeps R outside (frame node a) now ts later parts i h = (i.0, i.1, i.2, closes_first (R.marks i.0) node now ts i.3 h)
 inside-keeps R outside f now ts later parts i h = i
 
-part-stands : (R : Sources) (outside : List Source) (f : Form) (now later : Terms) (parts all : List Source) → Inside R outside f now later parts → AllStand R parts now all → AllBelong (top_marks R outside) later → Stands R outside (part f now later) all
+part-stands : (R : Sources) (outside : List Source) (f : Form) (now later : Terms) (parts all : List Source) → Inside R outside f now later parts → AllStand R parts now all → AllBelong (top_marks R outside) later → TermStands R outside (part f now later) all
 part-stands R outside (frame node a) now later parts all i h k = (i.0, i.2, i.3, subst (λ (x : List Source). AllStand R x now all) i.1 h, k)
 part-stands R outside f now later parts all i h k = (i.1, subst (λ (x : List Source). AllStand R x now all) i.0 h, k)
 
@@ -271,15 +271,15 @@ values-stand R outside (more (done v) ts) all e h = values-stand R outside ts al
 values-stand R outside (more (standing v place) ts) all e h = cc
 values-stand R outside (more (part f now later) ts) all e h = cc
 
-at-stands : (R : Sources) (outside : List Source) (t : Term) (all : List Source) → all ≡ outside → Belongs (top_marks R outside) t → Stands R outside t all
-at-stands R outside t all e h = subst (λ (x : List Source). Stands R outside t x) (sym e) (belongs-stands R outside t h)
+at-stands : (R : Sources) (outside : List Source) (t : Term) (all : List Source) → all ≡ outside → Belongs (top_marks R outside) t → TermStands R outside t all
+at-stands R outside t all e h = subst (λ (x : List Source). TermStands R outside t x) (sym e) (belongs-stands R outside t h)
 
-finished-stands : (R : Sources) (outside : List Source) (f : Form) (now later : Terms) (parts all : List Source) → Inside R outside f now later parts → all_done now ≡ true → AllStand R parts now all → AllBelong (top_marks R outside) later → Stands R outside (finished f now later) all
+finished-stands : (R : Sources) (outside : List Source) (f : Form) (now later : Terms) (parts all : List Source) → Inside R outside f now later parts → all_done now ≡ true → AllStand R parts now all → AllBelong (top_marks R outside) later → TermStands R outside (finished f now later) all
 finished-stands R outside (frame node a) now later parts all i e h k = part-stands R outside (frame node a) now later parts all i h k
 finished-stands R outside f now later parts all i e h k =
     at-stands R outside (finished f now later) all (values-stand R parts now all e h ∙ i.0) (finished-belongs (top_marks R outside) f now later (i.1, values-belong (top_marks R outside) now e, k))
 
-settled_if : (R : Sources) (outside : List Source) (b : Bool) (f : Form) (now later : Terms) (parts all : List Source) → all_done now ≡ b → Inside R outside f now later parts → AllStand R parts now all → AllBelong (top_marks R outside) later → Stands R outside (if b then finished f now later else part f now later) all
+settled_if : (R : Sources) (outside : List Source) (b : Bool) (f : Form) (now later : Terms) (parts all : List Source) → all_done now ≡ b → Inside R outside f now later parts → AllStand R parts now all → AllBelong (top_marks R outside) later → TermStands R outside (if b then finished f now later else part f now later) all
 settled_if R outside true f now later parts all e i h k = finished-stands R outside f now later parts all i e h k
 settled_if R outside false f now later parts all e i h k = part-stands R outside f now later parts all i h k
 
@@ -394,7 +394,7 @@ around-stands R outside p scope f now later s (moved (has_effect t)) parts g i k
 around-stands R outside p scope f now later s (moved (is_full what t)) parts g i k h keep = tt
 
 mutual
-  pub next-stands : (R : Sources) (outside : List Source) (p : Program) (scope : Addr) (t : Term) (s : State) → ProgramBelongs R p → Stands R outside t (sources_of s.frames) → MoveStands R outside (next p scope t s)
+  pub next-stands : (R : Sources) (outside : List Source) (p : Program) (scope : Addr) (t : Term) (s : State) → ProgramBelongs R p → TermStands R outside t (sources_of s.frames) → MoveStands R outside (next p scope t s)
   next-stands R outside p scope (done v) s g h = h
   next-stands R outside p scope (standing v place) s g h = h.0
   next-stands R outside p scope (part f now later) s g h =

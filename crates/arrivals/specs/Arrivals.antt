@@ -17,9 +17,9 @@ use Rattle.locations.specs.Locations.{script_marks, break_locations}
 use Rattle.locations.specs.Order.{IsAt}
 
 -- scripts with the numbers from `n` on, in order
-abbrev pub AreNumbered : ℕ → List Script → Type 0
-AreNumbered n [] = Unit {0}
-AreNumbered n (s ∷ ss) = (s.number ≡ n) × AreNumbered (n + 1) ss
+abbrev pub ScriptsAreNumbered : ℕ → List Script → Type 0
+ScriptsAreNumbered n [] = Unit {0}
+ScriptsAreNumbered n (s ∷ ss) = (s.number ≡ n) × ScriptsAreNumbered (n + 1) ss
 
 -- the script of the top frame's source is one of these
 abbrev pub RunsIn : Script → State → Type 0

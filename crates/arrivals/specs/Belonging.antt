@@ -91,21 +91,21 @@ sources_of (f ∷ fs) = f.source ∷ sources_of fs
 -- A term within the frames of these sources, where all active frames are of those: each `frame` around the part about to
 -- be reduced is one frame more, and what is within it belongs to the source of that frame.
 abbrev mutual
-  pub Stands : Sources → List Source → Term → List Source → Type 0
-  Stands R around (done v) all = all ≡ around
-  Stands R around (standing v place) all = (all ≡ around) × R.raises
-  Stands R around (part (frame node a) now later) all = (source : Source) × R.runs source × Closes (R.marks source) node now × AllStand R (source ∷ around) now all × AllBelong (top_marks R around) later
-  Stands R around (part f now later) all = FormBelongs (top_marks R around) f later × AllStand R around now all × AllBelong (top_marks R around) later
+  pub TermStands : Sources → List Source → Term → List Source → Type 0
+  TermStands R around (done v) all = all ≡ around
+  TermStands R around (standing v place) all = (all ≡ around) × R.raises
+  TermStands R around (part (frame node a) now later) all = (source : Source) × R.runs source × Closes (R.marks source) node now × AllStand R (source ∷ around) now all × AllBelong (top_marks R around) later
+  TermStands R around (part f now later) all = FormBelongs (top_marks R around) f later × AllStand R around now all × AllBelong (top_marks R around) later
 
   pub AllStand : Sources → List Source → Terms → List Source → Type 0
   AllStand R around end all = all ≡ around
   AllStand R around (more (done v) ts) all = AllStand R around ts all
   AllStand R around (more (standing v place) ts) all = (all ≡ around) × R.raises × AllBelong (top_marks R around) ts
-  AllStand R around (more (part f now later) ts) all = Stands R around (part f now later) all × AllBelong (top_marks R around) ts
+  AllStand R around (more (part f now later) ts) all = TermStands R around (part f now later) all × AllBelong (top_marks R around) ts
 
 -- what a completion leaves behind has no frame any more
 abbrev pub MoveStands : Sources → List Source → Move Term → Type 0
-MoveStands R around (goes t s told) = Stands (behind_step R (Some told)) around t (sources_of s.frames)
+MoveStands R around (goes t s told) = TermStands (behind_step R (Some told)) around t (sources_of s.frames)
 MoveStands R around (travels c s) = sources_of s.frames ≡ around
 MoveStands R around (has_effect s) = Unit {0}
 MoveStands R around (is_full what s) = Unit {0}
@@ -137,7 +137,7 @@ AllWait R (more t ts) = Waits R t × AllWait R ts
 -- a script that hasn't begun, or the one in the bottom frame
 abbrev pub ScriptStands : Sources → Source → Term → List Source → Type 0
 ScriptStands R source (part (script number names) now later) all = (all ≡ source ∷ []) × Waits R (part (script number names) now later)
-ScriptStands R source t all = Stands R (source ∷ []) t all
+ScriptStands R source t all = TermStands R (source ∷ []) t all
 
 -- scripts one after another: some are over, one runs in a bottom frame of its source, and others wait
 abbrev pub ScriptsStand : Sources → Source → Terms → List Source → Type 0

@@ -1,7 +1,7 @@
 //! The laws of histories. Each function does nothing: its contract is the law, for every history of any scripts.
 
 ghost use Rattle.std.specs.Prelude.{◌≡◌, ℕ, List, Bool, true, false};
-ghost use Rattle.arrivals.specs.Arrivals.{AreNumbered};
+ghost use Rattle.arrivals.specs.Arrivals.{ScriptsAreNumbered};
 ghost use Rattle.isolation.specs.Histories.{Entry, FitsEntry, Ran, steps_made};
 ghost use Rattle.isolation.specs.Meanings.{is_first, is_paused, longest, after_steps, is_enabled_seat};
 ghost use Rattle.isolation.specs.Runs.{IsLongest};
@@ -26,7 +26,7 @@ ghost use Rattle.js_semantics.specs.Run.{Run};
 /// Where a program whose scripts have the numbers 1, 2 and so on has arrived, the place by which the rules of stopping go is a
 /// break location of one of its scripts.
 pub fn a_program_arrives_at_break_locations()
-    ensures { (k : ℕ) (scripts : List Script) (input : List (List ℕ)) → AreNumbered 1 scripts → ArrivesAtLocations scripts (plain k scripts input) }
+    ensures { (k : ℕ) (scripts : List Script) (input : List (List ℕ)) → ScriptsAreNumbered 1 scripts → ArrivesAtLocations scripts (plain k scripts input) }
 {}
 
 /// Each session of a history is sent exactly what it would be sent over its view by a host that has no other session.

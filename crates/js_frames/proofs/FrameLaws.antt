@@ -23,7 +23,7 @@ use Rattle.js_steps.specs.Tasks.{Wide, gap_of, gaps_of, task_form, redex_of, lat
 use Rattle.js_steps.specs.Points.{term_at, IsAt, IsLeafAt}
 use Rattle.js_steps.proofs.FinishLemmas.{node-form, node-scope}
 use Rattle.js_frames.specs.Kinds.{kind_of, is_leaving}
-use Rattle.js_frames.specs.Scopes.{is_frame, frame_at, call_scopes, frame_scopes}
+use Rattle.js_frames.specs.Scopes.{is_frame, is_frame_at, call_scopes, frame_scopes}
 use Rattle.js_frames.proofs.KindLaws.{form-kind, task-leaves, leaving-op}
 use Rattle.js_frames.proofs.ActiveLaws.{leaf, leaf-tree, node-at}
 
@@ -117,13 +117,13 @@ scopes-at ts t root ws (points.Done v) i h s = scopes-done ts t root ws v h
 
 -- ---- one task after another
 
-calls_from : (root : Addr) (ws : List Wide) (i : ℕ) → call_scopes root (drop i ws) ≡ (if frame_at (slice_get ws i) then scope_of root (drop (suc i) ws) ∷ call_scopes root (drop (suc i) ws) else call_scopes root (drop (suc i) ws))
+calls_from : (root : Addr) (ws : List Wide) (i : ℕ) → call_scopes root (drop i ws) ≡ (if is_frame_at (slice_get ws i) then scope_of root (drop (suc i) ws) ∷ call_scopes root (drop (suc i) ws) else call_scopes root (drop (suc i) ws))
 calls_from root [] zero = refl
 calls_from root [] (suc i) = refl
 calls_from root (w ∷ ws) zero = refl
 calls_from root (w ∷ ws) (suc i) = calls_from root ws i
 
-calls_at : (root : Addr) (ws : List Wide) (i : ℕ) (b : Bool) → b ≡ frame_at (slice_get ws i) → call_scopes root (drop i ws) ≡ (if b then scope_of root (drop (i + 1) ws) ∷ call_scopes root (drop (i + 1) ws) else call_scopes root (drop (i + 1) ws))
+calls_at : (root : Addr) (ws : List Wide) (i : ℕ) (b : Bool) → b ≡ is_frame_at (slice_get ws i) → call_scopes root (drop i ws) ≡ (if b then scope_of root (drop (i + 1) ws) ∷ call_scopes root (drop (i + 1) ws) else call_scopes root (drop (i + 1) ws))
 calls_at root ws i b e =
     let s : suc i ≡ i + 1 = omega arith in
     let P : Bool → ℕ → List Addr = λ c n. if c then scope_of root (drop n ws) ∷ call_scopes root (drop n ws) else call_scopes root (drop n ws) in
@@ -140,20 +140,20 @@ abbrev pub Left : Addr → List Wide → ℕ → ℕ → ℕ → Type 0
 Left root ws d i left = slice_get (call_scopes root ws) (d - 1) ≡ slice_get (call_scopes root (drop i ws)) left
 
 -- it is the scope around this one
-pub calls-here : (root : Addr) (ws : List Wide) (d i left : ℕ) (b : Bool) (a : Addr) → (d ≡ 0 → ⊥) → Left root ws d i left → b ≡ frame_at (slice_get ws i) → b ≡ true → left ≡ 0 → a ≡ scope_of root (drop (i + 1) ws) → Some a ≡ slice_get (frame_scopes root ws) d
+pub calls-here : (root : Addr) (ws : List Wide) (d i left : ℕ) (b : Bool) (a : Addr) → (d ≡ 0 → ⊥) → Left root ws d i left → b ≡ is_frame_at (slice_get ws i) → b ≡ true → left ≡ 0 → a ≡ scope_of root (drop (i + 1) ws) → Some a ≡ slice_get (frame_scopes root ws) d
 calls-here root ws d i left b a n h e p z s =
     let P : Bool → List Addr = λ c. if c then scope_of root (drop (i + 1) ws) ∷ call_scopes root (drop (i + 1) ws) else call_scopes root (drop (i + 1) ws) in
     ap (λ x. Some x) s
     ∙ sym (sym (behind_first (scope_of root ws) (call_scopes root ws) d n) ∙ h ∙ ap (λ k. slice_get (call_scopes root (drop i ws)) k) z ∙ ap (λ xs. slice_get xs 0) (calls_at root ws i b e ∙ ap P p))
 
 -- it isn't
-pub calls-passed : (root : Addr) (ws : List Wide) (d i left : ℕ) (b : Bool) → Left root ws d i left → b ≡ frame_at (slice_get ws i) → b ≡ true → (left ≡ 0 → ⊥) → Left root ws d (i + 1) (left - 1)
+pub calls-passed : (root : Addr) (ws : List Wide) (d i left : ℕ) (b : Bool) → Left root ws d i left → b ≡ is_frame_at (slice_get ws i) → b ≡ true → (left ≡ 0 → ⊥) → Left root ws d (i + 1) (left - 1)
 calls-passed root ws d i left b h e p n =
     let P : Bool → List Addr = λ c. if c then scope_of root (drop (i + 1) ws) ∷ call_scopes root (drop (i + 1) ws) else call_scopes root (drop (i + 1) ws) in
     h ∙ ap (λ xs. slice_get xs left) (calls_at root ws i b e ∙ ap P p) ∙ sym (behind_first (scope_of root (drop (i + 1) ws)) (call_scopes root (drop (i + 1) ws)) left n)
 
 -- no call's body is passed
-pub calls-on : (root : Addr) (ws : List Wide) (d i left : ℕ) (b : Bool) → Left root ws d i left → b ≡ frame_at (slice_get ws i) → b ≡ false → Left root ws d (i + 1) left
+pub calls-on : (root : Addr) (ws : List Wide) (d i left : ℕ) (b : Bool) → Left root ws d i left → b ≡ is_frame_at (slice_get ws i) → b ≡ false → Left root ws d (i + 1) left
 calls-on root ws d i left b h e p =
     let P : Bool → List Addr = λ c. if c then scope_of root (drop (i + 1) ws) ∷ call_scopes root (drop (i + 1) ws) else call_scopes root (drop (i + 1) ws) in
     h ∙ ap (λ xs. slice_get xs left) (calls_at root ws i b e ∙ ap P p)

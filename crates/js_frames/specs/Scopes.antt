@@ -11,9 +11,9 @@ is_frame ops.Frame = true
 is_frame op = false
 
 -- there is a task, and it is the body of an active call
-abbrev pub frame_at : Option Wide → Bool
-frame_at None = false
-frame_at (Some w) = is_frame w.op
+abbrev pub is_frame_at : Option Wide → Bool
+is_frame_at None = false
+is_frame_at (Some w) = is_frame w.op
 
 -- the scopes around the bodies of active calls, from the innermost one
 abbrev pub call_scopes : Addr → List Wide → List Addr

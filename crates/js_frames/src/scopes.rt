@@ -2,7 +2,7 @@
 
 ghost use Rattle.std.specs.Prelude.{◌≡◌, ◌+◌, drop, slice_get};
 ghost use Rattle.js_steps.specs.Tasks.{scope_of};
-ghost use Rattle.js_frames.specs.Scopes.{is_frame, frame_at, frame_scopes};
+ghost use Rattle.js_frames.specs.Scopes.{is_frame, is_frame_at, frame_scopes};
 
 use js_code::op::Op;
 use js_heap::value::Addr;
@@ -20,7 +20,7 @@ fn is_frame(op: Op) -> bool
 
 /// Whether the task of this number is one.
 fn is_frame_at(stack: &Stack, i: usize) -> bool
-    ensures { result ≡ frame_at (slice_get stack.now i) }
+    ensures { result ≡ is_frame_at (slice_get stack.now i) }
 {
     stack.task_at(i).is_some_and(|task| is_frame(task.op))
 }

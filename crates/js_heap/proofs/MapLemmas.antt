@@ -8,7 +8,7 @@ use Rattle.js_heap.specs.declared.change.Change.{Change}
 use Rattle.js_heap.specs.declared.change.Counted.TheVariants as counted
 use Rattle.js_heap.specs.Cells.{weight, changed}
 use Rattle.js_heap.specs.World.{Room, World, fine, effect, full, read_cell, is_own, next_address, with_cell, room_less, make_cell, replaced, room_after, written, written_at, write_cell}
-use Rattle.js_heap.specs.Worlds.{CellStays, HasMade, cell_or, read_after, HasWritten, AfterFine}
+use Rattle.js_heap.specs.Worlds.{CellStays, HasMadeCell, cell_or, read_after, HasWritten, AfterFine}
 use Rattle.js_heap.proofs.KeepLemmas.{fine_if}
 
 -- ---- lists of cells
@@ -50,14 +50,14 @@ made_others w r None c (Scratch i) = cell-same (slice_get w.scratch i)
 made_others w r (Some n) c (Base i) = cell-same (slice_get w.base i)
 made_others w r (Some n) c (Scratch i) = cell-append w.scratch c i
 
-has_made : (w : World) (r : Room) (o : Option ℕ) (c : Cell) → HasMade w c (next_address w o) (record (with_cell w o c) { room = r })
+has_made : (w : World) (r : Room) (o : Option ℕ) (c : Cell) → HasMadeCell w c (next_address w o) (record (with_cell w o c) { room = r })
 has_made w r None c = record { fresh = get-end w.base; made = get-last w.base c; others = made_others w r None c }
 has_made w r (Some n) c = record { fresh = get-end w.scratch; made = get-last w.scratch c; others = made_others w r (Some n) c }
 
-pub making-makes : (w : World) (c : Cell) → AfterFine (make_cell w c) (λ a v. HasMade w c a v)
+pub making-makes : (w : World) (c : Cell) → AfterFine (make_cell w c) (λ a v. HasMadeCell w c a v)
 making-makes w c =
     let v : World = record (with_cell w w.start c) { room = room_less w.room (weight c) } in
-    let P : Addr → World → Type 0 = λ a u. HasMade w c a u in
+    let P : Addr → World → Type 0 = λ a u. HasMadeCell w c a u in
     fine_if (nat_lt 0 w.room.cells) counted.Cells (if nat_le (weight c) w.room.units then fine (next_address w w.start) v else full counted.Units) P
     (fine_if (nat_le (weight c) w.room.units) counted.Units (fine (next_address w w.start) v) P (has_made w v.room w.start c))
 

@@ -120,7 +120,7 @@ CellStays None after = Unit {0}
 CellStays (Some c) after = after ≡ Some c
 
 -- one cell more: it is read at an address that was none, and every live cell stays as it is
-pub record HasMade (w : World) (c : Cell) (a : Addr) (v : World) : Type 0 where
+pub record HasMadeCell (w : World) (c : Cell) (a : Addr) (v : World) : Type 0 where
   pub fresh : read_cell w a ≡ None
   pub made : read_cell v a ≡ Some c
   pub others : (b : Addr) → CellStays (read_cell w b) (read_cell v b)

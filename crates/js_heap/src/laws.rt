@@ -4,11 +4,11 @@ ghost use Rattle.js_heap.specs.declared.cell.Cell.{Cell};
 ghost use Rattle.js_heap.specs.declared.change.Change.{Change};
 ghost use Rattle.js_heap.specs.declared.value.Addr.{Addr};
 ghost use Rattle.js_heap.specs.World.{World, make_cell, write_cell};
-ghost use Rattle.js_heap.specs.Worlds.{HasMade, HasWritten, Keeps, AfterFine, IsSound, SoundCell, SoundChange};
+ghost use Rattle.js_heap.specs.Worlds.{HasMadeCell, HasWritten, Keeps, AfterFine, IsSound, SoundCell, SoundChange};
 
 /// A new cell is read at its address, where none was, and every other cell stays as it is.
 pub fn making_makes_one_cell()
-    ensures { (w : World) (c : Cell) → AfterFine (make_cell w c) (λ a v. HasMade w c a v) }
+    ensures { (w : World) (c : Cell) → AfterFine (make_cell w c) (λ a v. HasMadeCell w c a v) }
 {}
 
 /// A change is read at its address, and every other cell stays as it is.

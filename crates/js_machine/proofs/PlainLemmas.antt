@@ -17,7 +17,7 @@ use Rattle.js_machine.specs.declared.end.End.{End}
 use Rattle.js_machine.specs.declared.end.End.TheVariants as ends
 use Rattle.js_machine.specs.Machines.{Machine, program_of, term_of, state_of, run_by, run_at, IsKept, end_of_run, HasSameCode}
 use Rattle.js_machine.specs.declared.machine.Started.{Started}
-use Rattle.js_machine.specs.Plain.{HasMade, HasRunWithin}
+use Rattle.js_machine.specs.Plain.{HasMadeSteps, HasRunWithin}
 use Rattle.js_machine.specs.Starts.{IsStarted}
 
 -- ---- runs
@@ -64,12 +64,12 @@ same-code m = record { table = refl; names = refl }
 more_code : (m n o : Machine) → HasSameCode m n → HasSameCode n o → HasSameCode m o
 more_code m n o h i = record { table = i.table ∙ h.table; names = i.names ∙ h.names }
 
-pub made-none : (m : Machine) (v : World) → IsKept m.ended → HasMade m v m v 0
+pub made-none : (m : Machine) (v : World) → IsKept m.ended → HasMadeSteps m v m v 0
 made-none m v k = record { code = same-code m; kept = k; runs = λ taken. refl; left = λ taken. tt }
 
-pub made-more : (m n o : Machine) (v w x : World) (j k : ℕ) → HasMade m v n w j → HasSameCode n o → IsKept o.ended
+pub made-more : (m n o : Machine) (v w x : World) (j k : ℕ) → HasMadeSteps m v n w j → HasSameCode n o → IsKept o.ended
     → ((taken : List (List ℕ)) → run_at o x taken ≡ steps_in k (program_of n) script_scope (run_at n w taken))
-    → ((taken : List (List ℕ)) → RunsFor k (program_of n) script_scope (run_at n w taken)) → HasMade m v o x (j + k)
+    → ((taken : List (List ℕ)) → RunsFor k (program_of n) script_scope (run_at n w taken)) → HasMadeSteps m v o x (j + k)
 made-more m n o v w x j k h c kept runs left = record {
   code = more_code m n o h.code c;
   kept = kept;
@@ -83,7 +83,7 @@ made-more m n o v w x j k h c kept runs left = record {
 }
 
 -- all steps are made
-pub made-all : (m n : Machine) (v w : World) (most k : ℕ) → HasMade m v n w k → k ≡ most → HasRunWithin m v n w most k
+pub made-all : (m n : Machine) (v w : World) (most k : ℕ) → HasMadeSteps m v n w k → k ≡ most → HasRunWithin m v n w most k
 made-all m n v w most k h e = record {
   code = h.code;
   reached = λ taken. h.runs taken ∙ ap (λ i. steps_in i (program_of m) script_scope (run_at m v taken)) e;
@@ -97,7 +97,7 @@ end_over (ends.Full what) t s h = tt
 end_over ends.Lost t s h = absurd h
 
 -- the run is over
-made_over : (m n : Machine) (v w : World) (k left most : ℕ) → HasMade m v n w k → k + left ≡ most → ((taken : List (List ℕ)) → IsOver (run_at n w taken)) → HasRunWithin m v n w most k
+made_over : (m n : Machine) (v w : World) (k left most : ℕ) → HasMadeSteps m v n w k → k + left ≡ most → ((taken : List (List ℕ)) → IsOver (run_at n w taken)) → HasRunWithin m v n w most k
 made_over m n v w k left most h e o = record {
   code = h.code;
   reached = λ taken.
@@ -111,7 +111,7 @@ made_over m n v w k left most h e o = record {
       sym (taken_over k left (program_of m) r (h.left taken) (subst P (h.runs taken) (o taken))) ∙ ap (λ i. steps_taken i (program_of m) r) e;
 }
 
-pub made-ended : (m n : Machine) (v w : World) (k left most : ℕ) (e : End) → n.ended ≡ Some e → HasMade m v n w k → k + left ≡ most → HasRunWithin m v n w most k
+pub made-ended : (m n : Machine) (v w : World) (k left most : ℕ) (e : End) → n.ended ≡ Some e → HasMadeSteps m v n w k → k + left ≡ most → HasRunWithin m v n w most k
 made-ended m n v w k left most e is h sum =
     let K : Option End → Type 0 = IsKept in
     let O : State → Option End → Type 0 = λ s o. IsOver (run_by o (term_of n) s) in
@@ -132,11 +132,11 @@ none_ended whys.Effect most h c = tt
 none_ended (whys.Full what) most h c = tt
 none_ended whys.Memory most h c = tt
 
-ended_by : (m n : Machine) (v w : World) (k left most : ℕ) (o : Option End) → n.ended ≡ o → HasEnded o → HasMade m v n w k → k + left ≡ most → HasRunWithin m v n w most k
+ended_by : (m n : Machine) (v w : World) (k left most : ℕ) (o : Option End) → n.ended ≡ o → HasEnded o → HasMadeSteps m v n w k → k + left ≡ most → HasRunWithin m v n w most k
 ended_by m n v w k left most None is h made sum = absurd h
 ended_by m n v w k left most (Some e) is h made sum = made-ended m n v w k left most e is made sum
 
-pub made-stopped : (m n : Machine) (v w : World) (k left most : ℕ) (why : Why) → n.ended ≡ end_of_run why → 0 < left → CountsAs why 0 left → HasMade m v n w k → k + left ≡ most → HasRunWithin m v n w most k
+pub made-stopped : (m n : Machine) (v w : World) (k left most : ℕ) (why : Why) → n.ended ≡ end_of_run why → 0 < left → CountsAs why 0 left → HasMadeSteps m v n w k → k + left ≡ most → HasRunWithin m v n w most k
 made-stopped m n v w k left most why is h c made sum = ended_by m n v w k left most (end_of_run why) is (none_ended why left h c) made sum
 
 -- the machine wasn't given up
@@ -161,27 +161,27 @@ pub record HasRunOn (n : Machine) (w : World) (o : Machine) (x : World) (k : ℕ
   pub code : HasSameCode n o
   pub kept : why ≡ whys.Memory → ⊥
 
-pub made-on : (m n o : Machine) (v w x : World) (most left k : ℕ) (why : Why) → HasMade m v n w (most - left) → left ≤ most → k ≤ left → HasRunOn n w o x k why → HasMade m v o x (most - (left - k))
+pub made-on : (m n o : Machine) (v w x : World) (most left k : ℕ) (why : Why) → HasMadeSteps m v n w (most - left) → left ≤ most → k ≤ left → HasRunOn n w o x k why → HasMadeSteps m v o x (most - (left - k))
 made-on m n o v w x most left k why h l i r =
-    let P : ℕ → Type 0 = HasMade m v o x in
+    let P : ℕ → Type 0 = HasMadeSteps m v o x in
     let e : (most - left) + k ≡ most - (left - k) = omega arith in
     let kept = still-kept why o.ended r.end r.kept in
     subst P e (made-more m n o v w x (most - left) k h r.code kept (r.run kept) r.left)
 
-pub made-still : (m n o : Machine) (v w x : World) (most left k : ℕ) (why : Why) → HasMade m v n w (most - left) → left ≤ most → k ≤ left → HasRunOn n w o x k why → 0 < left → CountsAs why k left → k ≡ 0 → HasRunWithin m v o x most (most - (left - k))
+pub made-still : (m n o : Machine) (v w x : World) (most left k : ℕ) (why : Why) → HasMadeSteps m v n w (most - left) → left ≤ most → k ≤ left → HasRunOn n w o x k why → 0 < left → CountsAs why k left → k ≡ 0 → HasRunWithin m v o x most (most - (left - k))
 made-still m n o v w x most left k why h l i r lo c z =
     let C : ℕ → Type 0 = λ j. CountsAs why j left in
     let sum : most - (left - k) + left ≡ most = omega arith in
     made-stopped m o v x (most - (left - k)) left most why r.end lo (subst C z c) (made-on m n o v w x most left k why h l i r) sum
 
-pub made-whole : (m n : Machine) (v w : World) (most left : ℕ) → HasMade m v n w (most - left) → left ≤ 0 → HasRunWithin m v n w most (most - left)
+pub made-whole : (m n : Machine) (v w : World) (most left : ℕ) → HasMadeSteps m v n w (most - left) → left ≤ 0 → HasRunWithin m v n w most (most - left)
 made-whole m n v w most left h z = let e : most - left ≡ most = omega arith in made-all m n v w most (most - left) h e
 
 some_ended : (o : Option End) → is_some o ≡ true → HasEnded o
 some_ended None h = absurd cc
 some_ended (Some e) h = tt
 
-pub made-some : (m n : Machine) (v w : World) (most left : ℕ) → HasMade m v n w (most - left) → left ≤ most → is_some n.ended ≡ true → HasRunWithin m v n w most (most - left)
+pub made-some : (m n : Machine) (v w : World) (most left : ℕ) → HasMadeSteps m v n w (most - left) → left ≤ most → is_some n.ended ≡ true → HasRunWithin m v n w most (most - left)
 made-some m n v w most left h l is = let sum : most - left + left ≡ most = omega arith in ended_by m n v w (most - left) left most n.ended refl (some_ended n.ended is) h sum
 
 -- ---- from the start

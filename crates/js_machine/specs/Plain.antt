@@ -8,7 +8,7 @@ use Rattle.js_machine.specs.Machines.{Machine, program_of, run_at, IsKept, HasSa
 
 -- a machine that was one thing with a world is another with another world, so many steps further, each of them one of a run
 -- that isn't over
-pub record HasMade (m : Machine) (v : World) (n : Machine) (w : World) (k : ℕ) : Type 0 where
+pub record HasMadeSteps (m : Machine) (v : World) (n : Machine) (w : World) (k : ℕ) : Type 0 where
   pub code : HasSameCode m n
   pub kept : IsKept n.ended
   pub runs : (taken : List (List ℕ)) → run_at n w taken ≡ steps_in k (program_of m) script_scope (run_at m v taken)

@@ -32,6 +32,6 @@ type_of_slot w name None = make_text (codes "undefined") give
 type_of_slot w name (Some f) = type_of_bound w name f.value
 
 -- the name stands where it was found
-abbrev pub Stands : World → Option FoundSlot → List ℕ → Type 0
-Stands w None name = Unit {0}
-Stands w (Some f) name = HasPlace (read_cell w f.scope) f.place name
+abbrev pub StandsWhereFound : World → Option FoundSlot → List ℕ → Type 0
+StandsWhereFound w None name = Unit {0}
+StandsWhereFound w (Some f) name = HasPlace (read_cell w f.scope) f.place name

@@ -6,7 +6,7 @@ ghost use Rattle.js_semantics.specs.State.{fail};
 ghost use Rattle.js_semantics.specs.References.{found, value_of_found, name_written, with_result, with_written};
 ghost use Rattle.js_semantics.specs.Rows.{type_of_found};
 ghost use Rattle.js_world.specs.Names.{name_of};
-ghost use Rattle.js_operations.specs.Names.{value_of_slot, slot_written, type_of_bound, type_of_slot, Stands};
+ghost use Rattle.js_operations.specs.Names.{value_of_slot, slot_written, type_of_bound, type_of_slot, StandsWhereFound};
 ghost use Rattle.js_operations.specs.Flow.{Ends, Yields, Passes, Gives};
 
 use crate::cells::{bind_at, make_text};
@@ -105,7 +105,7 @@ fn put_slot<W: World>(
     found: Option<FoundSlot>,
     value: Value,
 ) -> Result<(), Stop>
-    requires { Stands (W.world names.now world.old) found (name_of names.now name.number) }
+    requires { StandsWhereFound (W.world names.now world.old) found (name_of names.now name.number) }
     ensures { Passes (with_written (slot_written (name_of names.now name.number) found value)) (W.world names.now world.old) result (W.world names.now world.new) }
 {
     let Some(found) = found else {

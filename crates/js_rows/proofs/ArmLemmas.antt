@@ -43,7 +43,7 @@ use Rattle.js_steps.specs.declared.reduced.Reduced.TheVariants as reduced
 use Rattle.js_steps.specs.declared.task.Extra.{Extra}
 use Rattle.js_steps.specs.declared.task.Extra.TheVariants as extras
 use Rattle.js_steps.specs.declared.task.Redex.{Redex}
-use Rattle.js_steps.specs.Answers.{head_of, called_this, assigning, operating, reduced_move, reduced_term}
+use Rattle.js_steps.specs.Answers.{head_of, this_of_call, assigning, operating, reduced_move, reduced_term}
 use Rattle.js_steps.specs.Rows.{redex}
 use Rattle.js_steps.specs.Tasks.{Wide, form_in, later_of, kept_of, index_of}
 use Rattle.js_rows.specs.Calls.{ActsAnywhere, ActsOf}
@@ -239,7 +239,7 @@ call-row ts t form vs entry v w c d r h i g = λ outer before.
 
 -- a call before its callee is read, by what it does, its entry and its parts
 abbrev callee_term : Op → Option CallEntry → List Value → Terms → Value → Term
-callee_term o x vs later f = part (call_form x) (more (done (called_this o vs)) (more (done f) later)) end
+callee_term o x vs later f = part (call_form x) (more (done (this_of_call o vs)) (more (done f) later)) end
 
 calls-row : (ts : List (List ℕ)) (t : NodeTable) (form : Redex) (vs : List Value) (o : Op) (f : Form) (x : Computed) (entry : CallEntry) (v w : World) (c : Context) (r : Reduced) → form.op ≡ o → form_in ts t o form.info form.inner None ≡ f → ((outer : Addr) → scope_in f outer ≡ outer) →
     ((before : List (List ℕ)) → row (program_of ts t) (state_of v c before) form.inner f vs (later_of ts t (redex form vs None)) ≡ with_result x (λ y. go (callee_term o (Some entry) vs (later_of ts t (redex form vs None)) y))) →

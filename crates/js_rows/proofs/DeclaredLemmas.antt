@@ -33,7 +33,7 @@ use Rattle.js_operations.specs.declared.stop.Stop.{Stop}
 use Rattle.js_operations.specs.Flow.{performed, Stops, Passes}
 use Rattle.js_operations.proofs.FlowLemmas.{passes-err}
 use Rattle.js_operations.proofs.ListLemmas.{cons_at}
-use Rattle.js_rows.specs.Declaring.{is_function, declared_if}
+use Rattle.js_rows.specs.Declaring.{is_function_op, declared_if}
 
 -- ---- parts that are no functions
 
@@ -82,7 +82,7 @@ index_call_form_skips None now later us scope k = refl
 index_call_form_skips (Some e) now later us scope k = refl
 
 -- a part that is no function declares none
-others_skip : (ts : List (List ℕ)) (t : NodeTable) (o : Op) (info : ℕ) (now later us : Terms) (scope : Addr) (k : Action) → is_function o ≡ false → with_functions scope (more (part (form_of ts t o info) now later) us) k ≡ with_functions scope us k
+others_skip : (ts : List (List ℕ)) (t : NodeTable) (o : Op) (info : ℕ) (now later us : Terms) (scope : Addr) (k : Action) → is_function_op o ≡ false → with_functions scope (more (part (form_of ts t o info) now later) us) k ≡ with_functions scope us k
 unfolding form_of
 others_skip ts t ops.Literal info now later us scope k h = refl
 others_skip ts t ops.Scripts info now later us scope k h = refl
@@ -160,7 +160,7 @@ function_makes ts None now later us scope k = refl
 function_makes ts (Some f) now later us scope k =
     ap (λ n. make (cells.Function f.code (name_of ts f.name.number) n (Some scope) values.Undefined) (λ a. write scope (changes.Bind (name_of ts f.name.number) (values.Object a)) (with_functions scope us k))) (texts_length ts f.parameters.items)
 
-function_is : (o : Op) → is_function o ≡ true → o ≡ ops.Function
+function_is : (o : Op) → is_function_op o ≡ true → o ≡ ops.Function
 function_is ops.Function h = refl
 function_is o h = cc
 
@@ -170,12 +170,12 @@ pub none-declares : (ts : List (List ℕ)) (t : NodeTable) (n : ℕ) (scope : Ad
 unfolding tree
 none-declares ts t n scope k h = rw (← h) refl
 
-pub other-declares : (ts : List (List ℕ)) (t : NodeTable) (n : ℕ) (node : Node) (scope : Addr) (k : Action) → Some node ≡ slice_get t.nodes.items n → is_function node.op ≡ false → with_functions scope (one (tree ts t n)) k ≡ k
+pub other-declares : (ts : List (List ℕ)) (t : NodeTable) (n : ℕ) (node : Node) (scope : Addr) (k : Action) → Some node ≡ slice_get t.nodes.items n → is_function_op node.op ≡ false → with_functions scope (one (tree ts t n)) k ≡ k
 unfolding tree
 other-declares ts t n node scope k h g =
     rw (← h) (if_skips (is_literal node.op) _ _ end scope k (others_skip ts t node.op node.info _ _ end scope k g))
 
-pub function-declares : (ts : List (List ℕ)) (t : NodeTable) (n : ℕ) (node : Node) (o : Option FunctionEntry) (scope : Addr) (k : Action) → Some node ≡ slice_get t.nodes.items n → is_function node.op ≡ true → o ≡ slice_get t.functions.items node.info → with_functions scope (one (tree ts t n)) k ≡ declared_if ts scope o k
+pub function-declares : (ts : List (List ℕ)) (t : NodeTable) (n : ℕ) (node : Node) (o : Option FunctionEntry) (scope : Addr) (k : Action) → Some node ≡ slice_get t.nodes.items n → is_function_op node.op ≡ true → o ≡ slice_get t.functions.items node.info → with_functions scope (one (tree ts t n)) k ≡ declared_if ts scope o k
 unfolding tree form_of
 function-declares ts t n node o scope k h g f =
     rw (← h, function_is node.op g, f) (function_makes ts (slice_get t.functions.items node.info) _ _ end scope k)

@@ -18,6 +18,6 @@ declared_if ts scope None k = k
 declared_if ts scope (Some f) k = declared ts scope f k
 
 -- a function
-abbrev pub is_function : Op → Bool
-is_function ops.Function = true
-is_function o = false
+abbrev pub is_function_op : Op → Bool
+is_function_op ops.Function = true
+is_function_op o = false

@@ -7,7 +7,7 @@ ghost use Rattle.js_code.specs.Trees.{tree, trees, kids_between};
 ghost use Rattle.js_semantics.specs.Functions.{with_functions};
 ghost use Rattle.js_semantics.specs.Terms.{one};
 ghost use Rattle.js_operations.specs.Flow.{Passes};
-ghost use Rattle.js_rows.specs.Declaring.{is_function, declared, declared_if};
+ghost use Rattle.js_rows.specs.Declaring.{is_function_op, declared, declared_if};
 
 use crate::entries::function_entry;
 use crate::parts::parts_between;
@@ -39,7 +39,7 @@ fn declare_entry<W: World>(
 
 /// Whether a node is a function that is declared or an expression.
 fn is_function(op: Op) -> bool
-    ensures { result ≡ is_function op }
+    ensures { result ≡ is_function_op op }
 {
     match op {
         Op::Function => true,

@@ -21,7 +21,7 @@ use Rattle.js_semantics.specs.State.{State}
 use Rattle.js_semantics.specs.Functions.{Program, FunctionCode, same_source, function_in, function_at}
 use Rattle.js_semantics.specs.Makers.{Made}
 use Rattle.js_semantics.specs.Run.{ended, threw, by_effect, by_full, Run, running, over, run_of, state_of, steps_in, literals}
-use Rattle.js_semantics.specs.Evaluation.{ScratchSpace, copied_world, after_try, keep_source, make_literals, place_literals, Json, json_null, json_bool, json_number, json_string, json_array, json_object, Jsons, no_jsons, a_json, Members, no_members, a_member, object_value, make_json, make_jsons, make_members, Argument, given, made_of, make_argument, make_arguments, budget, Answer, answer_of, evaluation_state, answered, next_kept, kept_term, kept_tree, with_source, prepared, evaluated, evaluate, call_term, with_arguments, evaluate_call}
+use Rattle.js_semantics.specs.Evaluation.{ScratchSpace, copied_world, after_try, keep_source, make_literals, place_literals, Json, json_null, json_bool, json_number, json_string, json_array, json_object, Jsons, no_jsons, a_json, Members, no_members, a_member, object_value, make_json, make_jsons, make_members, Argument, given, made_of, make_argument, make_arguments, budget, Answer, answer_of, evaluation_state, answered, next_kept, kept_term, kept_tree, with_source, prepared, evaluated, evaluate, call_with_values, with_arguments, evaluate_call}
 use Rattle.js_semantics.specs.Laws.{Follows, Undisturbed, AnswerKeeps}
 use Rattle.js_semantics.proofs.FollowLemmas.{steps-follows, run_of-state}
 
@@ -143,8 +143,8 @@ pub call-keeps : (p : Program) (w : World) (x : ScratchSpace) (source : List ℕ
 call-keeps p w x source order callee receiver given_args =
     let c : World = copied_world w x in
     answered-keeps w x (with_arguments receiver given_args (prepared w x source order callee)) (evaluated (with_source p x callee) script_scope values.Undefined)
-    (then_keeps c (prepared w x source order callee) (λ f v. after_try (make_arguments v given_args) (λ vs u. fine (call_term receiver f vs) u)) (prepared-keeps w x source order callee)
-    (λ f v. then_keeps v (make_arguments v given_args) (λ vs u. fine (call_term receiver f vs) u) (arguments-keep v given_args) (λ vs u. keeps-same u)))
+    (then_keeps c (prepared w x source order callee) (λ f v. after_try (make_arguments v given_args) (λ vs u. fine (call_with_values receiver f vs) u)) (prepared-keeps w x source order callee)
+    (λ f v. then_keeps v (make_arguments v given_args) (λ vs u. fine (call_with_values receiver f vs) u) (arguments-keep v given_args) (λ vs u. keeps-same u)))
     (λ v u k. evaluated-keeps (with_source p x callee) script_scope values.Undefined w x v u k)
 
 -- ---- functions that an evaluation makes

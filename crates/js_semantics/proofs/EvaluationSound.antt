@@ -24,7 +24,7 @@ use Rattle.js_semantics.specs.Functions.{Program}
 use Rattle.js_semantics.specs.Makers.{Context, Made}
 use Rattle.js_semantics.specs.Untouched.{IsUntouched}
 use Rattle.js_semantics.specs.Run.{ended, threw, by_effect, by_full, Run, running, over, run_of, steps_in, literals}
-use Rattle.js_semantics.specs.Evaluation.{ScratchSpace, copied_world, after_try, keep_source, make_literals, place_literals, Json, json_null, json_bool, json_number, json_string, json_array, json_object, Jsons, no_jsons, a_json, Members, no_members, a_member, object_value, make_json, make_jsons, make_members, Argument, given, made_of, make_argument, make_arguments, budget, Answer, answer_of, evaluation_state, answered, next_kept, kept_term, kept_tree, with_source, prepared, evaluated, evaluate, call_term, with_arguments, evaluate_call}
+use Rattle.js_semantics.specs.Evaluation.{ScratchSpace, copied_world, after_try, keep_source, make_literals, place_literals, Json, json_null, json_bool, json_number, json_string, json_array, json_object, Jsons, no_jsons, a_json, Members, no_members, a_member, object_value, make_json, make_jsons, make_members, Argument, given, made_of, make_argument, make_arguments, budget, Answer, answer_of, evaluation_state, answered, next_kept, kept_term, kept_tree, with_source, prepared, evaluated, evaluate, call_with_values, with_arguments, evaluate_call}
 use Rattle.js_semantics.specs.Sound.{SoundTerm, Later, SoundRun, SoundArguments, IsReady, SoundAnswer}
 use Rattle.js_semantics.proofs.FollowLemmas.{run_of-state}
 use Rattle.js_semantics.proofs.SoundTerms.{later-same, later-trans, sound-term, sound-program, sound-built_ins, dones-sound}
@@ -252,8 +252,8 @@ evaluate-sound p w x scope receiver source order e f h =
 called-good : (w : World) (x : ScratchSpace) (source : List ℕ) (order : List (List ℕ)) (e : Made) (receiver : Value) (args : List Argument) → MadeUntouched e → IsSound (copied_world w x) → SoundValue (copied_world w x) receiver → SoundArguments (copied_world w x) args → Good (copied_world w x) (with_arguments receiver args (prepared w x source order e)) (IsTree x e)
 called-good w x source order e receiver args f s h a =
     let c : World = copied_world w x in
-    then-good c (prepared w x source order e) (λ g v. after_try (make_arguments v args) (λ vs u. fine (call_term receiver g vs) u)) (IsTree x e) (IsTree x e) (prepared-good w x source order e f s)
-    (λ g v t l k. then-good v (make_arguments v args) (λ vs u. fine (call_term receiver g vs) u) (λ u vs. SoundValues u vs) (IsTree x e) (arguments-good v args t (sound_arguments c v l args a))
+    then-good c (prepared w x source order e) (λ g v. after_try (make_arguments v args) (λ vs u. fine (call_with_values receiver g vs) u)) (IsTree x e) (IsTree x e) (prepared-good w x source order e f s)
+    (λ g v t l k. then-good v (make_arguments v args) (λ vs u. fine (call_with_values receiver g vs) u) (λ u vs. SoundValues u vs) (IsTree x e) (arguments-good v args t (sound_arguments c v l args a))
     (λ vs u r m q. (
       r,
       later-same u,

@@ -8,7 +8,7 @@ use Rattle.js_operators.specs.declared.operator.BinaryOperator.TheVariants as bi
 use Rattle.js_heap.specs.declared.value.Value.TheVariants as values
 use Rattle.js_semantics.specs.Terms.{Mark, to_name, first, doing, read, return_, function, choose, loop, Term, done, standing, part, Terms, end, more, one, joined, enter_debugger, break_, continue_, throw_}
 use Rattle.js_semantics.specs.Waiting.{all_ready, Waits, AllWait, PartsWait, RestWaits}
-use Rattle.js_semantics.specs.Makers.{Context, Made, Item, Items, entered, lexical_item, if_item, while_item, do_while_item, for_item, for_lexical_item, for_of_item, return_item, try_item, function_item, unnamed, naming, within, plain, plains, assigned_to, compounded, updated, deleted, type_of, assignment, unary_term, binary_term, comma_term, call_term, form_of, body_terms, function_term, returned_body, PropertyKey, fixed_key, computed_key, PropertyMade, value_property, method_property, Parts, property_parts, properties_parts, object_term, and_items, block_term, DeclaratorMade, initializer_terms, declarators_terms, optional_term, optional_terms, for_parts, CatchMade, caught, finally_term, script_term, leaf, nothing, item}
+use Rattle.js_semantics.specs.Makers.{Context, Made, Item, Items, untouched, lexical_item, if_item, while_item, do_while_item, for_item, for_lexical_item, for_of_item, return_item, try_item, function_item, unnamed, naming, within, plain, plains, assigned_to, compounded, updated, deleted, type_of, assignment, unary_term, binary_term, comma_term, call_term, form_of, body_terms, function_term, returned_body, PropertyKey, fixed_key, computed_key, PropertyMade, value_property, method_property, Parts, property_parts, properties_parts, object_term, and_items, block_term, DeclaratorMade, initializer_terms, declarators_terms, optional_term, optional_terms, for_parts, CatchMade, caught, finally_term, script_term, leaf, nothing, item}
 use Rattle.js_semantics.specs.Clean.{parameter_names}
 use Rattle.js_semantics.proofs.SourceFolds.{Relations, Keeps}
 
@@ -148,7 +148,7 @@ abbrev pub DeclaratorsWait : List DeclaratorMade → Type 0
 DeclaratorsWait [] = Unit {0}
 DeclaratorsWait (d ∷ ds) = OptionalWaits d.initializer × DeclaratorsWait ds
 
-entered-waits : (node : ℕ) (term : Context → Term) → ((c : Context) → Loose (term c)) → ItemWaits (entered node term)
+entered-waits : (node : ℕ) (term : Context → Term) → ((c : Context) → Loose (term c)) → ItemWaits (untouched node term)
 entered-waits node term h = record { functions_wait = λ c. tt; term_waits = λ c. (λ q. refl, tt, (h (within node c), tt)) }
 
 initializer-waits : (n : List ℕ) (e : Option Made) (c : Context) → OptionalWaits e → Tights (initializer_terms n e c)

@@ -181,12 +181,12 @@ abbrev pub evaluate : Program → World → ScratchSpace → Addr → Value → 
 evaluate p w x scope receiver source order e = answered (prepared w x source order e) (evaluated (with_source p x e) scope receiver)
 
 -- a call in the script scope; its callee is the function expression or arrow, still to be made
-abbrev pub call_term : Value → Term → List Value → Term
-call_term receiver callee args = part (call beginning 0) (more (done receiver) (more callee (dones args))) end
+abbrev pub call_with_values : Value → Term → List Value → Term
+call_with_values receiver callee args = part (call beginning 0) (more (done receiver) (more callee (dones args))) end
 
 -- the call of a function that is still to be made, once its arguments are values
 abbrev pub with_arguments : Value → List Argument → Tried Term → Tried Term
-with_arguments receiver args t = after_try t (λ callee w. after_try (make_arguments w args) (λ vs v. fine (call_term receiver callee vs) v))
+with_arguments receiver args t = after_try t (λ callee w. after_try (make_arguments w args) (λ vs v. fine (call_with_values receiver callee vs) v))
 
 -- calls a source's function with a `this` and arguments
 abbrev pub evaluate_call : Program → World → ScratchSpace → List ℕ → List (List ℕ) → Made → Value → List Argument → Answer

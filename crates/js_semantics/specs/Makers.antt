@@ -241,7 +241,7 @@ function_term node None ps body c = part (function (form_of node c.source c.name
 abbrev pub function_made : ℕ → Option (List ℕ) → List (List ℕ) → Items → Made
 function_made node n ps body = made node (λ c. function_term node n ps body c)
 
--- an arrow's expression body is entered as a `return`
+-- an arrow's expression body is untouched as a `return`
 abbrev pub returned_body : Made → Items
 returned_body e = record { names = []; functions = λ c. end; terms = λ c. one (part (enter e.node) end (one (part return_ (one (e.term (within e.node c))) end))) }
 
@@ -316,8 +316,8 @@ abbrev pub item : (Context → Term) → Item
 item term = record { names = []; functions = no_functions; term = term }
 
 -- an untouched statement; its parts stand in it
-abbrev pub entered : ℕ → (Context → Term) → Item
-entered node term = item (λ c. part (enter node) end (one (term (within node c))))
+abbrev pub untouched : ℕ → (Context → Term) → Item
+untouched node term = item (λ c. part (enter node) end (one (term (within node c))))
 
 -- a list of statements with one in front
 abbrev pub and_items : Item → Items → Items
@@ -342,7 +342,7 @@ empty_item = item (λ c. done values.Undefined)
 
 -- a statement of an expression (14.5)
 abbrev pub expression_item : ℕ → Made → Item
-expression_item node e = entered node (plain e)
+expression_item node e = untouched node (plain e)
 
 -- a declared name with its initialiser, if there is one
 pub record DeclaratorMade : Type 0 where
@@ -370,7 +370,7 @@ declarators_names constant (d ∷ ds) = declared d.name constant ∷ declarators
 
 -- a declaration by `let` or `const` (14.3.1)
 abbrev pub lexical_item : ℕ → Bool → List DeclaratorMade → Item
-lexical_item node constant ds = record (entered node (declarators_term ds)) { names = declarators_names constant ds }
+lexical_item node constant ds = record (untouched node (declarators_term ds)) { names = declarators_names constant ds }
 
 -- what stands behind `else`; undefined where there is no `else`
 abbrev pub alternate_term : Option Item → Context → Term
@@ -379,7 +379,7 @@ alternate_term (Some i) c = i.term c
 
 -- `if` (14.6)
 abbrev pub if_item : ℕ → Made → Item → Option Item → Item
-if_item node e s t = entered node (λ c. part choose (one (plain e c)) (more (s.term c) (one (alternate_term t c))))
+if_item node e s t = untouched node (λ c. part choose (one (plain e c)) (more (s.term c) (one (alternate_term t c))))
 
 -- a loop's parts: test, update and body
 abbrev pub loop_parts : Term → Term → Term → Terms
@@ -391,11 +391,11 @@ nothing = done values.Undefined
 
 -- `while` (14.7.3)
 abbrev pub while_item : ℕ → Made → Item → Item
-while_item node e s = entered node (λ c. part (loop first None) end (loop_parts (plain e c) nothing (s.term c)))
+while_item node e s = untouched node (λ c. part (loop first None) end (loop_parts (plain e c) nothing (s.term c)))
 
 -- `do … while`, which begins with its body (14.7.2)
 abbrev pub do_while_item : ℕ → Item → Made → Item
-do_while_item node s e = entered node (λ c. part (loop doing None) end (loop_parts (plain e c) nothing (s.term c)))
+do_while_item node s e = untouched node (λ c. part (loop doing None) end (loop_parts (plain e c) nothing (s.term c)))
 
 -- an expression that may be absent, or what stands in its place
 abbrev pub optional_term : Option Made → Context → Term → Term
@@ -413,7 +413,7 @@ for_parts t u s c = loop_parts (optional_term t c (done (values.Bool true))) (op
 
 -- a `for` without a declaration (14.7.4)
 abbrev pub for_item : ℕ → Option Made → Option Made → Option Made → Item → Item
-for_item node i t u s = entered node (λ c. part (loop first None) (optional_terms i c) (for_parts t u s c))
+for_item node i t u s = untouched node (λ c. part (loop first None) (optional_terms i c) (for_parts t u s c))
 
 -- a `for` with `let` or `const` (14.7.4)
 abbrev pub for_lexical_item : ℕ → Bool → List DeclaratorMade → Option Made → Option Made → Item → Item
@@ -427,19 +427,19 @@ for_of_item node constant n e s =
 
 -- `continue` (14.8)
 abbrev pub continue_item : ℕ → Item
-continue_item node = entered node (λ c. leaf continue_)
+continue_item node = untouched node (λ c. leaf continue_)
 
 -- `break` (14.9)
 abbrev pub break_item : ℕ → Item
-break_item node = entered node (λ c. leaf break_)
+break_item node = untouched node (λ c. leaf break_)
 
 -- `return`, with or without an expression (14.10)
 abbrev pub return_item : ℕ → Option Made → Item
-return_item node e = entered node (λ c. part return_ (optional_terms e c) end)
+return_item node e = untouched node (λ c. part return_ (optional_terms e c) end)
 
 -- `throw`, which keeps its node as the place of the raise (14.14)
 abbrev pub throw_item : ℕ → Made → Item
-throw_item node e = entered node (λ c. part (throw_ node) (one (plain e c)) end)
+throw_item node e = untouched node (λ c. part (throw_ node) (one (plain e c)) end)
 
 -- a catch with the name that it may have
 pub record CatchMade : Type 0 where
@@ -458,7 +458,7 @@ finally_term (Some f) t c = part finishing (one t) (one (block_term f c))
 
 -- `try`, its catch standing within its `finally` (14.15)
 abbrev pub try_item : ℕ → Items → Option CatchMade → Option Items → Item
-try_item node b h f = entered node (λ c. finally_term f (caught h (block_term b c) c) c)
+try_item node b h f = untouched node (λ c. finally_term f (caught h (block_term b c) c) c)
 
 -- `debugger` (14.16)
 abbrev pub debugger_item : ℕ → Item

@@ -33,7 +33,7 @@ use Rattle.js_steps.specs.Following.{innermost, HasTurn, RestsAt, IsCallOf, IsCo
 use Rattle.js_steps.proofs.GapLaws.{plugged-resettled}
 use Rattle.js_steps.proofs.ScopeLaws.{has_scope, scopes-same, scopes-own, scopes-plain}
 use Rattle.js_steps.specs.Stacks.{has_extra, OwnsOnly, begun, outer_of, values_of, extra_of, wide, with_value, without_values, changed, turned, turned_extra, owning}
-use Rattle.js_steps.specs.Answers.{in_scope, head_of, rest_of, own_scope, now_of, added, listed, assigning, operating, assigned, called, called_this, reduced_term}
+use Rattle.js_steps.specs.Answers.{in_scope, head_of, rest_of, own_scope, now_of, added, listed, assigning, operating, assigned, called, this_of_call, reduced_term}
 
 -- ---- scopes
 
@@ -100,19 +100,19 @@ begun_call_by w ws x this callee = with_value callee (with_value this (changed o
 abbrev begun_call : Wide → List Wide → Value → Value → List Wide
 begun_call w ws this callee = with_value callee (with_value this (changed ops.Call w.info w.mid w.end (without_values (w ∷ ws))))
 
-call_base : (ts : List (List ℕ)) (t : NodeTable) (w : Wide) (ws : List Wide) (callee : Value) → w.extra ≡ None → resettled (gaps_of ts t ws) (called ts t w callee) ≡ proceeding ts t (begun_call w ws (called_this w.op w.values) callee)
+call_base : (ts : List (List ℕ)) (t : NodeTable) (w : Wide) (ws : List Wide) (callee : Value) → w.extra ≡ None → resettled (gaps_of ts t ws) (called ts t w callee) ≡ proceeding ts t (begun_call w ws (this_of_call w.op w.values) callee)
 unfolding task_form form_of
 call_base ts t w ws callee e =
     plugged-resettled (gaps_of ts t ws) (called ts t w callee) refl
-    ∙ ap (λ x. plugged (gaps_of ts t ws) (part (call_form (slice_get t.calls.items w.info)) (more (done (called_this w.op w.values)) (more (done callee) x)) end)) (later-plain ts t w e)
-    ∙ ap (λ x. plugged (gaps_of ts t ws) (part (call_form (slice_get t.calls.items w.info)) (more (done (called_this w.op w.values)) (more (done callee) (trees ts t w.mid w.end))) x)) (sym (ap (λ y. with_list y (trees ts t (kept_from y w.end) w.end)) e ∙ trees-none ts t w.end))
+    ∙ ap (λ x. plugged (gaps_of ts t ws) (part (call_form (slice_get t.calls.items w.info)) (more (done (this_of_call w.op w.values)) (more (done callee) x)) end)) (later-plain ts t w e)
+    ∙ ap (λ x. plugged (gaps_of ts t ws) (part (call_form (slice_get t.calls.items w.info)) (more (done (this_of_call w.op w.values)) (more (done callee) (trees ts t w.mid w.end))) x)) (sym (ap (λ y. with_list y (trees ts t (kept_from y w.end) w.end)) e ∙ trees-none ts t w.end))
 
-pub call-follows : (ts : List (List ℕ)) (t : NodeTable) (old new : List Wide) (task : Task) (this callee : Value) → old ≡ wide task (values_of old) (extra_of old) ∷ outer_of old → extra_of old ≡ None → this ≡ called_this task.op (values_of old) → new ≡ with_value callee (with_value this (changed ops.Call task.info task.mid task.end (without_values old))) → resettled (gaps_of ts t (outer_of old)) (reduced_term ts t (innermost old) (answers.Calls callee)) ≡ proceeding ts t new
+pub call-follows : (ts : List (List ℕ)) (t : NodeTable) (old new : List Wide) (task : Task) (this callee : Value) → old ≡ wide task (values_of old) (extra_of old) ∷ outer_of old → extra_of old ≡ None → this ≡ this_of_call task.op (values_of old) → new ≡ with_value callee (with_value this (changed ops.Call task.info task.mid task.end (without_values old))) → resettled (gaps_of ts t (outer_of old)) (reduced_term ts t (innermost old) (answers.Calls callee)) ≡ proceeding ts t new
 unfolding reduced_term
 call-follows ts t [] new task this callee h e q n = cc
 call-follows ts t (w ∷ ws) new task this callee h e q n =
     let p : wide task w.values w.extra ≡ w = sym (ap innermost h) in
-    let q : this ≡ called_this w.op w.values = q ∙ ap (λ x. called_this x.op w.values) p in
+    let q : this ≡ this_of_call w.op w.values = q ∙ ap (λ x. this_of_call x.op w.values) p in
     call_base ts t w ws callee e ∙ ap (λ x. proceeding ts t (begun_call w ws x callee)) (sym q) ∙ ap (proceeding ts t) (sym (n ∙ ap (λ x. begun_call_by w ws x this callee) p))
 
 call_plain : (op : Op) (info : ℕ) → IsCallOf op → has_scope op info ≡ false

@@ -28,7 +28,7 @@ use Rattle.js_steps.specs.declared.task.Task.{Task}
 use Rattle.js_steps.specs.Gaps.{scope_at, all_risen}
 use Rattle.js_steps.specs.Tasks.{Wide, form_in, task_form, later_of, index_of, turn_scope, gaps_of}
 use Rattle.js_steps.specs.Stacks.{wide, outer_of, values_of, extra_of}
-use Rattle.js_steps.specs.Passing.{passing_try, passing_call, passing_turn, passing_entry, passing_of, took, HasPassed}
+use Rattle.js_steps.specs.Passing.{passing_try, passing_call, passing_turn, passing_entry, passing_of, took, HasPassedTasks}
 
 -- ---- forms that take a completion
 
@@ -147,37 +147,37 @@ left : (c : Completion) (s : State) → performed (leave c) s ≡ travels c s
 unfolding performed
 left c s = refl
 
-pub passed-none : (t : NodeTable) (c : Completion) (old : List Wide) (before : Context) → HasPassed t c old before old before
+pub passed-none : (t : NodeTable) (c : Completion) (old : List Wide) (before : Context) → HasPassedTasks t c old before old before
 passed-none t c old before = record { moves = λ ts root w taken. refl; scoped = λ root s. s }
 
-let_pass : (t : NodeTable) (c : Completion) (w : Wide) (ws : List Wide) (now : Context) → passing_of t w.op w.info c ≡ passings.Lets → HasPassed t c (w ∷ ws) now ws now
+let_pass : (t : NodeTable) (c : Completion) (w : Wide) (ws : List Wide) (now : Context) → passing_of t w.op w.info c ≡ passings.Lets → HasPassedTasks t c (w ∷ ws) now ws now
 let_pass t c w ws now e = record {
   moves = λ ts root v taken. risen-by ts t root w ws c passings.Lets (state_of v now taken) e ∙ ap (all_risen root (gaps_of ts t ws)) (left c (state_of v now taken));
   scoped = λ root s. s.1;
 }
 
-unframe : (t : NodeTable) (c : Completion) (w : Wide) (ws : List Wide) (now after : Context) → passing_of t w.op w.info c ≡ passings.Unframes → Turns pop_frame now after → HasPassed t c (w ∷ ws) now ws after
+unframe : (t : NodeTable) (c : Completion) (w : Wide) (ws : List Wide) (now after : Context) → passing_of t w.op w.info c ≡ passings.Unframes → Turns pop_frame now after → HasPassedTasks t c (w ∷ ws) now ws after
 unframe t c w ws now after e f = record {
   moves = λ ts root v taken. risen-by ts t root w ws c passings.Unframes (state_of v now taken) e ∙ ap (all_risen root (gaps_of ts t ws)) (f v taken (leave c) ∙ left c (state_of v after taken));
   scoped = λ root s. s.1;
 }
 
-behind : (t : NodeTable) (c : Completion) (old : List Wide) (before : Context) (mid : List Wide) (now : Context) (new : List Wide) (after : Context) → HasPassed t c old before mid now → HasPassed t c mid now new after → HasPassed t c old before new after
+behind : (t : NodeTable) (c : Completion) (old : List Wide) (before : Context) (mid : List Wide) (now : Context) (new : List Wide) (after : Context) → HasPassedTasks t c old before mid now → HasPassedTasks t c mid now new after → HasPassedTasks t c old before new after
 behind t c old before mid now new after h k = record {
   moves = λ ts root w taken. h.moves ts root w taken ∙ k.moves ts root w taken;
   scoped = λ root s. k.scoped root (h.scoped root s);
 }
 
 -- past one more task, which is left
-pub passed-task : (t : NodeTable) (c : Completion) (old : List Wide) (before : Context) (mid new : List Wide) (now : Context) (task : Task) → HasPassed t c old before mid now → mid ≡ wide task (values_of mid) (extra_of mid) ∷ outer_of mid → passing_of t task.op task.info c ≡ passings.Lets → new ≡ outer_of mid → HasPassed t c old before new now
+pub passed-task : (t : NodeTable) (c : Completion) (old : List Wide) (before : Context) (mid new : List Wide) (now : Context) (task : Task) → HasPassedTasks t c old before mid now → mid ≡ wide task (values_of mid) (extra_of mid) ∷ outer_of mid → passing_of t task.op task.info c ≡ passings.Lets → new ≡ outer_of mid → HasPassedTasks t c old before new now
 passed-task t c old before mid new now task h i e n =
-    let P : List Wide → Type 0 = λ ws. HasPassed t c ws now (outer_of mid) now in
-    let Q : List Wide → Type 0 = λ ws. HasPassed t c old before ws now in
+    let P : List Wide → Type 0 = λ ws. HasPassedTasks t c ws now (outer_of mid) now in
+    let Q : List Wide → Type 0 = λ ws. HasPassedTasks t c old before ws now in
     subst Q (sym n) (behind t c old before mid now (outer_of mid) now h (subst P (sym i) (let_pass t c (wide task (values_of mid) (extra_of mid)) (outer_of mid) now e)))
 
 -- past an active call
-pub passed-call : (t : NodeTable) (c : Completion) (old : List Wide) (before : Context) (mid new : List Wide) (now after : Context) (task : Task) → HasPassed t c old before mid now → mid ≡ wide task (values_of mid) (extra_of mid) ∷ outer_of mid → passing_of t task.op task.info c ≡ passings.Unframes → Turns pop_frame now after → new ≡ outer_of mid → HasPassed t c old before new after
+pub passed-call : (t : NodeTable) (c : Completion) (old : List Wide) (before : Context) (mid new : List Wide) (now after : Context) (task : Task) → HasPassedTasks t c old before mid now → mid ≡ wide task (values_of mid) (extra_of mid) ∷ outer_of mid → passing_of t task.op task.info c ≡ passings.Unframes → Turns pop_frame now after → new ≡ outer_of mid → HasPassedTasks t c old before new after
 passed-call t c old before mid new now after task h i e f n =
-    let P : List Wide → Type 0 = λ ws. HasPassed t c ws now (outer_of mid) after in
-    let Q : List Wide → Type 0 = λ ws. HasPassed t c old before ws after in
+    let P : List Wide → Type 0 = λ ws. HasPassedTasks t c ws now (outer_of mid) after in
+    let Q : List Wide → Type 0 = λ ws. HasPassedTasks t c old before ws after in
     subst Q (sym n) (behind t c old before mid now (outer_of mid) after h (subst P (sym i) (unframe t c (wide task (values_of mid) (extra_of mid)) (outer_of mid) now after e f)))

@@ -39,7 +39,7 @@ use Rattle.js_steps.specs.Rows.{IsCatching, CatchOf, redex}
 use Rattle.js_steps.specs.Stacks.{has_extra, wide, begun, outer_of, values_of, extra_of, without_values, at_part, OwnsOnly}
 use Rattle.js_steps.specs.Settling.{proceeding, settled_row, IsInnermost}
 use Rattle.js_steps.specs.Following.{innermost}
-use Rattle.js_steps.specs.Passing.{passing_try, passing_call, passing_turn, passing_entry, passing_of, took, TakesSo, HasPassed}
+use Rattle.js_steps.specs.Passing.{passing_try, passing_call, passing_turn, passing_entry, passing_of, took, TakesSo, HasPassedTasks}
 use Rattle.js_steps.specs.Stepping.{Tells, TellsWithin, IfGoesOn, StandsIn, EndsSo, finished_by, answer_of, Says, went_of}
 use Rattle.std.proofs.lemmas.Result.{on_ok_weaker}
 use Rattle.js_steps.specs.Answers.{Reduces}
@@ -248,7 +248,7 @@ ends (returns v) s = (refl, refl)
 ends breaks s = (refl, refl)
 ends continues s = (refl, refl)
 
-pub over-told : (ts : List (List ℕ)) (t : NodeTable) (root : Addr) (old new : List Wide) (p : Point) (c : Completion) (w : World) (before after : Context) (taken : List (List ℕ)) (stepped : Stepped) → HasPassed t c old before new after → TakesSo t new c None → stepped ≡ steppeds.Over (finished_by c) → TellsWithin ts t root old (travels c (state_of w before taken)) stepped new p (state_of w after taken)
+pub over-told : (ts : List (List ℕ)) (t : NodeTable) (root : Addr) (old new : List Wide) (p : Point) (c : Completion) (w : World) (before after : Context) (taken : List (List ℕ)) (stepped : Stepped) → HasPassedTasks t c old before new after → TakesSo t new c None → stepped ≡ steppeds.Over (finished_by c) → TellsWithin ts t root old (travels c (state_of w before taken)) stepped new p (state_of w after taken)
 over-told ts t root old new p c w before after taken stepped h e o =
     let s : State = state_of w after taken in
     let P : Move Term → Type 0 = λ m. Tells m stepped (term_at ts t new p) s in
@@ -256,7 +256,7 @@ over-told ts t root old new p c w before after taken stepped h e o =
     subst P (sym (h.moves ts root w taken ∙ ap (λ ws. all_risen root (gaps_of ts t ws) (travels c s)) e)) (subst Q (sym o) (ends c s))
 
 -- behind what it has passed
-pub passed-told : (ts : List (List ℕ)) (t : NodeTable) (root : Addr) (old mid new : List Wide) (p : Point) (c : Completion) (w : World) (before after : Context) (taken : List (List ℕ)) (stepped : Stepped) (u : State) → HasPassed t c old before mid after → TellsWithin ts t root mid (travels c (state_of w after taken)) stepped new p u → TellsWithin ts t root old (travels c (state_of w before taken)) stepped new p u
+pub passed-told : (ts : List (List ℕ)) (t : NodeTable) (root : Addr) (old mid new : List Wide) (p : Point) (c : Completion) (w : World) (before after : Context) (taken : List (List ℕ)) (stepped : Stepped) (u : State) → HasPassedTasks t c old before mid after → TellsWithin ts t root mid (travels c (state_of w after taken)) stepped new p u → TellsWithin ts t root old (travels c (state_of w before taken)) stepped new p u
 passed-told ts t root old mid new p c w before after taken stepped u h g =
     let P : Move Term → Type 0 = λ m. Tells m stepped (term_at ts t new p) u in
     subst P (sym (h.moves ts root w taken)) g

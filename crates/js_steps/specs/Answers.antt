@@ -37,9 +37,9 @@ in_scope a t = settled (scoped a) (one t) end
 -- ---- calls and assignments
 
 -- the `this` of a call whose callee was a name, or a property of its first value
-abbrev pub called_this : Op → List Value → Value
-called_this ops.CallOfName vs = values.Undefined
-called_this op vs = only vs
+abbrev pub this_of_call : Op → List Value → Value
+this_of_call ops.CallOfName vs = values.Undefined
+this_of_call op vs = only vs
 
 -- the assignment that follows the operator of a compound one
 abbrev pub assigning : Op → Op
@@ -64,7 +64,7 @@ assigned ts t w old = part (form_of ts t (assigning w.op) w.info) (joined (dones
 
 -- what a call is once its callee is read: the arguments come next
 abbrev pub called : List (List ℕ) → NodeTable → Wide → Value → Term
-called ts t w callee = part (call_form (slice_get t.calls.items w.info)) (more (done (called_this w.op w.values)) (more (done callee) (later_of ts t w))) end
+called ts t w callee = part (call_form (slice_get t.calls.items w.info)) (more (done (this_of_call w.op w.values)) (more (done callee) (later_of ts t w))) end
 
 -- ---- loops
 

@@ -103,10 +103,10 @@ pub record IsEntered (t : NodeTable) (old new : List Wide) (n : ℕ) : Type 0 wh
   pub inner : (root : Addr) → scope_of root new ≡ scope_of root old
 
 -- what holds where something comes next
-abbrev pub Stands : NodeTable → List Wide → List Wide → Next → Type 0
-Stands t old new nexts.Row = IsAtRow new
-Stands t old new (nexts.Value v) = new ≡ outer_of old
-Stands t old new (nexts.Part n) = IsEntered t old new n
+abbrev pub StandsNext : NodeTable → List Wide → List Wide → Next → Type 0
+StandsNext t old new nexts.Row = IsAtRow new
+StandsNext t old new (nexts.Value v) = new ≡ outer_of old
+StandsNext t old new (nexts.Part n) = IsEntered t old new n
 
 -- the innermost task has changed in its own scope, and the tasks around it are the same
 pub record Through (t : NodeTable) (old new : List Wide) : Type 0 where
@@ -117,7 +117,7 @@ pub record Through (t : NodeTable) (old new : List Wide) : Type 0 where
 -- from tasks of which this term is told to others
 pub record Comes (t : NodeTable) (old new : List Wide) (from : List (List ℕ) → Term) (next : Next) : Type 0 where
   pub term : (ts : List (List ℕ)) → from ts ≡ next_term ts t new next
-  pub stands : Stands t old new next
+  pub stands : StandsNext t old new next
   pub scoped : (root : Addr) → InScopes t root old → InScopes t root new
 
 -- what comes next can come: a row's parts have values, and a part is no value

@@ -1,7 +1,7 @@
 //! A completion on its way outward, up to the task that takes it.
 
 ghost use Rattle.std.specs.Prelude.{◌≡◌};
-ghost use Rattle.js_steps.specs.Passing.{passing_try, passing_call, passing_turn, passing_of, TakesSo, HasPassed};
+ghost use Rattle.js_steps.specs.Passing.{passing_try, passing_call, passing_turn, passing_of, TakesSo, HasPassedTasks};
 
 use crate::finish::for_of_at;
 use crate::stack::Stack;
@@ -95,7 +95,7 @@ pub fn pass_outward(
     completion: Completion,
 ) -> Option<Taking>
     ensures takes { TakesSo table.now stack.new completion result }
-    ensures passed { HasPassed table.now completion stack.old context.old stack.new context.new }
+    ensures passed { HasPassedTasks table.now completion stack.old context.old stack.new context.new }
 {
     while let Some(task) = stack.last() {
         match passing_of(table, task.op, task.info, completion) {

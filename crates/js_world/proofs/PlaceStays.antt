@@ -3,7 +3,7 @@ use Rattle.std.proofs.Common.{◌≡◌, ℕ, List, Option, Some, None, Result, 
 use Rattle.js_heap.specs.declared.value.Addr.{Addr}
 use Rattle.js_heap.specs.declared.cell.Cell.{Cell}
 use Rattle.js_heap.specs.World.{World, Tried, fine, read_cell, make_cell}
-use Rattle.js_heap.specs.Worlds.{HasMade, CellStays, AfterFine}
+use Rattle.js_heap.specs.Worlds.{HasMadeCell, CellStays, AfterFine}
 use Rattle.js_heap.proofs.MapLemmas.{making-makes}
 use Rattle.js_world.specs.declared.world.Refused.{Refused}
 use Rattle.js_world.specs.Calls.{HasPlace, Tries}
@@ -14,8 +14,8 @@ place_in_cell (Some c) p place name e h = let P : Option Cell → Type 0 = λ x.
 
 pub place-stays : (w v : World) (c : Cell) (a scope : Addr) (place : ℕ) (m n : List ℕ) → make_cell w c ≡ fine a v → n ≡ m → HasPlace (read_cell w scope) place m → HasPlace (read_cell v scope) place n
 place-stays w v c a scope place m n e f h =
-    let P : Tried Addr → Type 0 = λ t. AfterFine t (λ b u. HasMade w c b u) in
-    let made : HasMade w c a v = subst P e (making-makes w c) in
+    let P : Tried Addr → Type 0 = λ t. AfterFine t (λ b u. HasMadeCell w c b u) in
+    let made : HasMadeCell w c a v = subst P e (making-makes w c) in
     let Q : List ℕ → Type 0 = λ x. HasPlace (read_cell v scope) place x in
     subst Q (sym f) (place_in_cell (read_cell w scope) (read_cell v scope) place m (made.others scope) h)
 

@@ -20,22 +20,22 @@ use Rattle.locations.specs.Kinds.{stronger, strongest, kind_at}
 use Rattle.locations.specs.Locations.{here, locations_below, script_marks, break_locations}
 
 -- something stands at an offset
-abbrev pub Stands : Option SpotKind → Type 0
-Stands o = (kind : SpotKind) × (o ≡ Some kind)
+abbrev pub HasKind : Option SpotKind → Type 0
+HasKind o = (kind : SpotKind) × (o ≡ Some kind)
 
-strongest_stands : (k : SpotKind) (o : Option SpotKind) → Stands (strongest k o)
+strongest_stands : (k : SpotKind) (o : Option SpotKind) → HasKind (strongest k o)
 strongest_stands k None = (k, refl)
 strongest_stands k (Some l) = (stronger k l, refl)
 
-later_stands : (b : Bool) (k : SpotKind) (o : Option SpotKind) → Stands o → Stands (if b then strongest k o else o)
+later_stands : (b : Bool) (k : SpotKind) (o : Option SpotKind) → HasKind o → HasKind (if b then strongest k o else o)
 later_stands true k o h = strongest_stands k o
 later_stands false k o h = h
 
-pub mark_stands : (spans : List Span) (ms : Marks) (i : ℕ) (m : Marked) → i < length ms → get_or ms i m ≡ m → Stands (kind_at spans ms (offset_of spans m.mark))
+pub mark_stands : (spans : List Span) (ms : Marks) (i : ℕ) (m : Marked) → i < length ms → get_or ms i m ≡ m → HasKind (kind_at spans ms (offset_of spans m.mark))
 mark_stands spans [] i m l e = absurd (omega arith)
 mark_stands spans (x ∷ ms) zero m l e =
     let there : nat_eq (offset_of spans x.mark) (offset_of spans m.mark) ≡ true = eq-eqb (offset_of spans x.mark) (offset_of spans m.mark) (ap (λ (y : Marked). offset_of spans y.mark) e) in
-    subst (λ b. Stands (if b then strongest x.kind (kind_at spans ms (offset_of spans m.mark)) else kind_at spans ms (offset_of spans m.mark))) (sym there) (strongest_stands x.kind (kind_at spans ms (offset_of spans m.mark)))
+    subst (λ b. HasKind (if b then strongest x.kind (kind_at spans ms (offset_of spans m.mark)) else kind_at spans ms (offset_of spans m.mark))) (sym there) (strongest_stands x.kind (kind_at spans ms (offset_of spans m.mark)))
 mark_stands spans (x ∷ ms) (suc i) m l e =
     later_stands (nat_eq (offset_of spans x.mark) (offset_of spans m.mark)) x.kind (kind_at spans ms (offset_of spans m.mark)) (mark_stands spans ms i m (omega arith) e)
 
@@ -56,7 +56,7 @@ location_stands u kinds (suc n) x k l e =
 -- a mark within the source stands at a location
 pub mark_located : (s : Script) (m : Marked) → Contains (script_marks s) m → offset_of s.spans m.mark ≤ length s.source → (kind : SpotKind) × Contains (break_locations s) (record { pos = position s.source (offset_of s.spans m.mark); kind = kind })
 mark_located s m h within =
-    let at : Stands (kind_at s.spans (script_marks s) (offset_of s.spans m.mark)) = mark_stands s.spans (script_marks s) h.0 m h.1 h.2 in
+    let at : HasKind (kind_at s.spans (script_marks s) (offset_of s.spans m.mark)) = mark_stands s.spans (script_marks s) h.0 m h.1 h.2 in
     (at.0, location_stands s.source (kind_at s.spans (script_marks s)) (suc (length s.source)) (offset_of s.spans m.mark) at.0 (omega arith) at.1)
 
 -- ---- marks within the source

@@ -7,7 +7,7 @@ use Rattle.js_heap.specs.BuiltIns.{script_scope}
 use Rattle.js_heap.specs.ScratchSpaces.{ScratchSpace}
 use Rattle.js_heap.specs.World.{World, fine}
 use Rattle.js_heap.specs.Worlds.{Keeps}
-use Rattle.js_semantics.specs.Evaluation.{Answer, Argument, answer_of, answered, call_term, evaluated, prepared, with_arguments, with_source}
+use Rattle.js_semantics.specs.Evaluation.{Answer, Argument, answer_of, answered, call_with_values, evaluated, prepared, with_arguments, with_source}
 use Rattle.js_semantics.specs.Functions.{Program}
 use Rattle.js_semantics.specs.Makers.{Made}
 use Rattle.js_semantics.specs.Run.{Run, run_of, steps_in}
@@ -75,7 +75,7 @@ end_with stepped = None
 
 -- what the run of a call comes to that begins with its callee: the call of a value, with the steps that are left, or an end
 abbrev pub ComesTo : Program → Addr → ℕ → Run → Value → List Value → Callee → State → Type 0
-ComesTo p root most first receiver arguments (callees.Reduced v left) s = steps_in most p root first ≡ steps_in left p root (run_of (call_term receiver (done v) arguments) s)
+ComesTo p root most first receiver arguments (callees.Reduced v left) s = steps_in most p root first ≡ steps_in left p root (run_of (call_with_values receiver (done v) arguments) s)
 ComesTo p root most first receiver arguments (callees.Ended end) s = Answers (answer_of (steps_in most p root first)) end s.world × EndsIn (steps_in most p root first) end s.world
 
 -- the innermost task has more values

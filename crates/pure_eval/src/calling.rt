@@ -3,7 +3,7 @@
 ghost use Rattle.std.specs.Prelude.{◌≡◌, ℕ, List, true, Some, IfOk, OnOk};
 ghost use Rattle.js_heap.specs.BuiltIns.{script_scope};
 ghost use Rattle.js_heap.specs.declared.value.Value.TheVariants as values;
-ghost use Rattle.js_semantics.specs.Evaluation.{answer_of, budget, call_term, evaluated, evaluation_state};
+ghost use Rattle.js_semantics.specs.Evaluation.{answer_of, budget, call_with_values, evaluated, evaluation_state};
 ghost use Rattle.js_semantics.specs.Run.{steps_in, run_of};
 ghost use Rattle.js_semantics.specs.Terms.{done, settle};
 ghost use Rattle.js_semantics.specs.declared.form.Form.TheVariants.{Call as call_at};
@@ -122,7 +122,7 @@ fn reduce_callee<T: Rows, W: World>(
     requires table { IsTable table.now }
     requires functions { HasFunctions table.now }
     requires stands { StandsIn table.now root stack.old point.old }
-    ensures { (taken : List (List ℕ)) (receiver : _) (arguments : _) → ComesTo (program_of names.now table.now) root most (run_of (call_term receiver (term_at names.now table.now stack.old point.old) arguments) (state_of (W.world names.now world.old) context.old taken)) receiver arguments result (state_of (W.world names.now world.new) context.new taken) }
+    ensures { (taken : List (List ℕ)) (receiver : _) (arguments : _) → ComesTo (program_of names.now table.now) root most (run_of (call_with_values receiver (term_at names.now table.now stack.old point.old) arguments) (state_of (W.world names.now world.old) context.old taken)) receiver arguments result (state_of (W.world names.now world.new) context.new taken) }
 {
     let mut left = most;
     while left > 0 {
@@ -159,7 +159,7 @@ fn begin_call(
     arguments: &[Value],
 ) -> Result<Stack, AllocError>
     requires { HasCall table.now call }
-    ensures term { IfOk result (λ stack. (ts : List (List ℕ)) → term_at ts table.now stack points.Row ≡ call_term receiver (done callee) arguments.now) }
+    ensures term { IfOk result (λ stack. (ts : List (List ℕ)) → term_at ts table.now stack points.Row ≡ call_with_values receiver (done callee) arguments.now) }
     ensures stands { IfOk result (λ stack. StandsIn table.now root stack points.Row) }
 {
     let _ = table;
@@ -188,8 +188,8 @@ fn run_call<T: Rows, W: World>(
     requires table { IsTable table.now }
     requires functions { HasFunctions table.now }
     requires call { HasCall table.now call }
-    ensures answer { (taken : List (List ℕ)) → Answers (answer_of (steps_in left (program_of names.now table.now) root (run_of (call_term receiver (done callee) arguments.now) (state_of (W.world names.now world.old) context.old taken)))) result (W.world names.now world.new) }
-    ensures world { (taken : List (List ℕ)) → EndsIn (steps_in left (program_of names.now table.now) root (run_of (call_term receiver (done callee) arguments.now) (state_of (W.world names.now world.old) context.old taken))) result (W.world names.now world.new) }
+    ensures answer { (taken : List (List ℕ)) → Answers (answer_of (steps_in left (program_of names.now table.now) root (run_of (call_with_values receiver (done callee) arguments.now) (state_of (W.world names.now world.old) context.old taken)))) result (W.world names.now world.new) }
+    ensures world { (taken : List (List ℕ)) → EndsIn (steps_in left (program_of names.now table.now) root (run_of (call_with_values receiver (done callee) arguments.now) (state_of (W.world names.now world.old) context.old taken))) result (W.world names.now world.new) }
 {
     let Ok(begun) = begin_call(alloc, table, root, call, receiver, callee, arguments) else {
         return Evaluated::Memory;
@@ -216,9 +216,9 @@ fn call_node<T: Rows, W: World>(
     requires table { IsTable table.now }
     requires functions { HasFunctions table.now }
     requires call { HasCall table.now call }
-    ensures answer { Answers (evaluated (program_of names.now table.now) script_scope values.Undefined (W.world names.now world.old) (call_term receiver (settle (tree names.now table.now node)) arguments.now)) result (W.world names.now world.new) }
+    ensures answer { Answers (evaluated (program_of names.now table.now) script_scope values.Undefined (W.world names.now world.old) (call_with_values receiver (settle (tree names.now table.now node)) arguments.now)) result (W.world names.now world.new) }
     // The world is that behind the definition's steps.
-    ensures world { EndsIn (steps_in budget (program_of names.now table.now) script_scope (run_of (call_term receiver (settle (tree names.now table.now node)) arguments.now) (evaluation_state (W.world names.now world.old) values.Undefined))) result (W.world names.now world.new) }
+    ensures world { EndsIn (steps_in budget (program_of names.now table.now) script_scope (run_of (call_with_values receiver (settle (tree names.now table.now node)) arguments.now) (evaluation_state (W.world names.now world.old) values.Undefined))) result (W.world names.now world.new) }
 {
     let root = script_scope();
     let mut context = Context::bare(alloc, Value::Undefined);

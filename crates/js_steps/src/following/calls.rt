@@ -6,7 +6,7 @@ ghost use Rattle.js_code.specs.Trees.{IsTable};
 ghost use Rattle.js_steps.specs.declared.reduced.Reduced.TheVariants as answers;
 ghost use Rattle.js_steps.specs.Tasks.{InScopes};
 ghost use Rattle.js_steps.specs.Points.{IsAt};
-ghost use Rattle.js_steps.specs.Answers.{called_this};
+ghost use Rattle.js_steps.specs.Answers.{this_of_call};
 ghost use Rattle.js_steps.specs.Following.{Follows, IsCallOf, Compounds};
 
 use crate::following::parts::kept_part;
@@ -21,7 +21,7 @@ use std::alloc::AllocError;
 
 /// The `this` of a call whose callee was a name, or a property of its first value; None where it is no such call.
 fn this_of_call(op: Op, values: &[Value]) -> Option<Value>
-    ensures { IfSome result (λ this. IsCallOf op × (this ≡ called_this op values.now)) }
+    ensures { IfSome result (λ this. IsCallOf op × (this ≡ this_of_call op values.now)) }
 {
     match op {
         Op::CallOfName => Some(Value::Undefined),

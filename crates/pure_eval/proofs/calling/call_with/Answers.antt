@@ -2,7 +2,7 @@ use Rattle.std.proofs.Common.{ap, sym, subst, ◌∙◌}
 use Rattle.js_heap.specs.BuiltIns.{script_scope}
 use Rattle.js_heap.specs.World.{fine}
 use Rattle.js_heap.specs.declared.value.Value.TheVariants as values
-use Rattle.js_semantics.specs.Evaluation.{call_term}
+use Rattle.js_semantics.specs.Evaluation.{call_with_values}
 use Rattle.js_semantics.specs.Terms.{settle}
 use Rattle.js_code.specs.Trees.{tree, program_of}
 use Rattle.pure_eval.specs.declared.evaluated.Evaluated.{Evaluated}
@@ -22,7 +22,7 @@ returns-in-Ok g c =
     let x = settle (tree ts c.args.table.now c.args.node) in
     record {
       answer = called-fine p c.args.receiver (arguments_of c.args.arguments.now) w v u x c.slice.result.now c.call_node.result (c.in-Ok.ensures.made ts ∙ ap (λ xs. fine xs v) (sym c.slice.ensures)) c.call_node.ensures.answer;
-      keeps = keeps-behind c.call_node.result w v u (c.make_arguments.ensures.keeps ts) (ends-keep p script_scope (call_term c.args.receiver x c.slice.result.now) v u values.Undefined c.call_node.result c.call_node.ensures.world);
+      keeps = keeps-behind c.call_node.result w v u (c.make_arguments.ensures.keeps ts) (ends-keep p script_scope (call_with_values c.args.receiver x c.slice.result.now) v u values.Undefined c.call_node.result c.call_node.ensures.world);
     }
 
 pub returns-in-Err : goal.returns-in-Err
