@@ -52,22 +52,22 @@ abbrev pub function_value : BuiltIn → Value
 function_value f = values.Object (built_in_at f)
 
 -- a name of the global scope, which is constant
-abbrev global : List ℕ → Value → Binding
-global n v = record { name = n; constant = true; value = Some v }
+abbrev pub global_of : List ℕ → Value → Binding
+global_of n v = record { name = n; constant = true; value = Some v }
 
 -- the names of the global scope
 abbrev globals : List Binding
 globals =
-    global (codes "undefined") values.Undefined
-    ∷ global (codes "console") (values.Object (Base 4))
-    ∷ global (codes "readline") (function_value built_ins.ReadLine)
-    ∷ global (codes "Error") (function_value (built_ins.MakeError classes.Error))
-    ∷ global (codes "TypeError") (function_value (built_ins.MakeError classes.TypeError))
-    ∷ global (codes "RangeError") (function_value (built_ins.MakeError classes.RangeError))
-    ∷ global (codes "ReferenceError") (function_value (built_ins.MakeError classes.ReferenceError))
-    ∷ global (codes "Object") (values.Object (Base 5))
-    ∷ global (codes "Array") (values.Object (Base 6))
-    ∷ global (codes "String") (function_value built_ins.MakeString)
+    global_of (codes "undefined") values.Undefined
+    ∷ global_of (codes "console") (values.Object (Base 4))
+    ∷ global_of (codes "readline") (function_value built_ins.ReadLine)
+    ∷ global_of (codes "Error") (function_value (built_ins.MakeError classes.Error))
+    ∷ global_of (codes "TypeError") (function_value (built_ins.MakeError classes.TypeError))
+    ∷ global_of (codes "RangeError") (function_value (built_ins.MakeError classes.RangeError))
+    ∷ global_of (codes "ReferenceError") (function_value (built_ins.MakeError classes.ReferenceError))
+    ∷ global_of (codes "Object") (values.Object (Base 5))
+    ∷ global_of (codes "Array") (values.Object (Base 6))
+    ∷ global_of (codes "String") (function_value built_ins.MakeString)
     ∷ []
 
 -- the property `message` of an error, which isn't enumerable (20.5.1.1)
@@ -79,29 +79,29 @@ abbrev property : Bool → List ℕ → BuiltIn → Property
 property enumerable key f = record { key = key; value = function_value f; writable = true; enumerable = enumerable; configurable = true }
 
 -- the cell of a built-in function, with its name and its length
-abbrev built_in : BuiltIn → List ℕ → ℕ → Cell
-built_in f n arity = cells.Function (code.BuiltIn f) n arity None values.Undefined
+abbrev pub built_in_function : BuiltIn → List ℕ → ℕ → Cell
+built_in_function f n arity = cells.Function (code.BuiltIn f) n arity None values.Undefined
 
 -- the cells of the built-in functions, in the order of their addresses
 abbrev functions : List Cell
 functions =
-    built_in built_ins.ConsoleLog (codes "log") 0
-    ∷ built_in built_ins.ReadLine (codes "readline") 0
-    ∷ built_in (built_ins.MakeError classes.Error) (codes "Error") 1
-    ∷ built_in (built_ins.MakeError classes.TypeError) (codes "TypeError") 1
-    ∷ built_in (built_ins.MakeError classes.RangeError) (codes "RangeError") 1
-    ∷ built_in (built_ins.MakeError classes.ReferenceError) (codes "ReferenceError") 1
-    ∷ built_in built_ins.ObjectKeys (codes "keys") 1
-    ∷ built_in built_ins.ArrayIsArray (codes "isArray") 1
-    ∷ built_in built_ins.MakeString (codes "String") 1
-    ∷ built_in built_ins.ArrayPush (codes "push") 1
-    ∷ built_in built_ins.ArrayPop (codes "pop") 0
-    ∷ built_in built_ins.ArrayIndexOf (codes "indexOf") 1
-    ∷ built_in built_ins.ArrayJoin (codes "join") 1
-    ∷ built_in built_ins.ArraySlice (codes "slice") 2
-    ∷ built_in built_ins.StringIndexOf (codes "indexOf") 1
-    ∷ built_in built_ins.StringSlice (codes "slice") 2
-    ∷ built_in built_ins.StringCharCodeAt (codes "charCodeAt") 1
+    built_in_function built_ins.ConsoleLog (codes "log") 0
+    ∷ built_in_function built_ins.ReadLine (codes "readline") 0
+    ∷ built_in_function (built_ins.MakeError classes.Error) (codes "Error") 1
+    ∷ built_in_function (built_ins.MakeError classes.TypeError) (codes "TypeError") 1
+    ∷ built_in_function (built_ins.MakeError classes.RangeError) (codes "RangeError") 1
+    ∷ built_in_function (built_ins.MakeError classes.ReferenceError) (codes "ReferenceError") 1
+    ∷ built_in_function built_ins.ObjectKeys (codes "keys") 1
+    ∷ built_in_function built_ins.ArrayIsArray (codes "isArray") 1
+    ∷ built_in_function built_ins.MakeString (codes "String") 1
+    ∷ built_in_function built_ins.ArrayPush (codes "push") 1
+    ∷ built_in_function built_ins.ArrayPop (codes "pop") 0
+    ∷ built_in_function built_ins.ArrayIndexOf (codes "indexOf") 1
+    ∷ built_in_function built_ins.ArrayJoin (codes "join") 1
+    ∷ built_in_function built_ins.ArraySlice (codes "slice") 2
+    ∷ built_in_function built_ins.StringIndexOf (codes "indexOf") 1
+    ∷ built_in_function built_ins.StringSlice (codes "slice") 2
+    ∷ built_in_function built_ins.StringCharCodeAt (codes "charCodeAt") 1
     ∷ []
 
 -- the built-in cells

@@ -10,3 +10,4 @@ pub mod Properties
 pub mod Scopes
 pub mod Arguments
 pub mod ScratchSpaces
+pub mod Safe

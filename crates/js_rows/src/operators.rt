@@ -8,7 +8,7 @@ ghost use Rattle.js_heap.specs.Operators.{safe, to_signed, binary_result, unary_
 ghost use Rattle.js_semantics.specs.State.{give};
 ghost use Rattle.js_semantics.specs.BuiltIns.{argument};
 ghost use Rattle.js_semantics.specs.References.{with_result};
-ghost use Rattle.js_values.specs.Safe.{IsSafe};
+ghost use Rattle.js_heap.specs.Safe.{IsSafe};
 ghost use Rattle.js_operations.specs.Flow.{Yields};
 ghost use Rattle.js_rows.specs.Does.{Replies};
 

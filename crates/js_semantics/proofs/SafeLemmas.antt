@@ -15,7 +15,8 @@ use Rattle.js_heap.specs.declared.computed.Computed.{Computed as Result}
 use Rattle.js_heap.specs.World.{World}
 use Rattle.js_heap.specs.Values.{a_number, text_of, units_at, same_integer}
 use Rattle.js_heap.specs.Operators.{not_safe, safe, quotient, remainder, to_unsigned, to_signed, shift_count, shifted_right, on_numbers, numeric, joined_texts, sum_of, answer_of, negated, is_before, is_equal, binary_result, number_result, unary_result, update_result}
-use Rattle.js_semantics.specs.Safe.{IsSafe, AnswersSafe}
+use Rattle.js_heap.specs.Safe.{IsSafe}
+use Rattle.js_semantics.specs.Safe.{AnswersSafe}
 
 either-safe : (b : Bool) (r q : Result) → AnswersSafe r → AnswersSafe q → AnswersSafe (if b then r else q)
 either-safe true r q h k = h

@@ -1,5 +1,5 @@
 -- Pure evaluation: an expression, or a call of a function, on a copy of the world with the cells of a session's scratch.
-use Rattle.std.specs.Prelude.{ℕ, ◌+◌, ◌-◌, Bool, List, [], ◌∷◌, ◌++◌, length, ℤ, nat_le, if◌then◌else◌}
+use Rattle.std.specs.Prelude.{ℕ, ◌+◌, Bool, List, [], ◌∷◌, length, ℤ}
 use Rattle.js_heap.specs.declared.value.Addr.{Addr}
 use Rattle.js_heap.specs.declared.value.Addr.TheVariants.{Base, Scratch}
 use Rattle.js_heap.specs.declared.value.Value.{Value}
@@ -7,11 +7,10 @@ use Rattle.js_heap.specs.declared.value.Value.TheVariants as values
 use Rattle.js_heap.specs.declared.cell.Cell.TheVariants as cells
 use Rattle.js_heap.specs.declared.cell.Property.{Property}
 use Rattle.js_heap.specs.declared.change.Counted.{Counted}
-use Rattle.js_heap.specs.declared.change.Counted.TheVariants as counted
 use Rattle.js_heap.specs.Keys.{put_property}
 use Rattle.js_heap.specs.World.{World, Tried, fine, effect, full, make_cell}
 use Rattle.js_heap.specs.BuiltIns.{script_scope}
-pub use Rattle.js_heap.specs.ScratchSpaces.{ScratchSpace, copied_world}
+pub use Rattle.js_heap.specs.ScratchSpaces.{ScratchSpace, copied_world, keep_source}
 use Rattle.js_tree.specs.declared.script.Expression.{Expression}
 use Rattle.js_tree.specs.declared.script.FunctionCode.{FunctionCode}
 use Rattle.js_semantics.specs.Terms.{kept_source, beginning, call, Term, done, part, end, more, dones}
@@ -29,15 +28,6 @@ abbrev pub after_try : {A B : Type 0} → Tried A → (A → World → Tried B) 
 after_try (fine a w) k = k a w
 after_try effect k = effect
 after_try (full what) k = full what
-
--- The source is kept under the next number, so that functions which the evaluation makes can be called and described
--- later. It stands in the map as its text; it counts its units and no cell.
-abbrev pub keep_source : World → List ℕ → Tried Addr
-keep_source w units =
-    if nat_le (length units) w.room.units
-    then fine (Scratch (length w.scratch))
-    (record w { scratch = w.scratch ++ cells.Text units ∷ []; room = record { cells = w.room.cells; units = w.room.units - length units } })
-    else full counted.Units
 
 -- the cells of string literals, in order
 abbrev pub make_literals : World → List (List ℕ) → Tried (Unit {0})

@@ -19,7 +19,8 @@ ghost use Rattle.js_heap.specs.Operators.{binary_result, unary_result, update_re
 ghost use Rattle.js_operators.specs.declared.operator.BinaryOperator.{BinaryOperator};
 ghost use Rattle.js_operators.specs.declared.operator.UnaryOperator.{UnaryOperator};
 ghost use Rattle.js_operators.specs.declared.operator.UpdateOperator.{UpdateOperator};
-ghost use Rattle.js_semantics.specs.Safe.{IsSafe, AnswersSafe};
+ghost use Rattle.js_heap.specs.Safe.{IsSafe};
+ghost use Rattle.js_semantics.specs.Safe.{AnswersSafe};
 ghost use Rattle.js_tree.specs.declared.node.Span.{Span};
 ghost use Rattle.js_semantics.specs.Frames.{active, at, is_debugger};
 ghost use Rattle.js_semantics.specs.Depths.{ProgramHasNoFrame, Agrees, MoveAgrees, RunListsFrames};

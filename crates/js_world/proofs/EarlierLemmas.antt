@@ -7,12 +7,12 @@ use Rattle.js_heap.specs.declared.value.Value.{Value}
 use Rattle.js_heap.specs.declared.value.Addr.TheVariants.{Scratch}
 use Rattle.js_heap.specs.declared.cell.Cell.{Cell}
 use Rattle.js_heap.specs.World.{fine}
-use Rattle.js_heap.specs.ScratchSpaces.{ScratchSpace}
+use Rattle.js_heap.specs.ScratchSpaces.{ScratchSpace, keep_source}
 use Rattle.js_world.specs.declared.stored.Stored.{Stored}
 use Rattle.js_world.specs.declared.stored.Stored.TheVariants as stored
 use Rattle.js_world.specs.Cells.{cell_of, cells_of, AllWithin}
 use Rattle.js_world.specs.Heaps.{Heap, Fit, value_in_cells}
-use Rattle.js_world.specs.Overlays.{Over, overlay_world, over_world, space_of, keep_text, Marked, space_at, Earlier}
+use Rattle.js_world.specs.Overlays.{Over, overlay_world, over_world, space_of, Marked, space_at, Earlier}
 use Rattle.js_world.proofs.HeapLemmas.{cells-append, cells-length}
 use Rattle.js_world.proofs.MakeLemmas.{le_true}
 use Rattle.js_world.proofs.WithinLemmas.{within-append, cells-more, value-length}
@@ -120,14 +120,14 @@ cut-space h g ds m n e f k ts =
 
 -- ---- a source that is kept
 
-kept_over : (ts : List (List ℕ)) (bs : List Cell) (cs ds : List Stored) (us : List ℕ) (st l u left at : ℕ) → ds ≡ cs ++ stored.Text us ∷ [] → length us + left ≡ u → at ≡ length cs → keep_text (overlay_world ts bs cs st l u) us ≡ fine (Scratch at) (overlay_world ts bs ds st l left)
+kept_over : (ts : List (List ℕ)) (bs : List Cell) (cs ds : List Stored) (us : List ℕ) (st l u left at : ℕ) → ds ≡ cs ++ stored.Text us ∷ [] → length us + left ≡ u → at ≡ length cs → keep_source (overlay_world ts bs cs st l u) us ≡ fine (Scratch at) (overlay_world ts bs ds st l left)
 kept_over ts bs cs ds us st l u left at e f i =
     let g : u - length us ≡ left = omega (arith, f) in
     rw (le_true (length us) u (omega (arith, f)), g, cells-length ts cs, ← i, e, cells-append ts cs (stored.Text us ∷ [])) refl
 
-pub kept-over : (h g : Over) (ds : List Stored) (us : List ℕ) (left at : ℕ) → h ≡ g → ds ≡ h.cells ++ stored.Text us ∷ [] → length us + left ≡ h.units_left → at ≡ length h.cells → (ts : List (List ℕ)) → keep_text (over_world ts g) us ≡ fine (Scratch at) (overlay_world ts (cells_of ts h.base.cells) ds h.start h.cells_left left)
+pub kept-over : (h g : Over) (ds : List Stored) (us : List ℕ) (left at : ℕ) → h ≡ g → ds ≡ h.cells ++ stored.Text us ∷ [] → length us + left ≡ h.units_left → at ≡ length h.cells → (ts : List (List ℕ)) → keep_source (over_world ts g) us ≡ fine (Scratch at) (overlay_world ts (cells_of ts h.base.cells) ds h.start h.cells_left left)
 kept-over h g ds us left at e f m i ts =
-    let P : Over → Type 0 = λ x. keep_text (over_world ts x) us ≡ fine (Scratch at) (overlay_world ts (cells_of ts h.base.cells) ds h.start h.cells_left left) in
+    let P : Over → Type 0 = λ x. keep_source (over_world ts x) us ≡ fine (Scratch at) (overlay_world ts (cells_of ts h.base.cells) ds h.start h.cells_left left) in
     subst P e (kept_over ts (cells_of ts h.base.cells) h.cells ds us h.start h.cells_left h.units_left left at f m i)
 
 pub kept-fit : (cs ds : List Stored) (us : List ℕ) (ends l : ℕ) → Fit cs ends l → ds ≡ cs ++ stored.Text us ∷ [] → length cs + l + 1 < 2 ^ 32 → Fit ds ends l

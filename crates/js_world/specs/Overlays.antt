@@ -1,11 +1,9 @@
 -- The cells of evaluations over a program's.
-use Rattle.std.specs.Prelude.{ℕ, ◌-◌, ◌≤◌, List, [], ◌∷◌, ◌++◌, length, take, Some, nat_le, if◌then◌else◌}
+use Rattle.std.specs.Prelude.{ℕ, ◌≤◌, List, [], length, take, Some}
 use Rattle.js_heap.specs.declared.value.Addr.{Addr}
 use Rattle.js_heap.specs.declared.value.Addr.TheVariants.{Scratch}
 use Rattle.js_heap.specs.declared.cell.Cell.{Cell}
-use Rattle.js_heap.specs.declared.cell.Cell.TheVariants as cells
-use Rattle.js_heap.specs.declared.change.Counted.TheVariants as counted
-use Rattle.js_heap.specs.World.{World, Tried, fine, full, scratch_room}
+use Rattle.js_heap.specs.World.{World, scratch_room}
 use Rattle.js_heap.specs.ScratchSpaces.{ScratchSpace}
 use Rattle.js_world.specs.declared.stored.Stored.{Stored}
 use Rattle.js_world.specs.Cells.{cells_of, AllWithin}
@@ -43,16 +41,6 @@ space_after w = record { cells = w.scratch; room = w.room }
 -- where the next cell will stand
 abbrev pub next_of : Heap → Addr
 next_of h = Scratch (length h.cells)
-
--- ---- the source of an evaluation
-
--- a text under the next number, which counts its units and no cell
-abbrev pub keep_text : World → List ℕ → Tried Addr
-keep_text w units =
-    if nat_le (length units) w.room.units
-    then fine (Scratch (length w.scratch))
-    (record w { scratch = w.scratch ++ cells.Text units ∷ []; room = record { cells = w.room.cells; units = w.room.units - length units } })
-    else full counted.Units
 
 -- ---- marks
 

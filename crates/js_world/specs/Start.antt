@@ -1,10 +1,7 @@
 -- The cells that a run begins with.
-use Rattle.std.specs.Prelude.{◌≡◌, ℕ, Bool, true, List, [], ◌∷◌, ◌++◌, length, Some, None}
+use Rattle.std.specs.Prelude.{◌≡◌, ℕ, Bool, true, List, [], ◌∷◌, ◌++◌, length}
 use Rattle.js_heap.specs.declared.value.Addr.{Addr}
-use Rattle.js_heap.specs.declared.value.Value.{Value}
 use Rattle.js_heap.specs.declared.value.Value.TheVariants as values
-use Rattle.js_heap.specs.declared.built_in.BuiltIn.{BuiltIn}
-use Rattle.js_heap.specs.declared.built_in.Code.TheVariants as code
 use Rattle.js_heap.specs.declared.cell.Binding.{Binding}
 use Rattle.js_heap.specs.declared.cell.Cell.{Cell}
 use Rattle.js_heap.specs.declared.cell.Cell.TheVariants as cells
@@ -15,14 +12,6 @@ use Rattle.js_world.specs.Cells.{bindings, cell_of, cells_of, SlotsWithin, Withi
 -- an object with a function as its only property
 abbrev pub holder : Bool → List ℕ → Addr → Cell
 holder enumerable key a = cells.Object (record { key = key; value = values.Object a; writable = true; enumerable = enumerable; configurable = true } ∷ [])
-
--- a built-in function with its name and length
-abbrev pub function_of : BuiltIn → List ℕ → ℕ → Cell
-function_of f n l = cells.Function (code.BuiltIn f) n l None values.Undefined
-
--- a name of the global scope, which is constant
-abbrev pub global_of : List ℕ → Value → Binding
-global_of n v = record { name = n; constant = true; value = Some v }
 
 -- a cell that is of any table of names
 abbrev pub IsCell : Stored → Cell → Type 0

@@ -2,12 +2,12 @@
 
 ghost use Rattle.std.specs.Prelude.{◌≡◌, ◌≤◌, ◌⊎◌, ◌++◌, List, ℕ, OnErr, length, take};
 ghost use Rattle.js_heap.specs.World.{write_cell};
-ghost use Rattle.js_heap.specs.ScratchSpaces.{copied_world};
+ghost use Rattle.js_heap.specs.ScratchSpaces.{copied_world, keep_source};
 ghost use Rattle.js_world.specs.Calls.{Tries};
 ghost use Rattle.js_world.specs.Cells.{AllWithin};
 ghost use Rattle.js_world.specs.Changes.{change_of, Distinguishes, ChangeWithin};
 ghost use Rattle.js_world.specs.Heaps.{heap_world};
-ghost use Rattle.js_world.specs.Overlays.{over_world, space_of, first_space, space_after, keep_text, next_of, mark_of, space_at};
+ghost use Rattle.js_world.specs.Overlays.{over_world, space_of, first_space, space_after, next_of, mark_of, space_at};
 
 use crate::change::{CellChange, change_in};
 use crate::heap::{BaseHeap, is_within, push_cell, room_for, stored_at, value_in_cells};
@@ -214,7 +214,7 @@ impl<'a> Overlay<'a> {
     ///
     /// Its units would pass their limit; there is no memory, or no number, for it.
     pub fn keep(&mut self, source: Units) -> Result<Addr, Refused>
-        ensures source { (names : List (List ℕ)) → Tries (keep_text (over_world names self.old) source) result (over_world names self.new) }
+        ensures source { (names : List (List ℕ)) → Tries (keep_source (over_world names self.old) source) result (over_world names self.new) }
         ensures known { (self.new.base ≡ self.old.base) × (self.new.ends ≡ self.old.ends) }
         ensures kept { OnErr result (self.new ≡ self.old) }
     {

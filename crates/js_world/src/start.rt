@@ -4,10 +4,10 @@ ghost use Rattle.std.specs.Prelude.{◌≡◌, ◌<◌, ◌∷◌, ◌++◌, [],
 ghost use Rattle.js_heap.specs.declared.value.Addr.TheVariants.{Base as base};
 ghost use Rattle.js_heap.specs.declared.value.Value.TheVariants.{Object as object};
 ghost use Rattle.js_heap.specs.declared.built_in.BuiltIn.TheVariants.{MakeError as make_error};
-ghost use Rattle.js_heap.specs.BuiltIns.{built_in_cells, literal_cells};
+ghost use Rattle.js_heap.specs.BuiltIns.{global_of, built_in_function, built_in_cells, literal_cells};
 ghost use Rattle.js_world.specs.Names.{name_of, GoesOn};
 ghost use Rattle.js_world.specs.Cells.{cell_of};
-ghost use Rattle.js_world.specs.Start.{holder, function_of, global_of, IsCell, IsCellOf, GainsNames, GainsCells};
+ghost use Rattle.js_world.specs.Start.{holder, IsCell, IsCellOf, GainsNames, GainsCells};
 
 use crate::heap::push_cell;
 use crate::names::{NameId, Names};
@@ -198,7 +198,7 @@ fn built_in(
     name: &[u8],
     length: u32,
 ) -> Result<Stored, AllocError>
-    ensures { IfOk result (λ cell. IsCellOf names.now cell (function_of f name.now length)) }
+    ensures { IfOk result (λ cell. IsCellOf names.now cell (built_in_function f name.now length)) }
 {
     let function = FunctionCell {
         code: Code::BuiltIn(f),
@@ -219,7 +219,7 @@ fn add(
     name: &[u8],
     length: u32,
 ) -> Result<(), AllocError>
-    ensures { OnOk result (GainsCells names.now cells.old.items cells.new.items (function_of f name.now length ∷ [])) }
+    ensures { OnOk result (GainsCells names.now cells.old.items cells.new.items (built_in_function f name.now length ∷ [])) }
 {
     let cell = built_in(alloc, names, f, name, length)?;
     push_cell(cells, cell)?;
@@ -243,7 +243,7 @@ fn add_class(
     class: ErrorClass,
     name: &[u8],
 ) -> Result<(), AllocError>
-    ensures { OnOk result (GainsCells names.now cells.old.items cells.new.items (function_of (make_error class) name.now 1 ∷ [])) }
+    ensures { OnOk result (GainsCells names.now cells.old.items cells.new.items (built_in_function (make_error class) name.now 1 ∷ [])) }
 {
     add(alloc, names, cells, BuiltIn::MakeError(class), name, 1)
 }

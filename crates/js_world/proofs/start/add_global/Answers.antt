@@ -1,5 +1,5 @@
 use Rattle.std.proofs.Common.{ap}
-use Rattle.js_world.specs.Start.{global_of}
+use Rattle.js_heap.specs.BuiltIns.{global_of}
 use Rattle.js_world.proofs.StartLemmas.{name-more}
 use Rattle.js_world.proofs.start.add_global.Goals as goal
 
