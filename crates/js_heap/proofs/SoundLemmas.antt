@@ -16,7 +16,7 @@ use Rattle.js_heap.specs.declared.change.Counted.TheVariants as counted
 use Rattle.js_heap.specs.Keys.{same_units, has_key, with_value, stands_before, index_of_key, placed, assigned, put_property, without_key}
 use Rattle.js_heap.specs.Cells.{Kind, kind_of, weight, changed, with_element, binding_of, bound, declared}
 use Rattle.js_heap.specs.World.{Room, World, fine, effect, full, read_cell, is_own, next_address, with_cell, room_less, make_cell, replaced, room_after, written, written_at, write_cell}
-use Rattle.js_heap.specs.Worlds.{IsObjectKind, IsTextKind, IsScopeKind, Leads, SoundValue, SoundScope, SoundBinding, SoundValues, SoundProperties, SoundNames, SoundCell, SoundCells, IsSound, SoundChange, KindStays, AfterFine}
+use Rattle.js_heap.specs.Worlds.{IsObjectKind, IsTextKind, IsScopeKind, Leads, SoundValue, SoundScope, SoundIfSome, SoundValues, SoundProperties, SoundNames, SoundCell, SoundCells, IsSound, SoundChange, KindStays, AfterFine}
 use Rattle.js_heap.proofs.MapLemmas.{get-last}
 use Rattle.js_heap.proofs.KeepLemmas.{fine_if, made_kinds, set_kinds, changed-kind, KindKept}
 
@@ -42,9 +42,9 @@ pub sound-scope : (w v : World) → Later w v → (o : Option Addr) → SoundSco
 sound-scope w v l None h = tt
 sound-scope w v l (Some a) h = leads-stays IsScopeKind (read_cell w a) (read_cell v a) (l a) h
 
-pub sound_binding : (w v : World) → Later w v → (o : Option Value) → SoundBinding w o → SoundBinding v o
-sound_binding w v l None h = tt
-sound_binding w v l (Some u) h = sound-value w v l u h
+pub sound_if_some : (w v : World) → Later w v → (o : Option Value) → SoundIfSome w o → SoundIfSome v o
+sound_if_some w v l None h = tt
+sound_if_some w v l (Some u) h = sound-value w v l u h
 
 pub sound_values : (w v : World) → Later w v → (us : List Value) → SoundValues w us → SoundValues v us
 sound_values w v l [] h = tt
@@ -56,7 +56,7 @@ sound_properties w v l (p ∷ ps) h = (sound-value w v l p.value h.0, sound_prop
 
 pub sound_names : (w v : World) → Later w v → (bs : List Binding) → SoundNames w bs → SoundNames v bs
 sound_names w v l [] h = tt
-sound_names w v l (b ∷ bs) h = (sound_binding w v l b.value h.0, sound_names w v l bs h.1)
+sound_names w v l (b ∷ bs) h = (sound_if_some w v l b.value h.0, sound_names w v l bs h.1)
 
 pub sound_cell : (w v : World) → Later w v → (c : Cell) → SoundCell w c → SoundCell v c
 sound_cell w v l (cells.Object ps) h = sound_properties w v l ps h

@@ -49,10 +49,10 @@ abbrev pub SoundScope : World → Option Addr → Type 0
 SoundScope w None = Unit {0}
 SoundScope w (Some a) = Leads IsScopeKind (read_cell w a)
 
--- the value of a name names what is live, where it has one
-abbrev pub SoundBinding : World → Option Value → Type 0
-SoundBinding w None = Unit {0}
-SoundBinding w (Some v) = SoundValue w v
+-- where there is a value, it names what is live
+abbrev pub SoundIfSome : World → Option Value → Type 0
+SoundIfSome w None = Unit {0}
+SoundIfSome w (Some v) = SoundValue w v
 
 -- each of these values names what is live
 abbrev pub SoundValues : World → List Value → Type 0
@@ -67,7 +67,7 @@ SoundProperties w (p ∷ ps) = SoundValue w p.value × SoundProperties w ps
 -- each of these names that has a value has one that names what is live
 abbrev pub SoundNames : World → List Binding → Type 0
 SoundNames w [] = Unit {0}
-SoundNames w (b ∷ bs) = SoundBinding w b.value × SoundNames w bs
+SoundNames w (b ∷ bs) = SoundIfSome w b.value × SoundNames w bs
 
 -- all that a cell names is live and of the right kind
 abbrev pub SoundCell : World → Cell → Type 0

@@ -15,9 +15,9 @@ use Rattle.js_heap.specs.declared.cell.ScopeKind.TheVariants as scopes
 use Rattle.js_heap.specs.Keys.{put_property}
 use Rattle.js_heap.specs.Cells.{kind_of}
 use Rattle.js_heap.specs.World.{World, read_cell}
-use Rattle.js_heap.specs.Worlds.{Leads, IsObjectKind, SoundValue, SoundScope, SoundBinding, SoundValues, SoundProperties, SoundNames, SoundCell, IsSound}
+use Rattle.js_heap.specs.Worlds.{Leads, IsObjectKind, SoundValue, SoundScope, SoundIfSome, SoundValues, SoundProperties, SoundNames, SoundCell, IsSound}
 use Rattle.js_heap.specs.BuiltIns.{script_scope}
-use Rattle.js_heap.proofs.SoundLemmas.{sound-value, sound_values, sound_binding, sound-scope, read-sound, put_sound}
+use Rattle.js_heap.proofs.SoundLemmas.{sound-value, sound_values, sound_if_some, sound-scope, read-sound, put_sound}
 use Rattle.js_semantics.specs.Terms.{Mark, Completion, throws, returns, breaks, continues, Reference, to_name, to_member, to_index, FunctionForm, Member, keyed, computed, Stage, first, doing, testing, body, updating, Form, script, enter, enter_debugger, enter_for, enter_for_of, block, scoped, frame, initialize, choose, both, either, loop, list_of, turn_of, body_of, break_, continue_, return_, throw_, catching, finishing, ending, this, read, typeof_name, unary, binary, comma, function, array, object, method, assign, compound, update, delete, call, call_of, Term, done, standing, part, Terms, end, more, one, joined, dones, at_test, at_update, settled, settle}
 use Rattle.js_heap.specs.Values.{type_text, is_truthy, key_of}
 use Rattle.js_heap.specs.Operators.{not_numbers, binary_result, unary_result, update_result}
@@ -128,18 +128,18 @@ enter_for-sound : (w : World) (scope : Addr) (node : ℕ) (constant : Bool) (nam
 enter_for-sound w scope node constant names later s n h =
     new_scope-sound w scopes.Block [] scope names (λ a. go (for_in constant a later)) s n (λ v l a e. for_in-sound v constant a later e (sound-terms w v l later h))
 
-enter_for_of-sound : (w : World) (scope : Addr) (node : ℕ) (b : Binding) (later : Terms) → SoundScope w (Some scope) → SoundBinding w b.value → SoundTerms w later → SoundAction w (enter_for_of_row scope node b later)
+enter_for_of-sound : (w : World) (scope : Addr) (node : ℕ) (b : Binding) (later : Terms) → SoundScope w (Some scope) → SoundIfSome w b.value → SoundTerms w later → SoundAction w (enter_for_of_row scope node b later)
 enter_for_of-sound w scope node b end s n h = tt
 enter_for_of-sound w scope node b (more t ts) s n h =
     new_scope-sound w scopes.Block [] scope (b ∷ []) (λ a. go (part (list_of b) (one (settled (scoped a) (one t) end)) ts)) s (n, tt)
-    (λ v l a e. (sound_binding w v l b.value n, (scoped-sound v t a (sound-term w v l t h.0) e, tt), sound-terms w v l ts h.1))
+    (λ v l a e. (sound_if_some w v l b.value n, (scoped-sound v t a (sound-term w v l t h.0) e, tt), sound-terms w v l ts h.1))
 
-list-sound : (w : World) (b : Binding) (x : Value) (later : Terms) → SoundBinding w b.value → SoundValue w x → SoundTerms w later → SoundAction w (list_row w b x later)
+list-sound : (w : World) (b : Binding) (x : Value) (later : Terms) → SoundIfSome w b.value → SoundValue w x → SoundTerms w later → SoundAction w (list_row w b x later)
 list-sound w b x later n h k =
     choose_action w (is_array w x) (go (part (turn_of b 0) end (more (done x) later))) (fail classes.TypeError (codes "Value is not an array"))
     (n, tt, (h, k)) (fail-sound w classes.TypeError (codes "Value is not an array"))
 
-element-sound : (w : World) (o : Option Cell) (i : ℕ) → ((c : Cell) → o ≡ Some c → SoundCell w c) → SoundBinding w (element_of o i)
+element-sound : (w : World) (o : Option Cell) (i : ℕ) → ((c : Cell) → o ≡ Some c → SoundCell w c) → SoundIfSome w (element_of o i)
 element-sound w None i h = tt
 element-sound w (Some (cells.Array vs)) i h = get-value w vs i (h (cells.Array vs) refl)
 element-sound w (Some (cells.Object ps)) i h = tt
@@ -148,7 +148,7 @@ element-sound w (Some (cells.Function code n l s t)) i h = tt
 element-sound w (Some (cells.Text us)) i h = tt
 element-sound w (Some (cells.Bindings kind n o ns)) i h = tt
 
-elements-sound : (w : World) → IsSound w → (later : Terms) (i : ℕ) → SoundBinding w (elements_of w later i)
+elements-sound : (w : World) → IsSound w → (later : Terms) (i : ℕ) → SoundIfSome w (elements_of w later i)
 elements-sound w s (more (done (values.Object a)) ts) i = element-sound w (read_cell w a) i (λ c e. read-sound w a c e s)
 elements-sound w s (more (done values.Undefined) ts) i = tt
 elements-sound w s (more (done values.Null) ts) i = tt
@@ -164,11 +164,11 @@ body_part-sound w end h = tt
 body_part-sound w (more t end) h = tt
 body_part-sound w (more t (more u ts)) h = h.1.0
 
-turn_row-sound : (w : World) (scope : Addr) (b : Binding) (i : ℕ) (o : Option Value) (later : Terms) → SoundScope w (Some scope) → SoundBinding w b.value → SoundBinding w o → SoundTerms w later → SoundAction w (turn_row scope b i o later)
+turn_row-sound : (w : World) (scope : Addr) (b : Binding) (i : ℕ) (o : Option Value) (later : Terms) → SoundScope w (Some scope) → SoundIfSome w b.value → SoundIfSome w o → SoundTerms w later → SoundAction w (turn_row scope b i o later)
 turn_row-sound w scope b i None later s n h k = tt
 turn_row-sound w scope b i (Some x) later s n h k =
     new_scope-sound w scopes.Block [] scope (record b { value = Some x } ∷ []) (λ a. go (settled (body_of b (i + 1)) (one (settled (scoped a) (one (body_part later)) end)) later)) s (h, tt)
-    (λ v l a e. settled-sound v (body_of b (i + 1)) (one (settled (scoped a) (one (body_part later)) end)) later (sound_binding w v l b.value n)
+    (λ v l a e. settled-sound v (body_of b (i + 1)) (one (settled (scoped a) (one (body_part later)) end)) later (sound_if_some w v l b.value n)
     (scoped-sound v (body_part later) a (sound-term w v l (body_part later) (body_part-sound w later k)) e, tt) (sound-terms w v l later k))
 
 -- ---- expressions

@@ -9,7 +9,7 @@ use Rattle.js_heap.specs.World.{World, Tried, fine, effect, full, read_cell, mak
 use Rattle.js_heap.specs.Worlds.{Leads, Keeps, AfterFine, SoundValue, SoundScope, SoundValues, IsSound}
 use Rattle.js_heap.specs.BuiltIns.{function_value, heap_full_error, script_scope}
 use Rattle.js_heap.proofs.KeepLemmas.{stays-same, stays-trans, making-keeps, writing-keeps}
-use Rattle.js_heap.proofs.SoundLemmas.{sound-value, sound-scope, sound_binding, sound_names, making-sound, writing-sound, making-leads}
+use Rattle.js_heap.proofs.SoundLemmas.{sound-value, sound-scope, sound_if_some, sound_names, making-sound, writing-sound, making-leads}
 use Rattle.js_semantics.specs.Terms.{Completion, throws, returns, breaks, continues, first, doing, testing, body, updating, Form, scripts, script, sequence, enter_for, enter_for_of, block, scoped, frame, loop, list_of, turn_of, body_of, catching, finishing, ending, function, method, Term, done, standing, part, Terms, end, more, one, joined, dones, is_done, all_done, last_value, test_of, update_of, body_of_loop, at_test, at_update, behind_body, at_body, behind_first, finished, settled, settle}
 use Rattle.js_semantics.specs.State.{Frame, State, Move, goes, has_effect, is_full, Action, go, raise, leave, make, write, print, take_line, set_here, push_frame, pop_frame, with_world, with_here, moved_frames, rest_of, first_line, other_lines, after, raised_at, perform}
 use Rattle.js_semantics.specs.Functions.{Program}
@@ -36,14 +36,14 @@ sound-kept w v l (Some c) h = sound-completion w v l c h
 pub sound-form : (w v : World) → Later w v → (f : Form) → SoundForm w f → SoundForm v f
 sound-form w v l (script number names) h = sound_names w v l names h
 sound-form w v l (enter_for node constant names) h = sound_names w v l names h
-sound-form w v l (enter_for_of node b) h = sound_binding w v l b.value h
+sound-form w v l (enter_for_of node b) h = sound_if_some w v l b.value h
 sound-form w v l (block names) h = sound_names w v l names h
 sound-form w v l (scoped a) h = sound-scope w v l (Some a) h
 sound-form w v l (frame node a) h = sound-scope w v l (Some a) h
 sound-form w v l (loop stage scope) h = sound-scope w v l scope h
-sound-form w v l (list_of b) h = sound_binding w v l b.value h
-sound-form w v l (turn_of b i) h = sound_binding w v l b.value h
-sound-form w v l (body_of b i) h = sound_binding w v l b.value h
+sound-form w v l (list_of b) h = sound_if_some w v l b.value h
+sound-form w v l (turn_of b i) h = sound_if_some w v l b.value h
+sound-form w v l (body_of b i) h = sound_if_some w v l b.value h
 sound-form w v l (ending kept) h = sound-kept w v l kept h
 sound-form w v l (function f) h = sound_names w v l f.names h
 sound-form w v l (method f) h = sound_names w v l f.names h

@@ -19,7 +19,7 @@ use Rattle.js_heap.specs.declared.cell.Property.{Property}
 use Rattle.js_heap.specs.Keys.{same_units, index_of_key, property_at}
 use Rattle.js_heap.specs.Cells.{Kind, kind_of, binding_of}
 use Rattle.js_heap.specs.World.{World, read_cell}
-use Rattle.js_heap.specs.Worlds.{Leads, IsTextKind, IsObjectKind, SoundValue, SoundBinding, SoundValues, SoundProperties, SoundNames, SoundCell, SoundChange, IsSound}
+use Rattle.js_heap.specs.Worlds.{Leads, IsTextKind, IsObjectKind, SoundValue, SoundIfSome, SoundValues, SoundProperties, SoundNames, SoundCell, SoundChange, IsSound}
 use Rattle.js_heap.specs.BuiltIns.{function_value, message_property}
 use Rattle.js_heap.proofs.SoundLemmas.{read-sound}
 use Rattle.js_semantics.specs.Terms.{Reference, to_name, to_member, to_index}
@@ -183,12 +183,12 @@ own_or-sound : (w : World) (o : Option Property) (r : Result) → SoundProperty 
 own_or-sound w (Some p) r h k = h
 own_or-sound w None r h k = k
 
-pub get-value : (w : World) (vs : List Value) (i : ℕ) → SoundValues w vs → SoundBinding w (slice_get vs i)
+pub get-value : (w : World) (vs : List Value) (i : ℕ) → SoundValues w vs → SoundIfSome w (slice_get vs i)
 get-value w [] i h = tt
 get-value w (v ∷ vs) zero h = h.0
 get-value w (v ∷ vs) (suc i) h = get-value w vs i h.1
 
-value_or-sound : (w : World) (o : Option Value) (r : Result) → SoundBinding w o → SoundResult w r → SoundResult w (value_or o r)
+value_or-sound : (w : World) (o : Option Value) (r : Result) → SoundIfSome w o → SoundResult w r → SoundResult w (value_or o r)
 value_or-sound w (Some v) r h k = h
 value_or-sound w None r h k = k
 
@@ -318,13 +318,13 @@ property_deleted-sound w v (values.Text a) key = tt
 
 abbrev pub SoundFound : World → Option Found → Type 0
 SoundFound w None = Unit {0}
-SoundFound w (Some f) = SoundBinding w f.binding.value
+SoundFound w (Some f) = SoundIfSome w f.binding.value
 
 abbrev SoundOfName : World → Option Binding → Type 0
 SoundOfName w None = Unit {0}
-SoundOfName w (Some b) = SoundBinding w b.value
+SoundOfName w (Some b) = SoundIfSome w b.value
 
-name_if : (w : World) (t : Bool) (b : Binding) (o : Option Binding) → SoundBinding w b.value → SoundOfName w o → SoundOfName w (if t then Some b else o)
+name_if : (w : World) (t : Bool) (b : Binding) (o : Option Binding) → SoundIfSome w b.value → SoundOfName w o → SoundOfName w (if t then Some b else o)
 name_if w true b o h k = h
 name_if w false b o h k = k
 
@@ -358,7 +358,7 @@ within-sound (suc n) w name s a = in-sound w a (read_cell w a) name (found_withi
 pub found-sound : (w : World) → IsSound w → (scope : Addr) (name : List ℕ) → SoundFound w (found w scope name)
 found-sound w s scope name = within-sound (length w.base + length w.scratch) w name s scope
 
-uninitialized-sound : (w : World) (name : List ℕ) (o : Option Value) → SoundBinding w o → SoundResult w (value_or_uninitialized name o)
+uninitialized-sound : (w : World) (name : List ℕ) (o : Option Value) → SoundIfSome w o → SoundResult w (value_or_uninitialized name o)
 uninitialized-sound w name (Some v) h = h
 uninitialized-sound w name None h = tt
 

@@ -11,7 +11,7 @@ use Rattle.js_heap.specs.declared.built_in.ErrorClass.TheVariants as classes
 use Rattle.js_heap.specs.declared.cell.Binding.{Binding}
 use Rattle.js_heap.specs.declared.cell.Cell.{Cell}
 use Rattle.js_heap.specs.World.{World, read_cell}
-use Rattle.js_heap.specs.Worlds.{Leads, IsTextKind, SoundValue, SoundScope, SoundBinding, SoundNames, SoundCells, IsSound}
+use Rattle.js_heap.specs.Worlds.{Leads, IsTextKind, SoundValue, SoundScope, SoundIfSome, SoundNames, SoundCells, IsSound}
 use Rattle.js_heap.specs.BuiltIns.{script_scope, function_value, built_in_cells, literal_cells, first_literal, first_world}
 use Rattle.js_semantics.specs.Terms.{Form, scripts, script, enter_for, enter_for_of, block, scoped, frame, loop, list_of, turn_of, body_of, ending, function, method, literal, Term, done, standing, part, Terms, end, more, settled}
 use Rattle.js_semantics.specs.Run.{literals, literals_of, with_literals, all_with_literals, placed_scripts, program_from, program_of, first_state, start, plain, run_of, state_of}
@@ -30,7 +30,7 @@ value-sound w values.Null h = tt
 value-sound w (values.Bool b) h = tt
 value-sound w (values.Number z) h = tt
 
-binding-sound : (w : World) (o : Option Value) → o ≡ None → SoundBinding w o
+binding-sound : (w : World) (o : Option Value) → o ≡ None → SoundIfSome w o
 binding-sound w None e = tt
 binding-sound w (Some v) e = cc
 

@@ -6,7 +6,7 @@ use Rattle.js_heap.specs.declared.value.Value.TheVariants as values
 use Rattle.js_heap.specs.declared.built_in.BuiltIn.{BuiltIn}
 use Rattle.js_heap.specs.Cells.{kind_of}
 use Rattle.js_heap.specs.World.{World, read_cell}
-use Rattle.js_heap.specs.Worlds.{Leads, KindStays, SoundValue, SoundScope, SoundBinding, SoundNames, SoundCell, SoundChange, IsSound}
+use Rattle.js_heap.specs.Worlds.{Leads, KindStays, SoundValue, SoundScope, SoundIfSome, SoundNames, SoundCell, SoundChange, IsSound}
 use Rattle.js_heap.specs.BuiltIns.{script_scope, heap_full_error, function_value}
 use Rattle.js_semantics.specs.Terms.{Completion, throws, returns, breaks, continues, Form, script, enter_for, enter_for_of, block, scoped, frame, loop, list_of, turn_of, body_of, ending, function, method, Term, done, standing, part, Terms, end, more}
 use Rattle.js_semantics.specs.State.{Frame, State, Action, go, raise, leave, make, write, print, take_line, set_here, push_frame, pop_frame, Move, goes, travels, has_effect, is_full}
@@ -30,14 +30,14 @@ SoundKept w (Some c) = SoundCompletion w c
 abbrev pub SoundForm : World → Form → Type 0
 SoundForm w (script number names) = SoundNames w names
 SoundForm w (enter_for node constant names) = SoundNames w names
-SoundForm w (enter_for_of node b) = SoundBinding w b.value
+SoundForm w (enter_for_of node b) = SoundIfSome w b.value
 SoundForm w (block names) = SoundNames w names
 SoundForm w (scoped a) = SoundScope w (Some a)
 SoundForm w (frame node a) = SoundScope w (Some a)
 SoundForm w (loop stage scope) = SoundScope w scope
-SoundForm w (list_of b) = SoundBinding w b.value
-SoundForm w (turn_of b i) = SoundBinding w b.value
-SoundForm w (body_of b i) = SoundBinding w b.value
+SoundForm w (list_of b) = SoundIfSome w b.value
+SoundForm w (turn_of b i) = SoundIfSome w b.value
+SoundForm w (body_of b i) = SoundIfSome w b.value
 SoundForm w (ending kept) = SoundKept w kept
 SoundForm w (function f) = SoundNames w f.names
 SoundForm w (method f) = SoundNames w f.names
