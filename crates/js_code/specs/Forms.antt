@@ -1,14 +1,12 @@
 -- The forms that nodes stand for, with a table of names.
 use Rattle.std.specs.Prelude.{ℕ, List, [], ◌∷◌, map, Option, Some, None, slice_get}
-use Rattle.js_heap.specs.declared.cell.Binding.{Binding}
-use Rattle.js_heap.specs.declared.value.Addr.{Addr}
 use Rattle.js_semantics.specs.declared.form.Reference.TheVariants.{Name as to_name, Member as to_member, Index as to_index}
 use Rattle.js_semantics.specs.declared.form.FunctionForm.{FunctionForm}
 use Rattle.js_semantics.specs.declared.form.Member.{Member}
 use Rattle.js_semantics.specs.declared.form.Member.TheVariants.{Keyed as keyed, Computed as computed}
 use Rattle.js_semantics.specs.declared.form.Stage.TheVariants.{First as first, Doing as doing, Testing as testing, Body as body, Updating as updating}
 use Rattle.js_semantics.specs.declared.form.Form.{Form}
-use Rattle.js_semantics.specs.declared.form.Form.TheVariants.{Scripts as scripts, Script as script, Sequence as sequence, Enter as enter, EnterDebugger as enter_debugger, EnterFor as enter_for, EnterForOf as enter_for_of, Block as block, Scoped as scoped, Frame as frame, Initialize as initialize, Choose as choose, Both as both, Either as either, Loop as loop, ListOf as list_of, TurnOf as turn_of, BodyOf as body_of, Break as break_, Continue as continue_, Return as return_, Throw as throw_, Catching as catching, Finishing as finishing, Ending as ending, This as this, Read as read, TypeofName as typeof_name, Unary as unary, Binary as binary, Comma as comma, Function as function, Array as array, Object as object, Method as method, Assign as assign, Compound as compound, Update as update, Delete as delete, Call as call, CallOf as call_of}
+use Rattle.js_semantics.specs.declared.form.Form.TheVariants.{Scripts as scripts, Script as script, Sequence as sequence, Enter as enter, EnterDebugger as enter_debugger, EnterFor as enter_for, EnterForOf as enter_for_of, Block as block, Initialize as initialize, Choose as choose, Both as both, Either as either, Loop as loop, ListOf as list_of, TurnOf as turn_of, BodyOf as body_of, Break as break_, Continue as continue_, Return as return_, Throw as throw_, Catching as catching, Finishing as finishing, Ending as ending, This as this, Read as read, TypeofName as typeof_name, Unary as unary, Binary as binary, Comma as comma, Function as function, Array as array, Object as object, Method as method, Assign as assign, Compound as compound, Update as update, Delete as delete, Call as call, CallOf as call_of}
 use Rattle.js_world.specs.Names.{name_of}
 use Rattle.js_world.specs.Cells.{binding_at, bindings, texts_of}
 use Rattle.js_code.specs.declared.op.Op.{Op}

@@ -1,6 +1,5 @@
 -- What is about to be reduced in a machine's term.
 use Rattle.std.proofs.Common.{◌≡◌, ℕ, Bool, false, List, [], ◌∷◌, Option, Some, None, slice_get, if◌then◌else◌, refl, sym, ap, subst, ◌∙◌, arith}
-use Rattle.js_tree.specs.declared.node.Span.{Span}
 use Rattle.js_heap.specs.declared.value.Addr.TheVariants as addrs
 use Rattle.js_heap.specs.declared.value.Value.{Value}
 use Rattle.js_semantics.specs.declared.form.Spot.{Spot}
@@ -18,8 +17,8 @@ use Rattle.js_steps.specs.Tasks.{Wide, gaps_of, task_form, redex_of}
 use Rattle.js_steps.specs.Points.{term_at, IsAt, IsLeaf, IsLeafAt}
 use Rattle.js_steps.proofs.FinishLemmas.{node-form}
 use Rattle.js_steps.proofs.TreeLemmas.{kids-end}
-use Rattle.js_frames.specs.Kinds.{Kind, plain, kind_of, active_kind, op_kind, arrival_by, is_debugging, enters_debugger}
-use Rattle.js_frames.proofs.KindLaws.{form-kind, task-kind, arrival-kind, debugger-kind, debugging-op}
+use Rattle.js_frames.specs.Kinds.{plain, kind_of, active_kind, op_kind, is_debugging, enters_debugger}
+use Rattle.js_frames.proofs.KindLaws.{form-kind, task-kind, debugger-kind, debugging-op}
 
 -- ---- within gaps
 
@@ -111,9 +110,6 @@ done-kind ts t ws v p q h =
     ap (λ (x : Point). active_kind (active (term_at ts t ws x))) q ∙ ap active_kind (active-done ts t ws v (subst P q h))
 
 -- ---- what it says
-
-pub arrival-at : (spans : List Span) (x : Term) (k : Kind) → active_kind (active x) ≡ k → at spans x ≡ arrival_by spans k
-arrival-at spans x k e = arrival-kind spans (active x) ∙ ap (arrival_by spans) e
 
 pub debugger-some : (x : Term) (t : NodeTable) (op : Op) (info : ℕ) → active_kind (active x) ≡ op_kind t op info → is_debugger (active x) ≡ enters_debugger op
 debugger-some x t op info e = debugger-kind (active x) ∙ ap is_debugging e ∙ debugging-op t op info

@@ -1,12 +1,11 @@
 -- The kind of a form is that of what its node or task does.
 use Rattle.std.proofs.Common.{◌≡◌, ℕ, Bool, false, List, Option, Some, None, slice_get, refl, ap, ◌∙◌}
-use Rattle.js_tree.specs.declared.node.Span.{Span}
 use Rattle.js_heap.specs.declared.value.Addr.{Addr}
 use Rattle.js_heap.specs.declared.value.Value.{Value}
 use Rattle.js_semantics.specs.declared.form.Mark.{Mark}
 use Rattle.js_semantics.specs.declared.form.Form.{Form}
-use Rattle.js_semantics.specs.declared.form.Form.TheVariants.{Enter as enter, EnterDebugger as enter_debugger, Catching as catching}
-use Rattle.js_semantics.specs.Frames.{Active, reduces, stands, nothing_left, arrival, is_debugger, is_catching}
+use Rattle.js_semantics.specs.declared.form.Form.TheVariants.{EnterDebugger as enter_debugger, Catching as catching}
+use Rattle.js_semantics.specs.Frames.{Active, reduces, stands, nothing_left, is_debugger, is_catching}
 use Rattle.js_world.specs.declared.stored.Slot.{Slot}
 use Rattle.js_code.specs.declared.op.Op.{Op}
 use Rattle.js_code.specs.declared.op.Op.TheVariants as ops
@@ -20,7 +19,7 @@ use Rattle.js_code.specs.declared.table.NodeTable.{NodeTable}
 use Rattle.js_code.specs.Forms.{form_of, script_form, for_form, for_of_form, list_form, turn_form, body_form, block_form, function_form, method_form, object_form, members_at, call_form, name_call_form, member_call_form, index_call_form}
 use Rattle.js_steps.specs.declared.task.Extra.{Extra}
 use Rattle.js_steps.specs.Tasks.{Wide, index_of, form_in, task_form}
-use Rattle.js_frames.specs.Kinds.{Kind, entering, calling, opening, plain, kind_of, active_kind, for_kind, for_of_kind, call_kind, script_kind, op_kind, arrival_by, is_debugging, is_leaving, is_guarding, enters_debugger}
+use Rattle.js_frames.specs.Kinds.{Kind, entering, calling, opening, plain, kind_of, active_kind, for_kind, for_of_kind, call_kind, script_kind, op_kind, is_debugging, is_leaving, is_guarding, enters_debugger}
 use Rattle.js_frames.specs.Catchers.{is_catcher}
 use Rattle.js_frames.specs.Scopes.{is_frame}
 
@@ -108,15 +107,6 @@ unfolding task_form
 task-kind ts t w = form-kind ts t w.op w.info w.inner w.extra
 
 -- ---- what kinds say
-
-arrival_of : (spans : List Span) (f : Form) (vs : List Value) → arrival spans (reduces f vs) ≡ arrival_by spans (kind_of f)
-arrival_of spans (enter n) vs = refl
-arrival_of spans f vs = refl
-
-pub arrival-kind : (spans : List Span) (a : Active) → arrival spans a ≡ arrival_by spans (active_kind a)
-arrival-kind spans (reduces f vs) = arrival_of spans f vs
-arrival-kind spans (stands v place) = refl
-arrival-kind spans nothing_left = refl
 
 debugger_of : (f : Form) (vs : List Value) → is_debugger (reduces f vs) ≡ is_debugging (kind_of f)
 debugger_of (enter_debugger n) vs = refl

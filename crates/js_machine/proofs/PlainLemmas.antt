@@ -1,6 +1,6 @@
 -- Steps one after another, and runs that are over.
 use Rattle.std.specs.Option.{is_some}
-use Rattle.std.proofs.Common.{◌≡◌, ℕ, zero, suc, ◌+◌, ◌-◌, ◌<◌, ◌≤◌, true, false, List, [], Option, None, Some, refl, sym, ap, subst, ◌∙◌, arith, add-one}
+use Rattle.std.proofs.Common.{◌≡◌, ℕ, zero, suc, ◌+◌, ◌-◌, ◌<◌, ◌≤◌, true, List, [], Option, None, Some, refl, sym, ap, subst, ◌∙◌, arith, add-one}
 use Rattle.js_heap.specs.declared.value.Addr.{Addr}
 use Rattle.js_heap.specs.BuiltIns.{script_scope}
 use Rattle.js_heap.specs.World.{World}
@@ -8,11 +8,11 @@ use Rattle.js_semantics.specs.Terms.{Term, Terms}
 use Rattle.js_semantics.specs.State.{State}
 use Rattle.js_semantics.specs.Functions.{Program}
 use Rattle.js_semantics.specs.Run as runs
-use Rattle.js_semantics.specs.Run.{Run, running, over, run_of, step_in, steps_in, steps_taken, start, plain}
+use Rattle.js_semantics.specs.Run.{Run, running, over, step_in, steps_in, steps_taken, start, plain}
 use Rattle.js_world.specs.Heaps.{heap_world}
 use Rattle.js_steps.specs.declared.run.Why.{Why}
 use Rattle.js_steps.specs.declared.run.Why.TheVariants as whys
-use Rattle.js_steps.specs.Running.{CountsAs, IsRunning, RunsFor}
+use Rattle.js_steps.specs.Running.{CountsAs, RunsFor}
 use Rattle.js_machine.specs.declared.end.End.{End}
 use Rattle.js_machine.specs.declared.end.End.TheVariants as ends
 use Rattle.js_machine.specs.Machines.{Machine, program_of, term_of, state_of, run_by, run_at, IsKept, end_of_run, HasSameCode}
@@ -63,9 +63,6 @@ same-code m = record { table = refl; names = refl }
 
 more_code : (m n o : Machine) → HasSameCode m n → HasSameCode n o → HasSameCode m o
 more_code m n o h i = record { table = i.table ∙ h.table; names = i.names ∙ h.names }
-
-pub made-none : (m : Machine) (v : World) → IsKept m.ended → HasMadeSteps m v m v 0
-made-none m v k = record { code = same-code m; kept = k; runs = λ taken. refl; left = λ taken. tt }
 
 pub made-more : (m n o : Machine) (v w x : World) (j k : ℕ) → HasMadeSteps m v n w j → HasSameCode n o → IsKept o.ended
     → ((taken : List (List ℕ)) → run_at o x taken ≡ steps_in k (program_of n) script_scope (run_at n w taken))

@@ -1,11 +1,10 @@
 -- The start of a machine, from its parts.
-use Rattle.std.proofs.Common.{◌≡◌, ℕ, List, [], ◌++◌, refl, sym, ap, ◌∙◌}
+use Rattle.std.proofs.Common.{◌≡◌, ℕ, List, [], sym, ap, ◌∙◌}
 use Rattle.js_heap.specs.World.{World}
 use Rattle.js_heap.specs.BuiltIns.{first_world}
 use Rattle.js_semantics.specs.declared.form.Form.TheVariants.{Scripts as scripts}
-use Rattle.js_semantics.specs.Terms.{Term, Terms, part, end, settle, settled}
-use Rattle.js_semantics.specs.Run.{run_of, literals_of, placed_scripts, first_state, start}
-use Rattle.js_world.specs.Names.{GoesOn}
+use Rattle.js_semantics.specs.Terms.{Term, Terms, end, settle, settled}
+use Rattle.js_semantics.specs.Run.{run_of, literals_of, placed_scripts, start}
 use Rattle.js_operations.specs.Contexts.{Context, state_of, start_context}
 use Rattle.js_code.specs.declared.table.NodeTable.{NodeTable}
 use Rattle.js_code.specs.Trees.{tree}

@@ -1,8 +1,8 @@
 -- Plain runs: what a machine and its cells have come to.
-use Rattle.std.specs.Prelude.{◌≡◌, ℕ, ◌≤◌, List}
+use Rattle.std.specs.Prelude.{◌≡◌, ℕ, List}
 use Rattle.js_heap.specs.BuiltIns.{script_scope}
 use Rattle.js_heap.specs.World.{World}
-use Rattle.js_semantics.specs.Run.{Run, steps_in, steps_taken}
+use Rattle.js_semantics.specs.Run.{steps_in, steps_taken}
 use Rattle.js_steps.specs.Running.{RunsFor}
 use Rattle.js_machine.specs.Machines.{Machine, program_of, run_at, IsKept, HasSameCode}
 

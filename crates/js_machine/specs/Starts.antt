@@ -3,11 +3,11 @@ use Rattle.std.specs.Prelude.{◌≡◌, ℕ, List, [], None}
 use Rattle.js_heap.specs.BuiltIns.{first_world}
 use Rattle.js_semantics.specs.Terms.{Terms}
 use Rattle.js_semantics.specs.Run as runs
-use Rattle.js_world.specs.Heaps.{Heap, heap_world}
+use Rattle.js_world.specs.Heaps.{heap_world}
 use Rattle.js_compile.specs.Scripts.{IsCompiled}
 use Rattle.js_machine.specs.declared.start.Prepared.{Prepared}
 use Rattle.js_machine.specs.declared.machine.Started.{Started}
-use Rattle.js_machine.specs.Machines.{Machine, program_of, run_at}
+use Rattle.js_machine.specs.Machines.{program_of, run_at}
 
 -- the code of scripts and the cells before the first step
 pub record IsPrepared (ts : Terms) (p : Prepared) : Type 0 where

@@ -71,12 +71,6 @@ ElementsLeft a first vs v i l w = (s : State) → performed (push_all a first vs
 push_at : (a : Addr) (l : ℕ) (vs : List Value) (i : ℕ) → i < length vs → push_all a l (drop i vs) ≡ write a (changes.Element l (get_or vs i values.Undefined)) (push_all a (l + 1) (drop (i + 1) vs))
 push_at a l vs i h = ap (λ xs. push_all a l xs) (cons_at vs i values.Undefined h)
 
-pub push-step : (a : Addr) (first l m : ℕ) (vs : List Value) (i : ℕ) (v w u : World) → i < length vs → m ≡ l + 1 → ElementsLeft a first vs v i l w →
-    ((s : State) (k : Action) → performed (write a (changes.Element l (get_or vs i values.Undefined)) k) (with_world s w) ≡ performed k (with_world s u)) → ElementsLeft a first vs v (i + 1) m u
-push-step a first l m vs i v w u h e inv g =
-    let P : ℕ → Type 0 = λ n. ElementsLeft a first vs v (i + 1) n u in
-    subst P (sym e) (λ s. inv s ∙ ap (λ x. performed x (with_world s w)) (push_at a l vs i h) ∙ g s (push_all a (l + 1) (drop (i + 1) vs)))
-
 pub push-stop : (a : Addr) (first l : ℕ) (vs : List Value) (i : ℕ) (v w u : World) (r : Result Value Stop) (e : Stop) → i < length vs → ElementsLeft a first vs v i l w →
     ((s : State) (k : Action) → Stops (write a (changes.Element l (get_or vs i values.Undefined)) k) (with_world s w) e (with_world s u)) → IsErrAnd r (λ d. d ≡ e) → Gives (push_all a first vs) v r u
 push-stop a first l vs i v w u r e h inv g q =

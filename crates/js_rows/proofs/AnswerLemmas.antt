@@ -10,13 +10,12 @@ use Rattle.js_heap.specs.declared.computed.Computed.TheVariants.{Value as a_valu
 use Rattle.js_heap.specs.declared.computed.Written.{Written}
 use Rattle.js_heap.specs.declared.computed.Written.TheVariants.{Change as a_change}
 use Rattle.js_semantics.specs.References.{with_result, with_written}
-use Rattle.js_semantics.specs.State.{State, with_world, Action, go, give, write}
+use Rattle.js_semantics.specs.State.{State, with_world, Action, give, write}
 use Rattle.js_operations.specs.declared.stop.Stop.{Stop}
 use Rattle.js_operations.specs.declared.stop.Stop.TheVariants.{Raised, Given, Effect, Full, Memory}
 use Rattle.js_operations.specs.Flow.{performed, Stops, Yields, Passes, Gives}
 use Rattle.js_operations.specs.Contexts.{Context, state_of}
 use Rattle.js_code.specs.declared.table.NodeTable.{NodeTable}
-use Rattle.js_code.specs.Trees.{tree}
 use Rattle.js_steps.specs.declared.reduced.Reduced.{Reduced}
 use Rattle.js_steps.specs.declared.reduced.Reduced.TheVariants as reduced
 use Rattle.js_steps.specs.Tasks.{Wide}
@@ -38,11 +37,6 @@ stops-does ts t e a s Memory u h = tt
 pub gives-does : (ts : List (List ℕ)) (t : NodeTable) (e : Wide) (a : Action) (s : State) (v : Value) (u : State) → performed a s ≡ performed (give v) u → Does ts t e a s (reduced.Gives v) u
 unfolding reduced_move reduced_term performed
 gives-does ts t e a s v u h = h
-
--- and with a term that is a kept part
-pub goes-does : (ts : List (List ℕ)) (t : NodeTable) (e : Wide) (a : Action) (s : State) (n : ℕ) (u : State) → performed a s ≡ performed (go (tree ts t n)) u → Does ts t e a s (reduced.Goes n) u
-unfolding reduced_move reduced_term performed
-goes-does ts t e a s n u h = h
 
 -- ---- in every state that has a world
 

@@ -65,10 +65,6 @@ replies-row ts t form vs o f a v w c r h i k l g = λ outer before.
     let P : Action → Type 0 = λ x. Does ts t (redex form vs None) x (state_of v c before) r (state_of w c before) in
     task-row ts t form vs None o f outer v w c c before r h i (k outer) (subst P (sym (l before)) (g t (redex form vs None) (state_of v c before)))
 
--- no answer
-pub wanting-row : (ts : List (List ℕ)) (t : NodeTable) (form : Redex) (vs : List Value) (x : Option Extra) (v w : World) (c d : Context) → IsRow ts t form vs x v c reduced.Memory w d
-wanting-row ts t form vs x v w c d = λ outer before k. tt
-
 pub same-extra : (ts : List (List ℕ)) (t : NodeTable) (form : Redex) (vs : List Value) (x y : Option Extra) (v w : World) (c d : Context) (r : Reduced) → x ≡ y → IsRow ts t form vs y v c r w d → IsRow ts t form vs x v c r w d
 same-extra ts t form vs x y v w c d r h g = let P : Option Extra → Type 0 = λ z. IsRow ts t form vs z v c r w d in subst P (sym h) g
 

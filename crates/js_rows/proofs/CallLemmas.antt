@@ -1,5 +1,5 @@
 -- Lemmas on calls.
-use Rattle.std.proofs.Common.{◌≡◌, ℕ, ◌≤◌, Bool, true, false, List, [], ◌∷◌, length, take, drop, get_or, ◌-◌, Option, Some, None, refl, sym, ap, ◌∙◌, subst, arith, if◌then◌else◌}
+use Rattle.std.proofs.Common.{◌≡◌, ℕ, ◌≤◌, Bool, false, List, [], ◌∷◌, length, take, drop, get_or, ◌-◌, Option, Some, None, refl, sym, ap, ◌∙◌, subst, arith, if◌then◌else◌}
 use Rattle.std.specs.Prelude.{Result, Ok, Err, nat_lt, slice_get, map, codes}
 use Rattle.js_heap.specs.declared.value.Addr.{Addr}
 use Rattle.js_heap.specs.declared.value.Value.{Value}
@@ -22,7 +22,6 @@ use Rattle.js_operations.specs.declared.stop.Stop.{Stop}
 use Rattle.js_operations.specs.Flow.{performed, Stops, Ends, Gives}
 use Rattle.js_operations.specs.Contexts.{Context, state_of, Turns, Prints, Takes}
 use Rattle.js_semantics.specs.BuiltIns.{log, line_value, built_in_call}
-use Rattle.js_heap.specs.declared.built_in.Code.{Code}
 use Rattle.js_heap.specs.declared.built_in.BuiltIn.{BuiltIn}
 use Rattle.js_heap.specs.declared.built_in.BuiltIn.TheVariants as built_ins
 use Rattle.std.proofs.lemmas.List.{take_all}
@@ -34,7 +33,7 @@ use Rattle.js_steps.specs.Answers.{Reduces, reduced_move, reduced_term}
 use Rattle.js_rows.specs.declared.codes.Place.{Place}
 use Rattle.js_code.specs.declared.node.FunctionEntry.{FunctionEntry}
 use Rattle.js_rows.specs.Codes.{code_at, placed_code}
-use Rattle.js_rows.specs.Calls.{entry_code, Called, called_of, called, call_scope, ActsOn, ActsIn, ActsOf, callee_called, ActsAlways, ActsAnywhere, EntersFrame, entered_within}
+use Rattle.js_rows.specs.Calls.{entry_code, Called, called_of, called, call_scope, ActsOn, ActsIn, ActsOf, ActsAlways, ActsAnywhere, EntersFrame, entered_within}
 use Rattle.js_rows.specs.Does.{Does, stopped, replied}
 use Rattle.js_rows.proofs.AnswerLemmas.{stops-does, replies-by}
 
@@ -82,12 +81,6 @@ enters-not ts t code source a name outer receiver args v w c x q h i = λ e take
 
 within_if : (ts : List (List ℕ)) (t : NodeTable) (b : Bool) (x y z : Action) (v : World) (c : Context) (q : Reduced) (w : World) (d : Context) → (if b then x else y) ≡ z → ActsAlways ts t (λ s. z) v c q w d → ActsAlways ts t (λ s. if b then x else y) v c q w d
 within_if ts t b x y z v c q w d h g = let P : Action → Type 0 = λ a. ActsAlways ts t (λ s. a) v c q w d in subst P (sym h) g
-
-pub within-limit : (ts : List (List ℕ)) (t : NodeTable) (code : FunctionCode) (source : Source) (a : Addr) (name : List ℕ) (outer : Addr) (receiver : Value) (args : List Value) (v w : World) (c d : Context) (q : Reduced) → nat_lt (length c.frames) 1000 ≡ true →
-    ActsAlways ts t (λ s. entered code source a name outer receiver args) v c q w d → ActsAlways ts t (λ s. entered_within s code source a name outer receiver args) v c q w d
-within-limit ts t code source a name outer receiver args v w c d q h g =
-    let e : (if nat_lt (length c.frames) frame_limit then entered code source a name outer receiver args else too_deep) ≡ entered code source a name outer receiver args = rw h refl in
-    within_if ts t (nat_lt (length c.frames) frame_limit) (entered code source a name outer receiver args) too_deep (entered code source a name outer receiver args) v c q w d e g
 
 pub past-limit : (ts : List (List ℕ)) (t : NodeTable) (code : FunctionCode) (source : Source) (a : Addr) (name : List ℕ) (outer : Addr) (receiver : Value) (args : List Value) (v w : World) (c : Context) (x : Stop) (q : Reduced) → nat_lt (length c.frames) 1000 ≡ false →
     Ends too_deep v x w → q ≡ stopped x → ActsAlways ts t (λ s. entered_within s code source a name outer receiver args) v c q w c
@@ -162,26 +155,6 @@ line-called ts args f given v c q w d e k = built_in_by ts args f built_ins.Read
 
 acts_in : (ts : List (List ℕ)) (t : NodeTable) (args : List Value) (f g : State → Action) (v : World) (c : Context) (q : Reduced) (w : World) (d : Context) → ((taken : List (List ℕ)) → f (state_of v c taken) ≡ g (state_of v c taken)) → ActsIn ts t args g v c q w d → ActsIn ts t args f v c q w d
 acts_in ts t args f g v c q w d h k = λ e i taken. let P : Action → Type 0 = λ a. Does ts t e a (state_of v c taken) q (state_of w d taken) in subst P (sym (h taken)) (k e i taken)
-
-pub built-in-callee : (ts : List (List ℕ)) (t : NodeTable) (p : Program) (args : List Value) (a : Addr) (k : Called) (f : BuiltIn) (given : Value) (v : World) (c : Context) (q : Reduced) (w : World) (d : Context) → k.code ≡ code.BuiltIn f → ActsOn ts args (λ s. built_in_call v f given args) v c q w d → ActsIn ts t args (λ s. callee_called p s a k given args) v c q w d
-built-in-callee ts t p args a k f given v c q w d h g =
-    acts_in ts t args (λ s. callee_called p s a k given args) (λ s. built_in_call v f given args) v c q w d
-    (λ taken. ap (λ x. call_cell p (state_of v c taken) a (Some (cells.Function x k.name 0 k.outer k.made)) given args) h) (λ e i taken. g t e i taken)
-
-code_callee : (ts : List (List ℕ)) (t : NodeTable) (p : Program) (args : List Value) (a : Addr) (k : Called) (m : Code) (source : Source) (node : ℕ) (found : Option FunctionCode) (given : Value) (v : World) (c : Context) (q : Reduced) (w : World) (d : Context) → k.code ≡ m →
-    ((s : State) → call_cell p s a (Some (cells.Function m k.name 0 k.outer k.made)) given args ≡ call_code s (function_at p source node) source a k.name k.outer k.made given args) → found ≡ function_at p source node →
-    ActsAlways ts t (λ s. call_code s found source a k.name k.outer k.made given args) v c q w d → ActsIn ts t args (λ s. callee_called p s a k given args) v c q w d
-code_callee ts t p args a k m source node found given v c q w d h i j g =
-    acts_in ts t args (λ s. callee_called p s a k given args) (λ s. call_code s found source a k.name k.outer k.made given args) v c q w d
-    (λ taken. ap (λ x. call_cell p (state_of v c taken) a (Some (cells.Function x k.name 0 k.outer k.made)) given args) h ∙ i (state_of v c taken) ∙ ap (λ x. call_code (state_of v c taken) x source a k.name k.outer k.made given args) (sym j)) (λ e x taken. g e taken)
-
-pub script-callee : (ts : List (List ℕ)) (t : NodeTable) (p : Program) (args : List Value) (a : Addr) (k : Called) (number node : ℕ) (found : Option FunctionCode) (given : Value) (v : World) (c : Context) (q : Reduced) (w : World) (d : Context) → k.code ≡ code.Script number node → found ≡ function_at p (script_source number) node →
-    ActsAlways ts t (λ s. call_code s found (script_source number) a k.name k.outer k.made given args) v c q w d → ActsIn ts t args (λ s. callee_called p s a k given args) v c q w d
-script-callee ts t p args a k number node found given v c q w d h j g = code_callee ts t p args a k (code.Script number node) (script_source number) node found given v c q w d h (λ s. refl) j g
-
-pub kept-callee : (ts : List (List ℕ)) (t : NodeTable) (p : Program) (args : List Value) (a : Addr) (k : Called) (at : Addr) (node : ℕ) (found : Option FunctionCode) (given : Value) (v : World) (c : Context) (q : Reduced) (w : World) (d : Context) → k.code ≡ code.Kept at node → found ≡ function_at p (kept_source at) node →
-    ActsAlways ts t (λ s. call_code s found (kept_source at) a k.name k.outer k.made given args) v c q w d → ActsIn ts t args (λ s. callee_called p s a k given args) v c q w d
-kept-callee ts t p args a k at node found given v c q w d h j g = code_callee ts t p args a k (code.Kept at node) (kept_source at) node found given v c q w d h (λ s. refl) j g
 
 -- ---- what a call needs of a cell is all that it asks
 

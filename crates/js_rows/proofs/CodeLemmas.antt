@@ -1,7 +1,6 @@
 -- Lemmas on the code of functions.
-use Rattle.std.proofs.Common.{◌≡◌, ℕ, zero, suc, ◌+◌, ◌-◌, ◌<◌, ◌≤◌, true, false, List, [], ◌∷◌, length, take, drop, get_or, Option, Some, None, refl, sym, ap, ◌∙◌, arith}
+use Rattle.std.proofs.Common.{◌≡◌, ℕ, zero, suc, ◌+◌, ◌-◌, ◌<◌, true, List, [], ◌∷◌, length, take, drop, get_or, Option, Some, None, refl, sym, ap, ◌∙◌, arith}
 use Rattle.std.specs.Prelude.{slice_get}
-use Rattle.std.proofs.lemmas.List.{drop_all}
 use Rattle.js_semantics.specs.declared.form.Source.{Source}
 use Rattle.js_semantics.specs.Terms.{more}
 use Rattle.js_semantics.specs.Functions.{same_source, function_at, function_in}
@@ -58,19 +57,8 @@ get_some (x ∷ xs) (suc i) d h = get_some xs i d (omega arith)
 first_is : (ts : List (List ℕ)) (t : NodeTable) (source : Source) (node : ℕ) (es rest : List SourceEntry) (e : SourceEntry) → es ≡ e ∷ rest → same_source e.source source ≡ true → function_at (source_trees ts t es) source node ≡ function_in node (tree ts t e.root)
 first_is ts t source node es rest e h g = ap (λ xs. function_at (source_trees ts t xs) source node) h ∙ (rw g refl)
 
-first_not : (ts : List (List ℕ)) (t : NodeTable) (source : Source) (node : ℕ) (es rest : List SourceEntry) (e : SourceEntry) → es ≡ e ∷ rest → same_source e.source source ≡ false → function_at (source_trees ts t es) source node ≡ function_at (source_trees ts t rest) source node
-first_not ts t source node es rest e h g = ap (λ xs. function_at (source_trees ts t xs) source node) h ∙ (rw g refl)
-
-pub sources-step : (t : NodeTable) (source : Source) (node i : ℕ) (e : SourceEntry) → SourcesLeft t source node i → i < length t.sources.items → e ≡ get_or t.sources.items i e → same_source e.source source ≡ false → SourcesLeft t source node (i + 1)
-sources-step t source node i e inv l h g = λ ts.
-    let c : drop i t.sources.items ≡ e ∷ drop (i + 1) t.sources.items = cons_at t.sources.items i e l ∙ ap (λ x. x ∷ drop (i + 1) t.sources.items) (sym h) in
-    sym (first_not ts t source node (drop i t.sources.items) (drop (i + 1) t.sources.items) e c g) ∙ inv ts
-
 pub sources-found : (t : NodeTable) (source : Source) (node i : ℕ) (e : SourceEntry) (ts : List (List ℕ)) → HasFunctions t → SourcesLeft t source node i → i < length t.sources.items → e ≡ get_or t.sources.items i e → same_source e.source source ≡ true → indexed_code ts t e node ≡ function_at (program_of ts t) source node
 sources-found t source node i e ts has inv l h g =
     let c : drop i t.sources.items ≡ e ∷ drop (i + 1) t.sources.items = cons_at t.sources.items i e l ∙ ap (λ x. x ∷ drop (i + 1) t.sources.items) (sym h) in
     let s : slice_get t.sources.items i ≡ Some e = get_some t.sources.items i e l ∙ ap (λ x. Some x) (sym h) in
     sym (has.finds ts i e s node) ∙ sym (first_is ts t source node (drop i t.sources.items) (drop (i + 1) t.sources.items) e c g) ∙ inv ts
-
-pub sources-end : (t : NodeTable) (source : Source) (node i : ℕ) (ts : List (List ℕ)) → SourcesLeft t source node i → length t.sources.items ≤ i → None ≡ function_at (program_of ts t) source node
-sources-end t source node i ts inv l = ap (λ xs. function_at (source_trees ts t xs) source node) (sym (drop_all i t.sources.items l)) ∙ inv ts

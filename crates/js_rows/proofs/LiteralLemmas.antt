@@ -71,10 +71,6 @@ made_else : (b : Bool) (x y : Action) → b ≡ false → (if b then x else y) �
 made_else true x y h = cc
 made_else false x y h = refl
 
-made_then : (b : Bool) (x y : Action) → b ≡ true → (if b then x else y) ≡ x
-made_then true x y h = refl
-made_then false x y h = cc
-
 pub made-plain : (f : FunctionForm) (scope : Addr) (this u : Value) (v : World) (r : Result Value Stop) (w : World) → f.is_named ≡ false → u ≡ receiver_of f this →
     Gives (make (function_cell f f.name scope u) (λ a. give (values.Object a))) v r w → Gives (function_made f scope this) v r w
 made-plain f scope this u v r w h i g =
@@ -82,12 +78,6 @@ made-plain f scope this u v r w h i g =
     let P : Value → Type 0 = λ z. Gives (make (function_cell f f.name scope z) (λ a. give (values.Object a))) v r w in
     let Q : Action → Type 0 = λ z. Gives z v r w in
     subst Q (sym (made_else f.is_named (named_function f scope) x h)) (subst P i g)
-
-pub made-named : (f : FunctionForm) (scope : Addr) (this : Value) (v : World) (r : Result Value Stop) (w : World) → f.is_named ≡ true → Gives (named_function f scope) v r w → Gives (function_made f scope this) v r w
-made-named f scope this v r w h g =
-    let x : Action = make (function_cell f f.name scope (receiver_of f this)) (λ a. give (values.Object a)) in
-    let Q : Action → Type 0 = λ z. Gives z v r w in
-    subst Q (sym (made_then f.is_named (named_function f scope) x h)) g
 
 pub function-reply : (ts : List (List ℕ)) (f : FunctionForm) (scope : Addr) (u : Value) (c : Context) (v : World) (r : Result Value Stop) (w : World) (q : Reduced) → u ≡ top_this c.frames c.outer_this →
     Gives (function_made f scope u) v r w → q ≡ replied r → RepliesWith ts (function_row (state_of v c []) scope f) v c q w c

@@ -32,8 +32,6 @@ part-within ks from to i h = sym (get_take (drop from ks) (to - from) i (omega a
 pub part-past : (ks : List ℕ) (from to i : ℕ) → to ≤ from + i → None ≡ slice_get (take (to - from) (drop from ks)) i
 part-past ks from to i h = sym (get_past (drop from ks) (to - from) i (omega arith))
 
-pub ruleset part_rules = (part-within, part-past)
-
 -- ---- trees of parts
 
 terms_none : (f : ℕ → Term) (ks : List ℕ) → None ≡ slice_get ks 0 → terms f ks ≡ end

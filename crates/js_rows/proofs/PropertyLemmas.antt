@@ -22,7 +22,7 @@ use Rattle.js_operations.specs.Flow.{Yields, Passes}
 use Rattle.js_operations.specs.References.{indexed, index_written, index_deleted}
 use Rattle.js_steps.specs.declared.reduced.Reduced.{Reduced}
 use Rattle.js_rows.specs.Does.{Replies, replied, replied_with}
-use Rattle.js_rows.specs.References.{member_result, index_result, member_put, index_put, member_removed, index_removed, is_object_cell, has_place}
+use Rattle.js_rows.specs.References.{member_result, index_result, member_put, index_put, member_removed, index_removed, has_place}
 use Rattle.js_rows.proofs.AnswerLemmas.{result-reply, passes-reply}
 use Rattle.js_rows.proofs.ReadingLemmas.{index-decimal}
 
@@ -85,18 +85,6 @@ index-deleted ts vs o i x v r w q g f h e =
 
 pub passes-change : (x : Written) (a : Addr) (c : Change) (v : World) (r : Result (Unit {0}) Stop) (w : World) → x ≡ a_change a c → Passes (write a c) v r w → Passes (with_written x) v r w
 passes-change x a c v r w e h = let P : Written → Type 0 = λ y. Passes (with_written y) v r w in subst P (sym e) h
-
-put_in_object : (a : Addr) (c : Option Cell) (key : List ℕ) (v : Value) → is_object_cell c ≡ true → cell_change a c key v ≡ a_change a (changes.Put key v)
-put_in_object a None key v h = cc
-put_in_object a (Some (cells.Object ps)) key v h = refl
-put_in_object a (Some (cells.Error x ps)) key v h = cc
-put_in_object a (Some (cells.Array vs)) key v h = cc
-put_in_object a (Some (cells.Text us)) key v h = cc
-put_in_object a (Some (cells.Function k n l s t)) key v h = cc
-put_in_object a (Some (cells.Bindings k n o ns)) key v h = cc
-
-pub object-written : (w : World) (o : Value) (a : Addr) (key : List ℕ) (v : Value) → o ≡ values.Object a → is_object_cell (read_cell w a) ≡ true → property_written w o key v ≡ a_change a (changes.Put key v)
-object-written w o a key v e h = ap (λ x. property_written w x key v) e ∙ put_in_object a (read_cell w a) key v h
 
 element_by : (a : Addr) (vs : List Value) (i : ℕ) (v : Value) → nat_le i (length vs) ≡ true → element_change a vs i v ≡ a_change a (changes.Element i v)
 element_by a vs i v h = rw h refl

@@ -10,7 +10,7 @@ use Rattle.js_heap.specs.declared.value.Value.{Value}
 use Rattle.js_heap.specs.declared.value.Value.TheVariants as values
 use Rattle.js_tree.specs.declared.tree.Expr.{Expr}
 use Rattle.js_tree.specs.Trees as trees
-use Rattle.js_tree.specs.Trees.{Parameters, Expression, Expressions, Statements}
+use Rattle.js_tree.specs.Trees.{Expression, Statements}
 use Rattle.js_tree.specs.Views.{expression_view}
 use Rattle.js_semantics.specs.Terms.{Mark, to_name, read, literal, Term, done, standing, part, Terms, end, more, one, joined}
 use Rattle.js_semantics.specs.Run.{literals, literals_of}

@@ -230,9 +230,6 @@ finally-part t old mid new task n i o e p =
 
 -- ---- the last value
 
-last_from : (u v : Value) (vs : List Value) → last_value u (dones (v ∷ vs)) ≡ last_value v (dones vs)
-last_from u v vs = refl
-
 last_get : (u : Value) (v : Value) (vs : List Value) (x : Value) → Some x ≡ slice_get (v ∷ vs) (length vs) → x ≡ last_value u (dones (v ∷ vs))
 last_get u v [] x e = cc
 last_get u v (w ∷ vs) x e = last_get v w vs x e

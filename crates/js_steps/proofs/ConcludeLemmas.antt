@@ -1,5 +1,5 @@
 -- What a step tells, from what its row answers.
-use Rattle.std.proofs.Common.{◌≡◌, ℕ, List, [], ◌∷◌, drop, refl, sym, ap, subst, ◌∙◌, Result, Ok, Err, OnOk}
+use Rattle.std.proofs.Common.{◌≡◌, ℕ, List, refl, sym, ap, subst, ◌∙◌, Result, Ok, Err, OnOk}
 use Rattle.std.proofs.lemmas.Result.{on_ok_weaker}
 use Rattle.std.specs.declared.alloc.AllocError.{AllocError}
 use Rattle.std.specs.declared.alloc.Global.{Global}
@@ -25,8 +25,7 @@ use Rattle.js_steps.specs.Gaps.{resettled, all_risen}
 use Rattle.js_steps.specs.Tasks.{Wide, gaps_of, InScopes}
 use Rattle.js_steps.specs.Points.{term_at, IsAt}
 use Rattle.js_steps.specs.Answers.{reduced_move, reduced_term, Reduces}
-use Rattle.js_steps.specs.Stacks.{outer_of, values_of}
-use Rattle.js_steps.specs.Following.{innermost}
+use Rattle.js_steps.specs.Stacks.{outer_of}
 use Rattle.js_steps.specs.Stepping.{IfGoesOn, StandsIn, answer_of, Says, Raises, went_of, TellsWithin}
 use Rattle.js_steps.proofs.GapLaws.{goes-risen, effect-risen, full-risen, plugged-resettled}
 
@@ -104,20 +103,6 @@ raise-told ts t root ws v c w taken stepped p m h e =
     let Q : Point → Type 0 = λ x. TellsWithin ts t root ws m steppeds.Raised ws x s in
     subst P (sym h.0) (subst Q (sym h.1) (ap (all_risen root (gaps_of ts t ws)) e ∙ goes_to ts t root ws ws (points.Stands v (top_spot c.frames)) (standing v (top_spot c.frames)) s raised (stands_at ts t ws v c)))
 
-pub raise-stands : (t : NodeTable) (root : Addr) (ws : List Wide) (v : Value) (c : Context) (stepped : Stepped) (p : Point) → Raises v c stepped p → InScopes t root ws → StandsIn t root ws p
-raise-stands t root ws v c stepped p h s =
-    let P : Point → Type 0 = λ x. StandsIn t root ws x in
-    subst P (sym h.1) (record { at = tt; scoped = s })
-
-pub if-goes-on : (stepped : Stepped) (P : Type 0) → P → IfGoesOn stepped P
-if-goes-on steppeds.Went P h = h
-if-goes-on steppeds.Raised P h = h
-if-goes-on (steppeds.Printed vs) P h = h
-if-goes-on (steppeds.Over f) P h = tt
-if-goes-on steppeds.Effect P h = tt
-if-goes-on (steppeds.Full what) P h = tt
-if-goes-on steppeds.Memory P h = tt
-
 pub goes-on-weaker : {P Q : Type 0} (stepped : Stepped) → (P → Q) → IfGoesOn stepped P → IfGoesOn stepped Q
 goes-on-weaker steppeds.Went f h = f h
 goes-on-weaker steppeds.Raised f h = f h
@@ -139,16 +124,6 @@ full-told ts t root old new p what m s e = ap (all_risen root (gaps_of ts t old)
 
 pub printed-told : (ts : List (List ℕ)) (t : NodeTable) (root : Addr) (old new : List Wide) (p : Point) (vs : Vec Value Global) (s : State) → resettled (gaps_of ts t old) (done values.Undefined) ≡ term_at ts t new p → TellsWithin ts t root old (goes (done values.Undefined) s (printed_values vs.items)) (steppeds.Printed vs) new p s
 printed-told ts t root old new p vs s e = goes_to ts t root old new p (done values.Undefined) s (printed_values vs.items) e
-
-values_inner : (ws : List Wide) → values_of ws ≡ (innermost ws).values
-values_inner [] = refl
-values_inner (w ∷ ws) = refl
-
-pub row-printed : (ts : List (List ℕ)) (t : NodeTable) (root : Addr) (old us new : List Wide) (p : Point) (vs : List Value) (s : State) (stepped : Stepped) → us ≡ outer_of old → vs ≡ drop 2 (values_of old) → TellsWithin ts t root us (goes (done values.Undefined) s (printed_values vs)) stepped new p s → TellsWithin ts t root (outer_of old) (goes (done values.Undefined) s (printed_values (drop 2 (innermost old).values))) stepped new p s
-row-printed ts t root old us new p vs s stepped o e h =
-    let P : List Wide → Type 0 = λ ws. TellsWithin ts t root ws (goes (done values.Undefined) s (printed_values vs)) stepped new p s in
-    let Q : List Value → Type 0 = λ xs. TellsWithin ts t root (outer_of old) (goes (done values.Undefined) s (printed_values xs)) stepped new p s in
-    subst Q (e ∙ ap (drop 2) (values_inner old)) (subst P o h)
 
 -- the same behind what was popped
 pub told-popped : (ts : List (List ℕ)) (t : NodeTable) (root : Addr) (old us new : List Wide) (p : Point) (m : Move Term) (stepped : Stepped) (s : State) → us ≡ outer_of old → TellsWithin ts t root us m stepped new p s → TellsWithin ts t root (outer_of old) m stepped new p s

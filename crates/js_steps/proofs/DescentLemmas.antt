@@ -1,31 +1,28 @@
 -- The way inward to what is reduced next, and outward from a value.
-use Rattle.std.proofs.Common.{◌≡◌, ℕ, ◌<◌, true, false, List, [], ◌∷◌, ◌++◌, length, Option, None, Some, slice_get, refl, sym, ap, subst, ◌∙◌, arith}
+use Rattle.std.proofs.Common.{◌≡◌, ℕ, true, false, List, [], ◌∷◌, Option, None, Some, slice_get, refl, sym, ap, subst, ◌∙◌, arith}
 use Rattle.js_heap.specs.declared.value.Addr.{Addr}
 use Rattle.js_heap.specs.declared.value.Value.{Value}
 use Rattle.js_heap.specs.declared.value.Value.TheVariants as values
 use Rattle.js_semantics.specs.declared.form.Form.{Form}
 use Rattle.js_semantics.specs.Terms.{Term, done, part, Terms, end, finished, settled, settle}
 use Rattle.js_semantics.specs.Next.{scope_in}
-use Rattle.js_code.specs.declared.op.Op.{Op}
-use Rattle.js_code.specs.declared.op.Op.TheVariants as ops
 use Rattle.js_code.specs.declared.node.Node.{Node}
 use Rattle.js_code.specs.declared.table.NodeTable.{NodeTable}
 use Rattle.js_code.specs.Forms.{form_of}
-use Rattle.js_code.specs.Ops.{is_literal, is_task_only}
+use Rattle.js_code.specs.Ops.{is_literal}
 use Rattle.js_code.specs.Trees.{terms, tree, trees, IsNode, IsTable}
 use Rattle.js_steps.specs.declared.closing.Closing.{Closing}
 use Rattle.js_steps.specs.declared.closing.Closing.TheVariants as closings
 use Rattle.js_steps.specs.declared.closing.Next.{Next}
 use Rattle.js_steps.specs.declared.closing.Next.TheVariants as nexts
-use Rattle.js_steps.specs.declared.settling.Entered.{Entered}
 use Rattle.js_steps.specs.declared.settling.Entered.TheVariants as entereds
 use Rattle.js_steps.specs.declared.task.Task.{Task}
 use Rattle.js_steps.specs.declared.task.Extra.{Extra}
 use Rattle.js_steps.specs.declared.task.Point.TheVariants as points
 use Rattle.js_steps.specs.Gaps.{plugged, resettled}
 use Rattle.js_steps.specs.Tasks.{Wide, form_in, task_form, gaps_of, scope_of, InScopes}
-use Rattle.js_steps.specs.Points.{row_term, term_at, IsLeafAt, IsAtRow}
-use Rattle.js_steps.specs.Stacks.{has_extra, begun, outer_of, with_value}
+use Rattle.js_steps.specs.Points.{row_term, term_at, IsAtRow}
+use Rattle.js_steps.specs.Stacks.{begun, with_value}
 use Rattle.js_steps.specs.Parts.{IsOpen, IsNextPart}
 use Rattle.js_steps.specs.Settling.{closing_of, is_waiting, closed, proceeding, CanCome, ComesIn, settled_row, settled_parts, Through, Comes, IsTask, Inward, Enters, IsOnWay, IsOnWayOut, IsInnermost}
 use Rattle.js_steps.proofs.TreeLemmas.{tree-at, node-at, now-below, kids-end}
@@ -35,23 +32,8 @@ use Rattle.js_steps.proofs.StageLemmas.{comes-through, comes-part, through-value
 
 -- ---- a node as a task
 
-pub node-owns : (op : Op) (info : ℕ) → is_task_only op ≡ false → has_extra op info ≡ false
-node-owns ops.TurnOf info e = cc
-node-owns ops.BodyOf info e = cc
-node-owns ops.Ending info e = cc
-node-owns ops.ObjectRest info e = cc
-node-owns op info e = refl
-
-pub table-owns : (t : NodeTable) (n : ℕ) (node : Node) → IsTable t → slice_get t.nodes.items n ≡ Some node → has_extra node.op node.info ≡ false
-table-owns t n node table e = node-owns node.op node.info (node-at t n node table e).source
-
 pub open-node : (t : NodeTable) (n : ℕ) (node : Node) → slice_get t.nodes.items n ≡ Some node → IsOpen (slice_get t.nodes.items n) → is_literal node.op ≡ false
 open-node t n node e o =
-    let P : Option Node → Type 0 = IsOpen in
-    subst P e o
-
-pub closed-node : (t : NodeTable) (n : ℕ) → slice_get t.nodes.items n ≡ None → IsOpen (slice_get t.nodes.items n) → ⊥
-closed-node t n e o =
     let P : Option Node → Type 0 = IsOpen in
     subst P e o
 
@@ -86,18 +68,6 @@ node_within ts t n node inner old new p table e o i =
 
 -- ---- one level inward
 
-same_inward : (t : NodeTable) (old : List Wide) (inner : Addr) → Inward t old old inner
-same_inward t old inner = record { scope = λ root e. e; scoped = λ root e s. s }
-
-pub leaf-enters : (t : NodeTable) (old : List Wide) (inner : Addr) (n : ℕ) (node : Node) → slice_get t.nodes.items n ≡ Some node → IsOpen (slice_get t.nodes.items n) → node.first ≡ node.mid → Enters t old old inner n entereds.Leaf
-leaf-enters t old inner n node e o h =
-    let P : Option Node → Type 0 = IsLeafAt in
-    record {
-      term = λ ts. refl;
-      stands = subst P (sym e) (record { parts = h; value = open-node t n node e o });
-      inward = same_inward t old inner;
-    }
-
 pub row-enters : (t : NodeTable) (old mid new : List Wide) (inner : Addr) (n : ℕ) (node : Node) → IsTable t → slice_get t.nodes.items n ≡ Some node → IsOpen (slice_get t.nodes.items n) → mid ≡ node_task node inner ∷ old → IsNextPart t mid new None → Enters t old new inner n entereds.Row
 row-enters t old mid new inner n node table e o m i =
     let P : List Wide → Type 0 = λ ws. IsNextPart t ws new None in
@@ -120,19 +90,6 @@ part-enters t old mid new inner n node k table e o m i =
 
 -- ---- all levels inward
 
-pub way-init : (t : NodeTable) (old : List Wide) (node : ℕ) (inner : Addr) → IsOpen (slice_get t.nodes.items node) → IsOnWay t old node inner old node
-way-init t old node inner o = record { term = λ ts. refl; form = o; inward = same_inward t old inner }
-
-pub way-next : (t : NodeTable) (old : List Wide) (node : ℕ) (inner : Addr) (now new : List Wide) (n k : ℕ) → IsOnWay t old node inner now n → Enters t now new inner n (entereds.Part k) → IsOnWay t old node inner new k
-way-next t old node inner now new n k w e = record {
-  term = λ ts. sym (e.term ts) ∙ w.term ts;
-  form = e.stands.form;
-  inward = record {
-    scope = λ root h. e.inward.scope root (w.inward.scope root h);
-    scoped = λ root h s. e.inward.scoped root (w.inward.scope root h) (w.inward.scoped root h s);
-  };
-}
-
 pub way-leaf : (ts : List (List ℕ)) (t : NodeTable) (old : List Wide) (node : ℕ) (inner : Addr) (now new : List Wide) (n : ℕ) → IsOnWay t old node inner now n → Enters t now new inner n entereds.Leaf → plugged (gaps_of ts t old) (tree ts t node) ≡ term_at ts t new (points.Leaf n)
 unfolding term_at
 way-leaf ts t old node inner now new n w e = sym (w.term ts) ∙ e.term ts
@@ -140,9 +97,6 @@ way-leaf ts t old node inner now new n w e = sym (w.term ts) ∙ e.term ts
 pub way-row : (ts : List (List ℕ)) (t : NodeTable) (old : List Wide) (node : ℕ) (inner : Addr) (now new : List Wide) (n : ℕ) → IsOnWay t old node inner now n → Enters t now new inner n entereds.Row → plugged (gaps_of ts t old) (tree ts t node) ≡ term_at ts t new points.Row
 unfolding term_at
 way-row ts t old node inner now new n w e = sym (w.term ts) ∙ e.term ts
-
-pub way-scoped : (t : NodeTable) (old : List Wide) (node : ℕ) (inner : Addr) (now new : List Wide) (n : ℕ) (e : Entered) → IsOnWay t old node inner now n → Enters t now new inner n e → (root : Addr) → scope_of root old ≡ inner → InScopes t root old → InScopes t root new
-way-scoped t old node inner now new n e w h root i s = h.inward.scoped root (w.inward.scope root i) (w.inward.scoped root i s)
 
 -- ---- a value in the innermost gap
 
@@ -168,36 +122,17 @@ take-part t old mid new v k h e i = comes-part t old new (λ ts. resettled (gaps
 pub take-all : (t : NodeTable) (old mid all new : List Wide) (v : Value) (next : Next) → IsTask old → mid ≡ with_value v old → IsNextPart t mid all None → Comes t all new (λ ts. settled_row ts t all) next → Comes t old new (λ ts. resettled (gaps_of ts t old) (done v)) next
 take-all t old mid all new v next h e i c = comes-through t old all new (λ ts. resettled (gaps_of ts t old) (done v)) (λ ts. settled_row ts t all) next (taken_through t old mid all v None e i) (λ ts. taken_term ts t old mid all v None h e i) c
 
-taken_at : (t : NodeTable) (old new : List Wide) (v : Value) → IsTask old → IsNextPart t (with_value v old) new None → IsAtRow new
-taken_at t [] new v h i = absurd h
-taken_at t (w ∷ ws) new v h i = row-next t (record w { values = w.values ++ v ∷ [] }) ws new i
-
-pub taken-row : (t : NodeTable) (old mid new : List Wide) (v : Value) → IsTask old → mid ≡ with_value v old → IsNextPart t mid new None → IsAtRow new
-taken-row t old mid new v h e i =
-    let P : List Wide → Type 0 = λ ws. IsNextPart t ws new None in
-    taken_at t old new v h (subst P e i)
-
 pub is-task : (old : List Wide) (task : Task) (e : Option Extra) → IsInnermost task e old → IsTask old
 is-task [] task e i = cc
 is-task (w ∷ ws) task e i = tt
 
 -- ---- the way outward
 
-pub out-init : (t : NodeTable) (old : List Wide) (v : Value) → IsOnWayOut t old v old v
-out-init t old v = record { term = λ ts. refl; scoped = λ root s. s }
-
 pub out-next : (t : NodeTable) (old : List Wide) (value : Value) (now new : List Wide) (v u : Value) → IsOnWayOut t old value now v → Comes t now new (λ ts. resettled (gaps_of ts t now) (done v)) (nexts.Value u) → IsOnWayOut t old value new u
 out-next t old value now new v u w c = record {
   term = λ ts. sym (c.term ts) ∙ w.term ts;
   scoped = λ root s. c.scoped root (w.scoped root s);
 }
-
-shorter_at : (old : List Wide) → IsTask old → length (outer_of old) < length old
-shorter_at [] h = absurd h
-shorter_at (w ∷ ws) h = omega arith
-
-pub out-shorter : (old new : List Wide) → IsTask old → new ≡ outer_of old → length new < length old
-out-shorter old new h e = omega (arith, shorter_at old h, ap (λ (ws : List Wide). length ws) e)
 
 pub out-done : (ts : List (List ℕ)) (t : NodeTable) (old : List Wide) (value : Value) (now : List Wide) (v : Value) → IsOnWayOut t old value now v → now ≡ [] → resettled (gaps_of ts t old) (done value) ≡ term_at ts t now (points.Done v)
 unfolding term_at
@@ -268,20 +203,10 @@ uncovered-leaf ts t old n node inner table e o h w =
     ∙ ap (plugged (gaps_of ts t old)) (sym (node-tree ts t n node inner table e (open-node t n node e o)))
     ∙ leaf-term ts t old n
 
-pub leaf-at : (t : NodeTable) (n : ℕ) (node : Node) → slice_get t.nodes.items n ≡ Some node → IsOpen (slice_get t.nodes.items n) → node.first ≡ node.mid → IsLeafAt (slice_get t.nodes.items n)
-leaf-at t n node e o h =
-    let P : Option Node → Type 0 = IsLeafAt in
-    subst P (sym e) (record { parts = h; value = open-node t n node e o })
-
 pub uncovered-scoped : (t : NodeTable) (old mid new : List Wide) (n : ℕ) (node : Node) (inner : Addr) (p : Option ℕ) → IsTable t → slice_get t.nodes.items n ≡ Some node → mid ≡ node_task node inner ∷ old → IsNextPart t mid new p → Inward t old new inner
 uncovered-scoped t old mid new n node inner p table e m i =
     let P : List Wide → Type 0 = λ ws. IsNextPart t ws new p in
     task-inward t n node inner old new p table e (subst P m i)
-
-pub uncovered-row : (t : NodeTable) (old mid new : List Wide) (node : Node) (inner : Addr) → mid ≡ node_task node inner ∷ old → IsNextPart t mid new None → IsAtRow new
-uncovered-row t old mid new node inner m i =
-    let P : List Wide → Type 0 = λ ws. IsNextPart t ws new None in
-    row-next t (node_task node inner) old new (subst P m i)
 
 -- ---- the innermost task goes on
 

@@ -264,11 +264,3 @@ body-op op e = cc
 pub updating-op : (op : Op) → closing_of op ≡ closings.Updating → op ≡ ops.LoopUpdating
 updating-op ops.LoopUpdating e = refl
 updating-op op e = cc
-
-pub turn-op : (op : Op) → closing_of op ≡ closings.Turn → op ≡ ops.BodyOf
-turn-op ops.BodyOf e = refl
-turn-op op e = cc
-
-pub finally-op : (op : Op) → closing_of op ≡ closings.Finally → op ≡ ops.Finishing
-finally-op ops.Finishing e = refl
-finally-op op e = cc

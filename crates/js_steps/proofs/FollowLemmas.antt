@@ -347,9 +347,6 @@ list-scopes t (w ∷ ws) us vs new task op a mid last h o p u v n = λ root k.
     subst Q (sym (n ∙ ap (λ xs. begun ops.Scoped 0 0 0 0 a None ∷ xs) (v ∙ ap (λ xs. x ∷ xs) u)))
     (scopes-own t root (begun ops.Scoped 0 0 0 0 a None) (x ∷ ws) refl (scopes-same t root w x ws plain refl (ap (λ y. y.inner) e) k))
 
-turn_open : (ts : List (List ℕ)) (o : Option ForOfEntry) (i : ℕ) (now later : Terms) → is_done (part (turn_form ts o i) now later) ≡ false
-turn_open ts o i now later = refl
-
 abbrev turn_task : Wide → Value → Wide
 turn_task x v = begun ops.TurnOf x.info x.mid x.mid x.end x.inner (Some (extras.Turn v 0))
 

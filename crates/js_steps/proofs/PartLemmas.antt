@@ -6,7 +6,7 @@ use Rattle.js_code.specs.declared.table.NodeTable.{NodeTable}
 use Rattle.js_code.specs.Trees.{kids_between, terms, tree, trees, EachBelow}
 use Rattle.js_steps.specs.Tasks.{Wide}
 use Rattle.js_steps.specs.Stacks.{values_of, with_value, at_part}
-use Rattle.js_steps.specs.Parts.{IsOpen, at_of, mid_of, parts_of, IsTaken, IsNextPart}
+use Rattle.js_steps.specs.Parts.{IsOpen, mid_of, parts_of, IsTaken, IsNextPart}
 use Rattle.js_steps.proofs.TreeLemmas.{kids-some, kids-none, kids-end}
 
 -- ---- values and parts
@@ -20,10 +20,6 @@ joined-end [] = refl
 joined-end (x ∷ vs) = ap (more (done x)) (joined-end vs)
 
 -- ---- one part after the other
-
-pub taken-init : (t : NodeTable) (old : List Wide) (at : ℕ) → at_of old ≡ at → IsTaken t old old at
-taken-init t [] at e = record { same = refl; parts = λ ts. ap (λ x. trees ts t x 0) (sym e); below = λ m b. subst (λ (x : ℕ). EachBelow m (kids_between t x 0)) e b }
-taken-init t (w ∷ ws) at e = record { same = refl; parts = λ ts. ap (λ x. joined (dones w.values) (trees ts t x w.mid)) (sym e); below = λ m b. subst (λ (x : ℕ). EachBelow m (kids_between t x w.mid)) e b }
 
 value_at_place : (ts : List (List ℕ)) (t : NodeTable) (at mid k : ℕ) (vs : List Value) (v : Value) → at < mid → slice_get t.kids.items at ≡ Some k → tree ts t k ≡ done v → joined (dones (vs ++ v ∷ [])) (trees ts t (at + 1) mid) ≡ joined (dones vs) (trees ts t at mid)
 value_at_place ts t at mid k vs v h e d =
@@ -87,8 +83,3 @@ taken-none t old new next at mid i q e n = taken-end t old new next at mid i q (
 
 pub taken-all : (t : NodeTable) (old new next : List Wide) (at mid : ℕ) → IsTaken t old new at → mid ≡ mid_of old → mid ≤ at → next ≡ at_part mid new → IsNextPart t old next None
 taken-all t old new next at mid i q h n = taken-end t old new next at mid i q (kids-end t at mid h) n
-
-pub no-parts : (t : NodeTable) (old : List Wide) → old ≡ [] → IsNextPart t old old None
-no-parts t old e =
-    let P : List Wide → Type 0 = λ xs. IsNextPart t xs xs None in
-    subst P (sym e) (record { same = refl; parts = λ ts. refl; part = refl })

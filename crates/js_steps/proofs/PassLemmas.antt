@@ -147,9 +147,6 @@ left : (c : Completion) (s : State) → performed (leave c) s ≡ travels c s
 unfolding performed
 left c s = refl
 
-pub passed-none : (t : NodeTable) (c : Completion) (old : List Wide) (before : Context) → HasPassedTasks t c old before old before
-passed-none t c old before = record { moves = λ ts root w taken. refl; scoped = λ root s. s }
-
 let_pass : (t : NodeTable) (c : Completion) (w : Wide) (ws : List Wide) (now : Context) → passing_of t w.op w.info c ≡ passings.Lets → HasPassedTasks t c (w ∷ ws) now ws now
 let_pass t c w ws now e = record {
   moves = λ ts root v taken. risen-by ts t root w ws c passings.Lets (state_of v now taken) e ∙ ap (all_risen root (gaps_of ts t ws)) (left c (state_of v now taken));

@@ -1,5 +1,5 @@
 -- What the steps of a run print.
-use Rattle.std.proofs.Common.{◌≡◌, ℕ, zero, suc, ◌+◌, ◌-◌, ◌<◌, false, List, Option, None, Some, refl, sym, ap, subst, ◌∙◌, add-one, arith, below_more}
+use Rattle.std.proofs.Common.{◌≡◌, ℕ, zero, suc, ◌+◌, ◌-◌, false, List, Option, None, Some, refl, sym, ap, subst, ◌∙◌, add-one, arith, below_more}
 use Rattle.js_heap.specs.declared.value.Addr.{Addr}
 use Rattle.js_heap.specs.declared.value.Value.{Value}
 use Rattle.js_heap.specs.World.{World}
@@ -63,11 +63,6 @@ prints_by ts t root ws p w c k vs us q o v x d e stepped b h g y taken told =
     let P : Option (List Value) → Type 0 = PrintsBy (why_of stepped) in
     let Q : Option Why → Type 0 = λ z. PrintsBy z (last_printed (k + 1) (program_of ts t) root (run_of (term_at ts t ws p) (state_of w c taken))) in
     subst Q y (subst P (sym f) (told_prints (next (program_of ts t) root (term_at ts t vs q) (state_of v d taken)) stepped (term_at ts t us o) (state_of x e taken) told))
-
--- it has steps before it
-pub last-of : (k : ℕ) (p : Program) (a : Addr) (r : Run) → 0 < k → last_printed k p a r ≡ values_printed p a (steps_in (k - 1) p a r)
-last-of zero p a r some = absurd (omega arith)
-last-of (suc k) p a r some = let e : k ≡ suc k - 1 = omega arith in ap (λ n. values_printed p a (steps_in n p a r)) e
 
 -- a step after which it stops
 pub stop-prints : (ts : List (List ℕ)) (t : NodeTable) (root : Addr) (ws : List Wide) (p : Point) (w : World) (c : Context) (k : ℕ) (vs us : List Wide) (q o : Point) (v x : World) (d e : Context) (stepped : Stepped) (why : Why) → HasRun ts t root ws p w c k vs q v d → IsGoing q → why_of stepped ≡ Some why → (taken : List (List ℕ)) → Tells (next (program_of ts t) root (term_at ts t vs q) (state_of v d taken)) stepped (term_at ts t us o) (state_of x e taken) → PrintsAs why (last_printed (k + 1) (program_of ts t) root (run_of (term_at ts t ws p) (state_of w c taken)))

@@ -15,7 +15,6 @@ use Rattle.js_code.specs.declared.node.CallEntry.{CallEntry}
 use Rattle.js_code.specs.declared.node.MemberEntry.{MemberEntry}
 use Rattle.js_code.specs.declared.node.FunctionEntry.{FunctionEntry}
 use Rattle.js_code.specs.declared.table.NodeTable.{NodeTable}
-use Rattle.js_code.specs.Ops.{is_loop}
 use Rattle.js_code.specs.Forms.{form_of, script_form, for_form, for_of_form, list_form, turn_form, body_form, block_form, function_form, method_form, object_form, members_at, call_form, name_call_form, member_call_form, index_call_form}
 use Rattle.js_steps.specs.declared.task.Extra.{Extra}
 use Rattle.js_steps.specs.Tasks.{Wide, turn_scope, index_of, form_in, task_form, scope_of, InScopes}
@@ -249,71 +248,3 @@ scope-around t root w ws o h = sym (h.0 []) ∙ plain-scope [] t w.op w.info w.i
 -- one in place of another, neither with a scope of its own
 pub scopes-same : (t : NodeTable) (root : Addr) (w v : Wide) (ws : List Wide) → has_scope w.op w.info ≡ false → has_scope v.op v.info ≡ false → v.inner ≡ w.inner → InScopes t root (w ∷ ws) → InScopes t root (v ∷ ws)
 scopes-same t root w v ws o p e h = scopes-plain t root v ws p (e ∙ scope-around t root w ws o h) h.1
-
--- a loop at another stage
-loop_form : (ts : List (List ℕ)) (t : NodeTable) (op : Op) (info : ℕ) (inner : Addr) (e : Option Extra) (outer : Addr) → is_loop op ≡ true → scope_in (form_in ts t op info inner e) outer ≡ scope_in (loop stages.First (turn_scope info inner)) outer
-loop_form ts t ops.Literal info inner e outer h = cc
-loop_form ts t ops.Scripts info inner e outer h = cc
-loop_form ts t ops.Script info inner e outer h = cc
-loop_form ts t ops.Sequence info inner e outer h = cc
-loop_form ts t ops.Enter info inner e outer h = cc
-loop_form ts t ops.EnterDebugger info inner e outer h = cc
-loop_form ts t ops.EnterFor info inner e outer h = cc
-loop_form ts t ops.EnterForOf info inner e outer h = cc
-loop_form ts t ops.Block info inner e outer h = cc
-loop_form ts t ops.Scoped info inner e outer h = cc
-loop_form ts t ops.Frame info inner e outer h = cc
-loop_form ts t ops.Initialize info inner e outer h = cc
-loop_form ts t ops.Choose info inner e outer h = cc
-loop_form ts t ops.Both info inner e outer h = cc
-loop_form ts t ops.Either info inner e outer h = cc
-loop_form ts t ops.LoopFirst info inner e outer h = refl
-loop_form ts t ops.LoopDoing info inner e outer h = refl
-loop_form ts t ops.LoopTesting info inner e outer h = refl
-loop_form ts t ops.LoopBody info inner e outer h = refl
-loop_form ts t ops.LoopUpdating info inner e outer h = refl
-loop_form ts t ops.ListOf info inner e outer h = cc
-loop_form ts t ops.TurnOf info inner e outer h = cc
-loop_form ts t ops.BodyOf info inner e outer h = cc
-loop_form ts t ops.Break info inner e outer h = cc
-loop_form ts t ops.Continue info inner e outer h = cc
-loop_form ts t ops.Return info inner e outer h = cc
-loop_form ts t ops.Throw info inner e outer h = cc
-loop_form ts t ops.Catching info inner e outer h = cc
-loop_form ts t ops.CatchingName info inner e outer h = cc
-loop_form ts t ops.Finishing info inner e outer h = cc
-loop_form ts t ops.Ending info inner e outer h = cc
-loop_form ts t ops.This info inner e outer h = cc
-loop_form ts t ops.ReadName info inner e outer h = cc
-loop_form ts t ops.ReadMember info inner e outer h = cc
-loop_form ts t ops.ReadIndex info inner e outer h = cc
-loop_form ts t ops.TypeofName info inner e outer h = cc
-loop_form ts t (ops.Unary x) info inner e outer h = cc
-loop_form ts t (ops.Binary x) info inner e outer h = cc
-loop_form ts t ops.Comma info inner e outer h = cc
-loop_form ts t ops.Function info inner e outer h = cc
-loop_form ts t ops.Method info inner e outer h = cc
-loop_form ts t ops.Array info inner e outer h = cc
-loop_form ts t ops.Object info inner e outer h = cc
-loop_form ts t ops.ObjectRest info inner e outer h = cc
-loop_form ts t ops.AssignName info inner e outer h = cc
-loop_form ts t ops.AssignMember info inner e outer h = cc
-loop_form ts t ops.AssignIndex info inner e outer h = cc
-loop_form ts t (ops.CompoundName x) info inner e outer h = cc
-loop_form ts t (ops.CompoundMember x) info inner e outer h = cc
-loop_form ts t (ops.CompoundIndex x) info inner e outer h = cc
-loop_form ts t (ops.UpdateName x) info inner e outer h = cc
-loop_form ts t (ops.UpdateMember x) info inner e outer h = cc
-loop_form ts t (ops.UpdateIndex x) info inner e outer h = cc
-loop_form ts t ops.DeleteName info inner e outer h = cc
-loop_form ts t ops.DeleteMember info inner e outer h = cc
-loop_form ts t ops.DeleteIndex info inner e outer h = cc
-loop_form ts t ops.Call info inner e outer h = cc
-loop_form ts t ops.CallOfName info inner e outer h = cc
-loop_form ts t ops.CallOfMember info inner e outer h = cc
-loop_form ts t ops.CallOfIndex info inner e outer h = cc
-
-pub scopes-stage : (t : NodeTable) (root : Addr) (w v : Wide) (ws : List Wide) → is_loop w.op ≡ true → is_loop v.op ≡ true → v.info ≡ w.info → v.inner ≡ w.inner → InScopes t root (w ∷ ws) → InScopes t root (v ∷ ws)
-unfolding task_form
-scopes-stage t root w v ws o p i e h =
-    (λ ts. loop_form ts t v.op v.info v.inner v.extra (scope_of root ws) p ∙ rw (i, e) (sym (loop_form ts t w.op w.info w.inner w.extra (scope_of root ws) o)) ∙ h.0 ts ∙ sym e, h.1)

@@ -73,9 +73,6 @@ within_by : (ts : List (List ℕ)) (t : NodeTable) (w : Wide) (ws : List Wide) (
 within_by ts t w ws None = refl
 within_by ts t w ws (Some n) = refl
 
-moved_by : (ts : List (List ℕ)) (t : NodeTable) (f : Form → Terms → Terms → Term) (w : Wide) (at : ℕ) (vs : List Value) (now : Terms) → f (task_form ts t w) now (later_of ts t w) ≡ f (task_form ts t (record w { at = at; values = vs })) now (later_of ts t w)
-moved_by ts t f w at vs now = ap (λ x. f x now (later_of ts t w)) (sym (moved_form ts t w at vs))
-
 settled_none : (ts : List (List ℕ)) (t : NodeTable) (new : List Wide) (n : Option ℕ) → IsNextPart t [] new n → settled_parts ts t [] ≡ after_parts ts t new n
 settled_none ts t new None i = ap (settled_row ts t) (sym i.same)
 settled_none ts t new (Some n) i = absurd (let h : n < 0 = i.part.below 0 tt in omega arith)

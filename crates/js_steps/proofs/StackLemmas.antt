@@ -169,13 +169,6 @@ extra-replaced es x e n l h i =
     let s : Turns es (n - 1) x e = turns es n x e l h i in
     s.after ∙ ap (λ xs. e ∷ other_extras true xs) (sym s.before)
 
-pub extra-first-one : (es fs : List Extra) (e : Extra) → length es ≡ 0 → fs ≡ es ++ e ∷ [] → reverse fs ≡ e ∷ other_extras true (reverse es)
-extra-first-one [] fs e h g = ap reverse g
-extra-first-one (x ∷ es) fs e h g = absurd (omega (arith, h))
-
-pub extra-added : (es fs : List Extra) (e : Extra) → fs ≡ es ++ e ∷ [] → reverse fs ≡ e ∷ other_extras false (reverse es)
-extra-added es fs e g = ap reverse g ∙ reverse-append es (e ∷ [])
-
 pub own-view : (op : Op) (info at mid : ℕ) (ts : List Task) (vs : List Value) (es fs : List Extra) (t u : Task) (e : Extra) (n : ℕ) → n ≡ length ts → 0 < n → t ≡ slice_index_or ts (n - 1) t → u ≡ record t { op = op; info = info; at = at; mid = mid } → has_extra op info ≡ true → reverse fs ≡ e ∷ other_extras (has_extra t.op t.info) (reverse es) → widened_back (slice_set ts (n - 1) u) vs fs ≡ owning op info at mid e (widened_back ts vs es)
 own-view op info at mid ts vs es fs t u e n l h i o k g =
     let s : Turns ts (n - 1) t u = turns ts n t u l h i in

@@ -23,36 +23,12 @@ use Rattle.js_steps.specs.Tasks.{Wide, turn_scope, form_in, task_form, later_of,
 use Rattle.js_steps.specs.Points.{row_term, IsAtRow}
 use Rattle.js_steps.specs.Stacks.{wide, values_of, with_value, outer_of}
 use Rattle.js_steps.specs.Parts.{IsOpen}
-use Rattle.js_steps.specs.Settling.{Through, Comes, first_kid, IsOpenPart, restaged, IsInnermost, kept_trees, looped, staged}
+use Rattle.js_steps.specs.Settling.{Through, Comes, IsOpenPart, restaged, IsInnermost, kept_trees, looped, staged}
 use Rattle.js_steps.proofs.TreeLemmas.{kids-some, kids-none, kids-end, open-tree}
 use Rattle.js_steps.proofs.SettleLemmas.{resettled-part, scopes-value, scope-value}
 use Rattle.js_steps.proofs.FinishLemmas.{loop-scope}
 
 -- ---- places of kept parts
-
-first_at : (t : NodeTable) (at mid : ℕ) (o : Option ℕ) → at < mid → slice_get t.kids.items at ≡ o → o ≡ first_kid (kids_between t at mid)
-first_at t at mid None h e = ap first_kid (sym (kids-none t at mid e))
-first_at t at mid (Some k) h e = ap first_kid (sym (kids-some t at mid k h e))
-
-pub first-kid : (t : NodeTable) (at mid : ℕ) → at < mid → slice_get t.kids.items at ≡ first_kid (kids_between t at mid)
-first-kid t at mid h = first_at t at mid (slice_get t.kids.items at) h refl
-
-pub no-kid : (t : NodeTable) (at mid : ℕ) → mid ≤ at → None ≡ first_kid (kids_between t at mid)
-no-kid t at mid h = ap first_kid (sym (kids-end t at mid h))
-
-first_part : (at : ℕ → Term) (ks : List ℕ) (k : ℕ) → Some k ≡ first_kid ks → test_of (terms at ks) ≡ at k
-first_part at [] k e = cc
-first_part at (x ∷ ks) k e = let f : k ≡ x = cc in ap at (sym f)
-
-first_none : (at : ℕ → Term) (ks : List ℕ) → None ≡ first_kid ks → test_of (terms at ks) ≡ done values.Undefined
-first_none at [] e = refl
-first_none at (x ∷ ks) e = cc
-
-pub kept-some : (ts : List (List ℕ)) (t : NodeTable) (place stop k : ℕ) → Some k ≡ first_kid (kids_between t place stop) → test_of (trees ts t place stop) ≡ tree ts t k
-kept-some ts t place stop k e = first_part (tree ts t) (kids_between t place stop) k e
-
-pub kept-none : (ts : List (List ℕ)) (t : NodeTable) (place stop : ℕ) → None ≡ first_kid (kids_between t place stop) → test_of (trees ts t place stop) ≡ done values.Undefined
-kept-none ts t place stop e = first_none (tree ts t) (kids_between t place stop) e
 
 tail_of : List ℕ → List ℕ
 tail_of [] = []
@@ -180,10 +156,6 @@ restaged-row old task op i =
     let P : List Wide → Type 0 = λ ws. IsAtRow (restaged op ws) in
     subst P (sym i) refl
 
-pub restaged-empty : (old : List Wide) (op : Op) → values_of (restaged op old) ≡ []
-restaged-empty [] op = refl
-restaged-empty (w ∷ ws) op = refl
-
 -- a node in the gap of a loop at this stage
 part_gap : (ts : List (List ℕ)) (t : NodeTable) (w : Wide) (ws : List Wide) (n : ℕ) → w.values ≡ [] → w.at ≡ w.mid → plugged (gaps_of ts t (w ∷ ws)) (tree ts t n) ≡ staged ts t (w ∷ ws) (tree ts t n)
 part_gap ts t w ws n v a =
@@ -291,21 +263,12 @@ body-open ts t task n scope o =
 
 -- ---- loops with a scope for each turn, and others
 
-pub no-scope : (info : ℕ) (inner : Addr) → info ≡ 0 → turn_scope info inner ≡ None
-no-scope info inner e = ap (λ i. turn_scope i inner) e
-
 own_by : (b : Bool) (inner : Addr) → (b ≡ true → ⊥) → (if b then None else Some inner) ≡ Some inner
 own_by true inner h = absurd (h refl)
 own_by false inner h = refl
 
 pub own-scope : (info : ℕ) (inner : Addr) → (info ≡ 0 → ⊥) → turn_scope info inner ≡ Some inner
 own-scope info inner h = own_by (nat_eq info 0) inner (λ e. h (eqb-true info 0 e))
-
-pub without-scope : (info : ℕ) (inner : Addr) (later : Terms) → info ≡ 0 → behind_body (turn_scope info inner) later ≡ at_update (turn_scope info inner) later
-without-scope info inner later e = ap (λ s. behind_body s later) (no-scope info inner e) ∙ ap (λ s. at_update s later) (sym (no-scope info inner e))
-
-pub first-without : (info : ℕ) (inner : Addr) (later : Terms) → info ≡ 0 → behind_first (turn_scope info inner) later ≡ at_test (turn_scope info inner) later
-first-without info inner later e = ap (λ s. behind_first s later) (no-scope info inner e) ∙ ap (λ s. at_test s later) (sym (no-scope info inner e))
 
 pub with-scope : (info : ℕ) (inner : Addr) (later : Terms) → (info ≡ 0 → ⊥) → behind_body (turn_scope info inner) later ≡ part (loop stages.Body (turn_scope info inner)) end later
 with-scope info inner later h = ap (λ s. behind_body s later) (own-scope info inner h) ∙ ap (λ s. part (loop stages.Body s) end later) (sym (own-scope info inner h))

@@ -161,12 +161,6 @@ standing-told ts t root old new p q v place stepped s u e h =
     let R : Move Term → Type 0 = λ x. Tells x stepped (term_at ts t new p) u in
     subst P (sym e) (subst R (sym (standing_next ts t root old v place s)) h)
 
--- where it stood
-pub steps-as : (ts : List (List ℕ)) (t : NodeTable) (root : Addr) (old new : List Wide) (p q o : Point) (stepped : Stepped) (s u : State) → q ≡ o → Steps ts t root old o s stepped new p u → Steps ts t root old q s stepped new p u
-steps-as ts t root old new p q o stepped s u e h =
-    let P : Point → Type 0 = λ x. Steps ts t root old x s stepped new p u in
-    subst P (sym e) h
-
 -- undefined comes, for a completion that no `finally` kept
 pub nothing-told : (ts : List (List ℕ)) (t : NodeTable) (root : Addr) (old new : List Wide) (p : Point) (m : Move Term) (stepped : Stepped) (r : Result (Unit {0}) AllocError) (s : State) → stepped ≡ went_of r → m ≡ resumed None s → OnOk r ((names : List (List ℕ)) → resettled (gaps_of names t old) (done values.Undefined) ≡ term_at names t new p) → TellsWithin ts t root old m stepped new p s
 nothing-told ts t root old new p m stepped r s w e h = went-follows r stepped ts t root old new p m (λ names. done values.Undefined) s w e h

@@ -26,7 +26,6 @@ use Rattle.js_steps.specs.declared.passing.Taking.{Taking}
 use Rattle.js_steps.specs.declared.passing.Taking.TheVariants as takings
 use Rattle.js_steps.specs.declared.reduced.Reduced.{Reduced}
 use Rattle.js_steps.specs.declared.stepped.Stepped.{Stepped}
-use Rattle.js_steps.specs.declared.stepped.Stepped.TheVariants as steppeds
 use Rattle.js_steps.specs.declared.task.Extra.{Extra}
 use Rattle.js_steps.specs.declared.task.Extra.TheVariants as extras
 use Rattle.js_steps.specs.declared.task.Point.{Point}
@@ -34,13 +33,13 @@ use Rattle.js_steps.specs.declared.task.Redex.{Redex}
 use Rattle.js_steps.specs.declared.task.Task.{Task}
 use Rattle.js_steps.specs.Gaps.{plugged, resettled, scope_at, all_risen}
 use Rattle.js_steps.specs.Tasks.{Wide, gaps_of, task_form, later_of, scope_of, InScopes}
-use Rattle.js_steps.specs.Points.{term_at, IsAt, IsAtRow}
+use Rattle.js_steps.specs.Points.{term_at, IsAt}
 use Rattle.js_steps.specs.Rows.{IsCatching, CatchOf, redex}
 use Rattle.js_steps.specs.Stacks.{has_extra, wide, begun, outer_of, values_of, extra_of, without_values, at_part, OwnsOnly}
 use Rattle.js_steps.specs.Settling.{proceeding, settled_row, IsInnermost}
 use Rattle.js_steps.specs.Following.{innermost}
-use Rattle.js_steps.specs.Passing.{passing_try, passing_call, passing_turn, passing_entry, passing_of, took, TakesSo, HasPassedTasks}
-use Rattle.js_steps.specs.Stepping.{Tells, TellsWithin, IfGoesOn, StandsIn, EndsSo, finished_by, answer_of, Says, went_of}
+use Rattle.js_steps.specs.Passing.{passing_try, passing_call, passing_turn, passing_entry, passing_of, took, TakesSo}
+use Rattle.js_steps.specs.Stepping.{Tells, TellsWithin, IfGoesOn, StandsIn, answer_of, Says, went_of}
 use Rattle.std.proofs.lemmas.Result.{on_ok_weaker}
 use Rattle.js_steps.specs.Answers.{Reduces}
 use Rattle.js_steps.proofs.SettleLemmas.{resettled-part}
@@ -185,11 +184,6 @@ turn-term ts t old us new task e i u n =
     ∙ ap (λ ws. settled_row ts t (at_part task.mid ws)) (sym u)
     ∙ ap (settled_row ts t) (sym n)
 
-pub turn-row : (old us new : List Wide) (task : Task) (e : Option Extra) → IsInnermost task e old → us ≡ without_values old → new ≡ at_part task.mid us → IsAtRow new
-turn-row old us new task e i u n =
-    let P : List Wide → Type 0 = IsAtRow in
-    subst P (sym (n ∙ ap (at_part task.mid) (u ∙ ap without_values i))) refl
-
 same_scopes : (t : NodeTable) (root : Addr) (w : Wide) (ws : List Wide) (at : ℕ) → InScopes t root (w ∷ ws) → InScopes t root (at_part at (without_values (w ∷ ws)))
 unfolding task_form
 same_scopes t root w ws at s = s
@@ -239,27 +233,6 @@ keeps-told ts t root old new p c stepped r s h e x =
     let u : List (List ℕ) → Term = λ names. settled (ending (Some c)) (later_of names t (innermost old)) end in
     told-by ts t root old new p c takings.Keeps stepped s s h
     (went-follows r stepped ts t root (outer_of old) new p (performed (go (u ts)) s) u s e (gone (u ts) s) x)
-
--- ---- out of all tasks
-
-ends : (c : Completion) (s : State) → EndsSo (travels c s) (finished_by c) s
-ends (throws v place) s = (refl, refl)
-ends (returns v) s = (refl, refl)
-ends breaks s = (refl, refl)
-ends continues s = (refl, refl)
-
-pub over-told : (ts : List (List ℕ)) (t : NodeTable) (root : Addr) (old new : List Wide) (p : Point) (c : Completion) (w : World) (before after : Context) (taken : List (List ℕ)) (stepped : Stepped) → HasPassedTasks t c old before new after → TakesSo t new c None → stepped ≡ steppeds.Over (finished_by c) → TellsWithin ts t root old (travels c (state_of w before taken)) stepped new p (state_of w after taken)
-over-told ts t root old new p c w before after taken stepped h e o =
-    let s : State = state_of w after taken in
-    let P : Move Term → Type 0 = λ m. Tells m stepped (term_at ts t new p) s in
-    let Q : Stepped → Type 0 = λ x. Tells (travels c s) x (term_at ts t new p) s in
-    subst P (sym (h.moves ts root w taken ∙ ap (λ ws. all_risen root (gaps_of ts t ws) (travels c s)) e)) (subst Q (sym o) (ends c s))
-
--- behind what it has passed
-pub passed-told : (ts : List (List ℕ)) (t : NodeTable) (root : Addr) (old mid new : List Wide) (p : Point) (c : Completion) (w : World) (before after : Context) (taken : List (List ℕ)) (stepped : Stepped) (u : State) → HasPassedTasks t c old before mid after → TellsWithin ts t root mid (travels c (state_of w after taken)) stepped new p u → TellsWithin ts t root old (travels c (state_of w before taken)) stepped new p u
-passed-told ts t root old mid new p c w before after taken stepped u h g =
-    let P : Move Term → Type 0 = λ m. Tells m stepped (term_at ts t new p) u in
-    subst P (sym (h.moves ts root w taken)) g
 
 -- ---- a `catch`
 

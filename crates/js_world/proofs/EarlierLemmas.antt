@@ -1,7 +1,6 @@
 -- The cells of earlier evaluations, and cutting back to them.
 use Rattle.std.proofs.Common.{◌≡◌, ℕ, zero, suc, ◌+◌, ◌-◌, ◌^◌, ◌<◌, ◌≤◌, List, [], ◌∷◌, ◌++◌, length, take, refl, sym, ap, subst, arith, length-append, min}
 use Rattle.std.proofs.lemmas.List.{take-append-le, length-take}
-use Rattle.std.proofs.Math.Seq.{take-length}
 use Rattle.std.specs.Prelude.{slice_set}
 use Rattle.js_heap.specs.declared.value.Value.{Value}
 use Rattle.js_heap.specs.declared.value.Addr.TheVariants.{Scratch}
@@ -48,13 +47,6 @@ cells_take ts (suc n) [] = refl
 cells_take ts (suc n) (c ∷ cs) = ap {B = List Cell} (λ ds. cell_of ts c ∷ ds) (cells_take ts n cs)
 
 -- ---- that they stay
-
--- all cells before a new evaluation
-pub all-earlier : (cs : List Stored) (ends at left : ℕ) → Fit cs ends left → at ≡ length cs → Earlier cs at ends
-all-earlier cs ends at left f e =
-    let P : ℕ → Type 0 = λ n. AllWithin ends (take n cs) in
-    let Q : List Stored → Type 0 = λ xs. AllWithin ends xs in
-    record { within = subst P (sym e) (subst Q (sym (take-length cs)) f.within); before = omega (arith, e) }
 
 pub earlier-same : (cs ds : List Stored) (place known : ℕ) → take place ds ≡ take place cs → length ds ≡ length cs → Earlier cs place known → Earlier ds place known
 earlier-same cs ds place known e l h =

@@ -79,14 +79,6 @@ differ_more ts s d h i j t e f = both_ends (last_or ts s t i e) (last_or ts s t 
     both_ends (inr p) (inl k) = absurd (nowhere ts s h j (k ∙ ap (λ u. Some u) (sym p.1)))
     both_ends (inr p) (inr q) = p.0 ∙ sym q.0
 
-place_most_if : (b : Bool) (m n : ℕ) → m ≤ n → (if b then 0 else 1 + m) ≤ suc n
-place_most_if true m n h = omega arith
-place_most_if false m n h = omega arith
-
-place_most : (ts : List (List ℕ)) (s : List ℕ) → text_place ts s ≤ length ts
-place_most [] s = omega arith
-place_most (t ∷ ts) s = place_most_if (same_units t s) (text_place ts s) (length ts) (place_most ts s)
-
 get_last : (ts : List (List ℕ)) (s : List ℕ) → slice_get (ts ++ s ∷ []) (length ts) ≡ Some s
 get_last [] s = refl
 get_last (t ∷ ts) s = get_last ts s

@@ -4,7 +4,6 @@ pub mod GrowLemmas
 pub mod IndexLemmas
 pub mod ScopeLemmas
 pub mod FoundLemmas
-pub mod PlaceStays
 pub mod WithinLemmas
 pub mod WeightLemmas
 pub mod HeapLemmas

@@ -1,5 +1,5 @@
 -- What stands at an offset once one more mark is put there.
-use Rattle.std.proofs.Common.{◌≡◌, ℕ, zero, suc, ◌+◌, ◌<◌, ◌≤◌, Bool, true, false, List, [], ◌∷◌, ◌++◌, length, drop, get_or, Option, Some, None, nat_eq, if◌then◌else◌, refl, sym, ap, subst, ◌∙◌, add-one}
+use Rattle.std.proofs.Common.{◌≡◌, ℕ, ◌+◌, ◌<◌, ◌≤◌, Bool, true, false, List, ◌∷◌, length, drop, get_or, Option, Some, None, nat_eq, if◌then◌else◌, refl, sym, ap, subst, ◌∙◌, add-one}
 use Rattle.std.proofs.Math.ListN.{set}
 use Rattle.std.proofs.lemmas.List.{drop_all, get_or_default, get_or-set_same, get_or-set_other, length-set}
 use Rattle.std.proofs.lemmas.Bool.{eqb-true, eqb-false}
@@ -45,13 +45,6 @@ merged_mark : (before : Option SpotKind) (kind : SpotKind) (after : Option SpotK
 merged_mark None kind after = refl
 merged_mark (Some before) kind None = refl
 merged_mark (Some before) kind (Some after) = ap Some (stronger_stronger before kind after)
-
--- one more offset at which nothing stands
-pub empty_more : (kinds : List (Option SpotKind)) → ((x : ℕ) → kind_of kinds x ≡ None) → (x : ℕ) → kind_of (kinds ++ None ∷ []) x ≡ None
-empty_more [] h zero = refl
-empty_more [] h (suc x) = refl
-empty_more (k ∷ kinds) h zero = h zero
-empty_more (k ∷ kinds) h (suc x) = empty_more kinds (λ y. h (suc y)) x
 
 pub none_yet : (kinds : List (Option SpotKind)) → ((x : ℕ) → kind_of kinds x ≡ None) → (spans : List Span) (ms : Marks) (x : ℕ) → merged (kind_of kinds x) (kind_at spans ms x) ≡ kind_at spans ms x
 none_yet kinds h spans ms x = ap (λ k. merged k (kind_at spans ms x)) (h x)

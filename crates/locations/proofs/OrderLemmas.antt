@@ -1,9 +1,8 @@
 -- The locations of a source stand in order, and depend only on what stands at each offset.
-use Rattle.std.proofs.Common.{◌≡◌, ℕ, zero, suc, ◌+◌, ◌-◌, ◌<◌, ◌≤◌, List, [], ◌∷◌, ◌++◌, length, get_or, Option, Some, None, refl, sym, ap, subst, ◌∙◌, arith, inl, inr, ⊎_elim, append-nil, add-one}
+use Rattle.std.proofs.Common.{◌≡◌, ℕ, zero, suc, ◌+◌, ◌-◌, ◌<◌, ◌≤◌, List, [], ◌∷◌, ◌++◌, length, Option, Some, None, refl, sym, ap, subst, ◌∙◌, arith, inl, inr, ⊎_elim, append-nil, add-one}
 use Rattle.std.specs.Prelude.{All}
 use Rattle.std.proofs.lemmas.List.Elements.{All-append, All-nil}
 use Rattle.std.proofs.lemmas.List.Quantifiers.{all_pairs_push}
-use Rattle.cdp_text.specs.declared.position.Pos.{Pos}
 use Rattle.cdp_text.specs.Position.{position, IsBefore}
 use Rattle.cdp_text.proofs.PositionLemmas.{IsAhead, ahead}
 use Rattle.js_tree.specs.declared.script.Script.{Script}
@@ -58,7 +57,3 @@ located s u ms kinds seen text is same h spots e =
     ∙ below_same s.source (kind_of kinds) (kind_at s.spans ms) (length kinds) h.stand
     ∙ ap (λ (xs : Marks). locations_below s.source (kind_at s.spans xs) (length kinds)) is
     ∙ ap (locations_below s.source (kind_at s.spans (script_marks s))) (h.long ∙ add-one (length s.source))
-
--- one more offset
-pub next_below : (u : List ℕ) (kinds : ℕ → Option SpotKind) (n : ℕ) → locations_below u kinds (n + 1) ≡ locations_below u kinds n ++ here u n (kinds n)
-next_below u kinds n = ap (locations_below u kinds) (add-one n)

@@ -1,5 +1,5 @@
 -- The search among locations in ascending order.
-use Rattle.std.proofs.Common.{◌≡◌, ℕ, zero, suc, ◌+◌, ◌-◌, ◌<◌, ◌≤◌, ◌↔◌, Bool, true, false, not, ◌&&◌, cond, List, [], ◌∷◌, length, get_or, take, drop, Option, Some, None, refl, sym, ap, subst, ◌∙◌, arith, inl, inr, length-drop, get_or-drop, if◌then◌else◌}
+use Rattle.std.proofs.Common.{◌≡◌, ℕ, zero, suc, ◌-◌, ◌↔◌, Bool, true, false, not, ◌&&◌, cond, List, [], ◌∷◌, length, get_or, take, drop, Option, Some, None, refl, sym, ap, subst, ◌∙◌, arith, inl, inr, length-drop, if◌then◌else◌}
 use Rattle.std.specs.Prelude.{All, IsTrue, IsNone, is_some, filter, slice_get}
 use Rattle.std.specs.List.Sorted.{IsPartitionedBy, IsPartitionPoint}
 use Rattle.std.proofs.lemmas.Bool.{cases_lt, false≢true}
@@ -90,12 +90,6 @@ pub none_first : (pos : Pos) (spots : List Spot) (o : Option Spot) → o ≡ fir
 none_first pos spots o e = (λ h. each_before pos spots (ap is_some (sym e) ∙ h), λ h. ap is_some e ∙ before_each pos spots h)
 
 -- ---- those between two positions
-
-pub ascending_drop : (spots : List Spot) (n : ℕ) → IsAscending spots → IsAscending (drop n spots)
-ascending_drop spots n h i j d l m =
-    let long : length (drop n spots) ≡ length spots - n = length-drop n spots in
-    subst (λ (s : Spot). IsBefore s.pos (get_or (drop n spots) j d).pos) (sym (get_or-drop n spots i d))
-    (subst (λ (s : Spot). IsBefore (get_or spots (n + i) d).pos s.pos) (sym (get_or-drop n spots j d)) (h (n + i) (n + j) d (omega arith) (omega arith)))
 
 between_all : (start : Pos) (end : Option Pos) (spots : List Spot) → Splits (λ s. is_before s.pos start) spots 0 → filter (is_between start end) spots ≡ filter (λ s. is_before_end end s.pos) spots
 between_all start end [] h = refl

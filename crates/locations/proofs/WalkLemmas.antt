@@ -1,8 +1,8 @@
 -- One more part of a tree whose marks are added behind those that are there.
-use Rattle.std.proofs.Common.{◌≡◌, ℕ, ◌+◌, ◌<◌, ◌≤◌, List, [], ◌∷◌, ◌++◌, length, drop, get_or, map, Option, Some, None, refl, sym, ap, ◌∙◌, subst, append_assoc, append-nil}
+use Rattle.std.proofs.Common.{◌≡◌, ℕ, ◌+◌, ◌≤◌, List, [], ◌∷◌, ◌++◌, length, drop, map, refl, sym, ap, ◌∙◌, subst, append_assoc, append-nil}
 use Rattle.std.specs.Prelude.{Result, OnOk}
 use Rattle.std.specs.declared.alloc.AllocError.{AllocError}
-use Rattle.std.proofs.lemmas.List.{drop_all, drop_more}
+use Rattle.std.proofs.lemmas.List.{drop_all}
 use Rattle.js_tree.specs.declared.tree.Expr.{Expr}
 use Rattle.js_tree.specs.declared.tree.Declarator.{Declarator}
 use Rattle.std.specs.Option.{option_map}
@@ -30,15 +30,6 @@ pub none : {A : Type 0} (f : A → Marks) (a b : A) → a ≡ b → f b ≡ [] �
 none {A} f a b is empty old = sym (ap (λ ms. old ++ ms) (ap f is ∙ empty) ∙ append-nil old)
 
 -- ---- lists
-
--- the marks of the parts left, behind those of the parts gone over
-pub one_more : {A : Type 0} (f : A → Marks) (items : List A) (i : ℕ) (x : A) → i < length items → x ≡ get_or items i x → (front now : Marks) → now ≡ front ++ f x
-    → now ++ together (map f (drop (i + 1) items)) ≡ front ++ together (map f (drop i items))
-one_more {A} f items i x h is front now e =
-    ap (λ ms. ms ++ together (map f (drop (i + 1) items))) e
-    ∙ append_assoc front (f x) (together (map f (drop (i + 1) items)))
-    ∙ ap (λ (y : A). front ++ together (map f (y ∷ drop (i + 1) items))) is
-    ∙ ap (λ (xs : List A). front ++ together (map f xs)) (sym (drop_more items i x h))
 
 pub all_over : {A : Type 0} (f : A → Marks) (items : List A) (i : ℕ) (front whole : Marks) → length items ≤ i → front ++ together (map f (drop i items)) ≡ whole → front ≡ whole
 all_over {A} f items i front whole h e = sym (append-nil front) ∙ ap (λ (xs : List A). front ++ together (map f xs)) (sym (drop_all i items h)) ∙ e

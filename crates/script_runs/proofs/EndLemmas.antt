@@ -1,19 +1,15 @@
 -- From the start of the scripts to the end of their run.
-use Rattle.std.proofs.Common.{◌≡◌, ℕ, ◌+◌, List, [], ◌++◌, Option, None, Some, refl, sym, ap, subst, ◌∙◌, append-nil, string_bytes}
+use Rattle.std.proofs.Common.{◌≡◌, ℕ, ◌+◌, List, [], ◌++◌, Option, sym, ap, subst, ◌∙◌, append-nil}
 use Rattle.cdp_edge.specs.Outside.{gains, GainsPrefix, GainsLess}
-use Rattle.cdp_edge.proofs.Gains.{GainsPrefix-same}
-use Rattle.cdp_text.specs.Units.{utf8_of}
 use Rattle.js_heap.specs.BuiltIns.{script_scope}
-use Rattle.js_heap.specs.Values.{shown}
 use Rattle.js_heap.specs.World.{World}
-use Rattle.js_semantics.specs.declared.form.Form.TheVariants.{Scripts as scripts}
-use Rattle.js_semantics.specs.Terms.{Terms, end, settled}
+use Rattle.js_semantics.specs.Terms.{Terms}
 use Rattle.js_semantics.specs.Functions.{Program}
 use Rattle.js_semantics.specs.State.{State}
 use Rattle.js_semantics.specs.Run as runs
-use Rattle.js_semantics.specs.Run.{Run, over, printed_of, plain, out, start, steps_in, first_state, placed_scripts}
+use Rattle.js_semantics.specs.Run.{Run, over, printed_of, plain, start, steps_in}
 use Rattle.js_semantics.proofs.FollowLemmas.{steps-more, steps-follows}
-use Rattle.js_world.specs.Heaps.{Heap, heap_world}
+use Rattle.js_world.specs.Heaps.{heap_world}
 use Rattle.js_steps.specs.declared.stepped.Finish.{Finish}
 use Rattle.js_steps.specs.declared.stepped.Finish.TheVariants as finishes
 use Rattle.js_steps.specs.Stepping.{finish_of}
@@ -23,16 +19,11 @@ use Rattle.js_machine.specs.Starts.{IsStarted}
 use Rattle.script_runs.specs.declared.end.RunEnd.{RunEnd}
 use Rattle.script_runs.specs.declared.end.RunEnd.TheVariants as ends
 use Rattle.script_runs.specs.Printing.{printed_lines}
-use Rattle.script_runs.specs.Turns.{run_from, HasTurned, HasCome, IsCutFrom, IsLessFrom, IsOverBy}
-use Rattle.script_runs.specs.Runs.{output_after, HasEnded, HasThrown, IsCut, IsCutShort, ComesTo, IsFirstPart, EndsBy}
+use Rattle.script_runs.specs.Turns.{run_from, HasCome, IsCutFrom, IsLessFrom, IsOverBy}
+use Rattle.script_runs.specs.Runs.{output_after, IsCut, IsCutShort, ComesTo, IsFirstPart, EndsBy}
 use Rattle.script_runs.proofs.PrintingLemmas.{lines-append, less-part, part-longer, whole-part}
-use Rattle.script_runs.proofs.TurnLemmas.{at_printed, start_printed}
 
 -- ---- the start
-
-pub nothing_printed : (ts : Terms) (input : List (List ℕ)) (s : Started) → IsStarted ts input s → s.machine.context.printed ≡ []
-nothing_printed ts input s h =
-    sym (at_printed s.machine (heap_world s.machine.names s.heap) []) ∙ ap printed_of h.run ∙ start_printed (settled scripts (placed_scripts ts) end) (first_state ts input)
 
 from_start : (ts : Terms) (input : List (List ℕ)) (s : Started) (k : ℕ) → IsStarted ts input s → run_from s.machine (heap_world s.machine.names s.heap) [] k ≡ plain k ts input
 from_start ts input s k h =
@@ -94,9 +85,6 @@ comes_short ts input s before now i h = record {
   steps = h.prints.steps;
   less = subst (λ (b : List ℕ). GainsLess before now b) (prints_out ts input s h.prints.steps h.texts i (h.prints.are [])) h.less;
 }
-
-pub never_begun : (ts : Terms) (input : List (List ℕ)) (before now : Option (List ℕ)) → now ≡ before → IsCut ts input before now
-never_begun ts input before now same = record { steps = 0; part = GainsPrefix-same before now (output_after 0 ts input) same }
 
 -- ---- a first part of the output
 

@@ -2,8 +2,6 @@
 use Rattle.std.proofs.Common.{◌≡◌, ℕ, ◌+◌, ◌<◌, List, [], ◌∷◌, ◌++◌, length, take, drop, get_or, Option, refl, ap, sym, ◌∙◌, append_assoc, append-nil}
 use Rattle.std.proofs.lemmas.List.{take_more, drop_more, take-append-drop}
 use Rattle.cdp_edge.specs.Outside.{gains, GainsPrefix, GainsLess}
-use Rattle.cdp_edge.proofs.Gains.{gains-nil}
-use Rattle.cdp_text.specs.Units.{utf8_of}
 use Rattle.script_runs.specs.Printing.{printed_line, printed_lines}
 
 pub lines-append : (xs ys : List (List ℕ)) → printed_lines (xs ++ ys) ≡ printed_lines xs ++ printed_lines ys
@@ -26,14 +24,6 @@ lines-at xs i x within is =
     ∙ ap (λ ys. printed_lines (take i xs) ++ printed_lines ys) (drop_more xs i x within)
     ∙ ap (λ y. printed_lines (take i xs) ++ (printed_line y ++ printed_lines (drop (i + 1) xs))) (sym is)
     ∙ sym (append_assoc (printed_lines (take i xs)) (printed_line x) (printed_lines (drop (i + 1) xs)))
-
--- a line isn't empty, so with nothing of it taken it isn't all taken
-line-some : (text rest : List ℕ) → text ++ 10 ∷ rest ≡ [] → ⊥
-line-some [] rest e = absurd cc
-line-some (u ∷ text) rest e = absurd cc
-
-pub nothing-of-a-line : (content : Option (List ℕ)) (units : List ℕ) → GainsLess content content (printed_line units)
-nothing-of-a-line content units = ([], printed_line units, line-some (utf8_of units) [], refl, sym (gains-nil content))
 
 -- not all of them is some of them
 pub less-part : (old new : Option (List ℕ)) (bytes : List ℕ) → GainsLess old new bytes → GainsPrefix old new bytes

@@ -1,47 +1,22 @@
 -- Turns one after another.
-use Rattle.std.proofs.Common.{◌≡◌, ℕ, ◌+◌, Bool, true, false, List, [], ◌++◌, Option, None, Some, Result, Ok, Err, OnErr, refl, sym, ap, subst, ◌∙◌, append_assoc, append-nil}
-use Rattle.std.specs.Option.{is_some}
-use Rattle.std.specs.Prelude.{IfNone, IsErrOf}
-use Rattle.cdp_edge.specs.Outside.{gains, GainsPrefix, GainsLess}
-use Rattle.cdp_edge.proofs.Gains.{gains-append, gains-nil, GainsPrefix-same, GainsPrefix-behind, GainsLess-behind}
+use Rattle.std.proofs.Common.{◌≡◌, ℕ, ◌+◌, List, [], ◌++◌, Option, Result, Ok, Err, refl, sym, ap, subst, ◌∙◌, append_assoc, append-nil}
+use Rattle.std.specs.Prelude.{IsErrOf}
+use Rattle.cdp_edge.specs.Outside.{gains}
+use Rattle.cdp_edge.proofs.Gains.{gains-append, gains-nil, GainsPrefix-behind, GainsLess-behind}
 use Rattle.js_heap.specs.BuiltIns.{script_scope}
 use Rattle.js_heap.specs.World.{World}
 use Rattle.js_semantics.specs.Functions.{Program}
-use Rattle.js_semantics.specs.State.{State}
-use Rattle.js_semantics.specs.Terms.{Term, done, standing, part}
-use Rattle.js_semantics.specs.Run.{Run, over, run_of, printed_of, steps_in}
+use Rattle.js_semantics.specs.Terms.{part}
+use Rattle.js_semantics.specs.Run.{printed_of, steps_in}
 use Rattle.js_semantics.proofs.FollowLemmas.{steps-more}
 use Rattle.js_world.specs.Heaps.{Heap, heap_world}
 use Rattle.js_steps.specs.declared.run.Why.{Why}
 use Rattle.js_steps.specs.declared.run.Why.TheVariants as whys
-use Rattle.js_steps.specs.declared.stepped.Finish.{Finish}
-use Rattle.js_machine.specs.declared.end.End.{End}
-use Rattle.js_machine.specs.declared.end.End.TheVariants as ends
-use Rattle.js_machine.specs.Machines.{Machine, program_of, term_of, state_of, run_by, run_at, IsKept, end_of_run, HasSameCode}
+use Rattle.js_machine.specs.Machines.{Machine, program_of, term_of, run_by, run_at, IsKept, end_of_run, HasSameCode}
 use Rattle.js_machine.proofs.PlainLemmas.{still-kept, same-code}
 use Rattle.script_runs.specs.Printing.{printed_lines}
 use Rattle.script_runs.specs.Turns.{run_from, HasTurned, HasCome, Prints, IsCutFrom, IsLessFrom}
-use Rattle.script_runs.proofs.PrintingLemmas.{lines-append, less-part, whole-part}
-
--- ---- what a machine has printed
-
-run_printed : (t : Term) (s : State) → printed_of (run_of t s) ≡ s.printed
-run_printed (done v) s = refl
-run_printed (standing v place) s = refl
-run_printed (part f now later) s = refl
-
-by_printed : (e : Option End) (t : Term) (s : State) → printed_of (run_by e t s) ≡ s.printed
-by_printed None t s = run_printed t s
-by_printed (Some (ends.Finished f)) t s = refl
-by_printed (Some ends.Effect) t s = refl
-by_printed (Some (ends.Full what)) t s = refl
-by_printed (Some ends.Lost) t s = run_printed t s
-
-pub at_printed : (m : Machine) (w : World) (taken : List (List ℕ)) → printed_of (run_at m w taken) ≡ taken ++ m.context.printed
-at_printed m w taken = by_printed m.ended (term_of m) (state_of m w taken)
-
-pub start_printed : (t : Term) (s : State) → printed_of (run_of t s) ≡ s.printed
-start_printed t s = run_printed t s
+use Rattle.script_runs.proofs.PrintingLemmas.{lines-append}
 
 -- ---- one turn
 
@@ -65,34 +40,6 @@ pub has_turned : (m n o : Machine) (v : World) (h : Heap) (k : ℕ) (why : Why) 
 has_turned m n o v h k why texts code end kept run e is =
     let P : Machine → Type 0 = λ o. HasTurned m v o (heap_world o.names h) texts in
     subst P (sym is) (turned_there m n v (heap_world n.names h) k texts code (run (still-kept why n.ended end kept)) e)
-
--- what a turn prints
-pub turn_prints : (m n : Machine) (v w : World) (texts : List (List ℕ)) → HasTurned m v n w texts → Prints m v texts
-turn_prints m n v w texts h = record {
-  steps = h.steps;
-  are = λ taken.
-      ap printed_of (sym (h.run taken)) ∙ at_printed n w (taken ++ texts) ∙ ap (λ (ps : List (List ℕ)). (taken ++ texts) ++ ps) h.rest ∙ append-nil (taken ++ texts);
-}
-
--- no step prints nothing
-pub prints_nothing : (m : Machine) (v : World) → m.context.printed ≡ [] → Prints m v []
-prints_nothing m v none = record { steps = 0; are = λ taken. at_printed m v taken ∙ ap (λ (ps : List (List ℕ)). taken ++ ps) none }
-
-pub cut_at_once : (m : Machine) (v : World) (before : Option (List ℕ)) → m.context.printed ≡ [] → IsCutFrom m v before before
-cut_at_once m v before none = record { texts = []; prints = prints_nothing m v none; part = GainsPrefix-same before before [] refl }
-
-pub cut_behind : (m n : Machine) (v w : World) (texts : List (List ℕ)) (before now : Option (List ℕ)) → HasTurned m v n w texts → now ≡ gains before (printed_lines texts) → IsCutFrom m v before now
-cut_behind m n v w texts before now h g = record { texts = texts; prints = turn_prints m n v w texts h; part = whole-part before now (printed_lines texts) g }
-
-pub less_in : (m n : Machine) (v w : World) (texts : List (List ℕ)) (before now : Option (List ℕ)) → HasTurned m v n w texts → GainsLess before now (printed_lines texts) → IsLessFrom m v before now
-less_in m n v w texts before now h g = record { texts = texts; prints = turn_prints m n v w texts h; less = g }
-
-pub less_is_cut : (m : Machine) (v : World) (before now : Option (List ℕ)) → IsLessFrom m v before now → IsCutFrom m v before now
-less_is_cut m v before now h = record { texts = h.texts; prints = h.prints; part = less-part before now (printed_lines h.texts) h.less }
-
-pub none_of : (o : Option End) → is_some o ≡ false → o ≡ None
-none_of None e = refl
-none_of (Some e) f = cc
 
 -- ---- one turn behind another
 

@@ -1,5 +1,5 @@
 -- What many steps of a machine come to, whose texts are taken and written.
-use Rattle.std.specs.Prelude.{◌≡◌, ℕ, List, [], ◌++◌, Option, Some, None}
+use Rattle.std.specs.Prelude.{◌≡◌, ℕ, List, [], ◌++◌, Option}
 use Rattle.cdp_edge.specs.Outside.{gains, GainsPrefix, GainsLess}
 use Rattle.js_heap.specs.BuiltIns.{script_scope}
 use Rattle.js_heap.specs.World.{World}

@@ -1,10 +1,9 @@
-use Rattle.std.proofs.Common.{◌≡◌, ℕ, List, ◌++◌, Option, map, refl, sym, ap, ◌∙◌}
+use Rattle.std.proofs.Common.{◌++◌, Option, map, refl, sym, ap, ◌∙◌}
 use Rattle.std.specs.Option.{option_map}
 use Rattle.std.specs.Global.{Box}
 use Rattle.js_tree.specs.declared.tree.Expr.{Expr}
 use Rattle.js_tree.specs.declared.tree.Stmt.{Stmt}
-use Rattle.js_tree.specs.declared.tree.PropertyDefinition.{PropertyDefinition}
-use Rattle.js_tree.specs.declared.tree.Declarator.{Declarator, out-Declarator}
+use Rattle.js_tree.specs.declared.tree.Declarator.{Declarator}
 use Rattle.js_tree.specs.declared.tree.Declarators.{out-Declarators}
 use Rattle.js_tree.specs.declared.tree.Catch.{Catch}
 use Rattle.js_semantics.specs.Makers.{place_or}
