@@ -32,7 +32,8 @@ use Rattle.js_code.specs.declared.table.NodeTable.{NodeTable}
 use Rattle.js_code.specs.Ops.{is_literal, is_task_only, is_loop}
 use Rattle.js_code.specs.Forms.{script_form, for_form, for_of_form, block_form, function_form, method_form, object_form, call_form, name_call_form, member_call_form, index_call_form, form_of}
 use Rattle.js_compile.specs.Grown.{Known, IsBinding, AreBindings, AreMembers, IsFunction, IsEntryAt, IsPlacedAt, HasForm, Enters}
-use Rattle.js_compile.specs.Operations.{is_bare, bare_form, is_placed, placed_form, is_named, named_form, loop_entry, alone_entry, needs_names}
+use Rattle.js_compile.specs.Operations.{is_bare, bare_form, is_placed, placed_form, is_named, named_form, loop_entry, alone_entry}
+use Rattle.js_compile.proofs.NeedsNames.{needs_names}
 use Rattle.js_compile.proofs.GrownLemmas.{begins_at}
 
 -- ---- without an entry

@@ -1,3 +1,4 @@
+pub mod NeedsNames
 pub mod NameLemmas
 pub mod GrownLemmas
 pub mod EntryLemmas

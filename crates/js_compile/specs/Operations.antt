@@ -3,7 +3,7 @@ use Rattle.std.specs.Prelude.{ℕ, Bool, true, false, List, Option, None, Some}
 use Rattle.js_heap.specs.declared.value.Addr.{Addr}
 use Rattle.js_semantics.specs.declared.form.Stage.{Stage}
 use Rattle.js_semantics.specs.declared.form.Form.{Form}
-use Rattle.js_semantics.specs.declared.form.Form.TheVariants.{Script as script, EnterFor as enter_for, EnterForOf as enter_for_of, Block as block, Function as function, Method as method, Object as object, Call as call, CallOf as call_of, Scripts as scripts, Sequence as sequence, Enter as enter, EnterDebugger as enter_debugger, Initialize as initialize, Choose as choose, Both as both, Either as either, Loop as loop, Break as break_, Continue as continue_, Return as return_, Throw as throw_, Catching as catching, Finishing as finishing, This as this, Read as read, TypeofName as typeof_name, Unary as unary, Binary as binary, Comma as comma, Array as array, Assign as assign, Compound as compound, Update as update, Delete as delete}
+use Rattle.js_semantics.specs.declared.form.Form.TheVariants.{Scripts as scripts, Sequence as sequence, Enter as enter, EnterDebugger as enter_debugger, Initialize as initialize, Choose as choose, Both as both, Either as either, Loop as loop, Break as break_, Continue as continue_, Return as return_, Throw as throw_, Catching as catching, Finishing as finishing, This as this, Read as read, TypeofName as typeof_name, Unary as unary, Binary as binary, Comma as comma, Array as array, Assign as assign, Compound as compound, Update as update, Delete as delete}
 use Rattle.js_semantics.specs.declared.form.Reference.TheVariants.{Name as to_name, Member as to_member, Index as to_index}
 use Rattle.js_semantics.specs.declared.form.Stage.TheVariants.{First as first, Doing as doing, Testing as testing, Body as body, Updating as updating}
 use Rattle.js_code.specs.declared.op.Op.{Op}
@@ -160,24 +160,3 @@ alone_entry (enter_debugger node) = placed_entry ops.EnterDebugger node
 alone_entry (throw_ node) = placed_entry ops.Throw node
 alone_entry (loop stage scope) = loop_entry stage scope
 alone_entry f = None
-
--- forms with names or an entry
-abbrev pub needs_names : Form → Bool
-needs_names (script number names) = true
-needs_names (enter_for node constant names) = true
-needs_names (enter_for_of node b) = true
-needs_names (block names) = true
-needs_names (initialize name) = true
-needs_names (catching name) = true
-needs_names (read r) = true
-needs_names (typeof_name name) = true
-needs_names (function f) = true
-needs_names (method f) = true
-needs_names (object ms) = true
-needs_names (assign r) = true
-needs_names (compound o r) = true
-needs_names (update o prefix r) = true
-needs_names (delete r) = true
-needs_names (call place statement) = true
-needs_names (call_of r place statement) = true
-needs_names f = false

@@ -17,7 +17,8 @@ use Rattle.js_steps.specs.Tasks.{Wide, gaps_of, task_form, redex_of}
 use Rattle.js_steps.specs.Points.{term_at, IsAt, IsLeaf, IsLeafAt}
 use Rattle.js_steps.proofs.FinishLemmas.{node-form}
 use Rattle.js_steps.proofs.TreeLemmas.{kids-end}
-use Rattle.js_frames.specs.Kinds.{plain, kind_of, active_kind, op_kind, is_debugging, enters_debugger}
+use Rattle.js_frames.specs.Kinds.{plain, kind_of, active_kind, op_kind, enters_debugger}
+use Rattle.js_frames.proofs.Kinds.{is_debugging}
 use Rattle.js_frames.proofs.KindLaws.{form-kind, task-kind, debugger-kind, debugging-op}
 
 -- ---- within gaps

@@ -1,3 +1,4 @@
+pub mod Kinds
 pub mod KindLaws
 pub mod ActiveLaws
 pub mod CatchLaws

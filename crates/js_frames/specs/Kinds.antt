@@ -93,25 +93,10 @@ arrival_by spans (leaving node) = Some (before_end node 1)
 arrival_by spans (calling place node) = call_arrival spans place node
 arrival_by spans k = None
 
--- the kind is that of an untouched `debugger` statement
-abbrev pub is_debugging : Kind → Bool
-is_debugging (debugging node) = true
-is_debugging k = false
-
 -- what a node does that is about to enter a `debugger` statement
 abbrev pub enters_debugger : Op → Bool
 enters_debugger ops.EnterDebugger = true
 enters_debugger op = false
-
--- the kind is that of the body of a call
-abbrev pub is_leaving : Kind → Bool
-is_leaving (leaving node) = true
-is_leaving k = false
-
--- the kind is that of a `try` with a `catch`
-abbrev pub is_guarding : Kind → Bool
-is_guarding guarding = true
-is_guarding k = false
 
 -- the number of the script
 abbrev pub opened_by : Kind → Option ℕ

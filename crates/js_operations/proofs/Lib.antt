@@ -1,3 +1,4 @@
+pub mod Joining
 pub mod FlowLemmas
 pub mod ContextLemmas
 pub mod PropertyLemmas

@@ -9,7 +9,8 @@ use Rattle.js_heap.specs.World.{World}
 use Rattle.js_semantics.specs.BuiltIns.{argument, last_of, joined_part, joined_parts, with_part, begins_with, first_occurrence, indices_from, enumerable_keys}
 use Rattle.std.specs.Prelude.{negsuc, decimal, slice_get, if◌then◌else◌}
 use Rattle.js_heap.specs.declared.cell.Property.{Property}
-use Rattle.js_operations.specs.Texts.{with_parts, key_if}
+use Rattle.js_operations.specs.Texts.{key_if}
+use Rattle.js_operations.proofs.Joining.{with_parts}
 
 -- ---- arguments
 

@@ -2,7 +2,7 @@
 use Rattle.std.proofs.Common.{◌≡◌, ℕ, List, [], ◌∷◌, ◌++◌, sym, ap, ◌∙◌, append_assoc, ◌<◌, length, drop, get_or, arith}
 use Rattle.std.proofs.lemmas.List.{append-nil}
 use Rattle.js_heap.specs.Values.{between}
-use Rattle.js_operations.specs.Texts.{behind_each}
+use Rattle.js_operations.proofs.Joining.{behind_each}
 
 regroup : (t s u r : List ℕ) → t ++ s ++ (u ++ r) ≡ t ++ (s ++ u ++ r)
 regroup t s u r = simp append_assoc

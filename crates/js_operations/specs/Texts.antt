@@ -1,22 +1,11 @@
 -- Texts and lists as code makes them.
-use Rattle.std.specs.Prelude.{ℕ, List, [], ◌∷◌, ◌++◌, Option, Some, None, ℤ, pos, negsuc, slice_get, if◌then◌else◌}
+use Rattle.std.specs.Prelude.{ℕ, List, [], ◌∷◌, Option, Some, None, ℤ, pos, negsuc, slice_get, if◌then◌else◌}
 use Rattle.js_heap.specs.declared.value.Addr.{Addr}
 use Rattle.js_heap.specs.declared.value.Value.{Value}
 use Rattle.js_heap.specs.declared.cell.Property.{Property}
 use Rattle.js_heap.specs.declared.cell.Cell.{Cell}
 use Rattle.js_heap.specs.declared.cell.Cell.TheVariants as cells
 use Rattle.js_heap.specs.World.{World, read_cell}
-use Rattle.js_semantics.specs.BuiltIns.{with_part}
-
--- texts, each behind another text
-abbrev pub behind_each : List ℕ → List (List ℕ) → List ℕ
-behind_each separator [] = []
-behind_each separator (t ∷ ts) = separator ++ t ++ behind_each separator ts
-
--- parts of a join before others
-abbrev pub with_parts : List (List ℕ) → Option (List (List ℕ)) → Option (List (List ℕ))
-with_parts [] rest = rest
-with_parts (t ∷ ts) rest = with_part (Some t) (with_parts ts rest)
 
 -- ---- arrays and texts at an address
 

@@ -33,9 +33,8 @@ use Rattle.js_heap.specs.declared.value.Value.TheVariants as values
 use Rattle.js_heap.specs.declared.cell.Binding.{Binding}
 use Rattle.js_heap.specs.Cells.{declared}
 use Rattle.js_semantics.specs.Terms as semantics
-use Rattle.js_semantics.specs.Clean.{parameter_names}
 use Rattle.js_semantics.specs.Makers as makers
-use Rattle.js_semantics.specs.Makers.{Context, Made, Item, Items, PropertyKey, PropertyMade, DeclaratorMade, CatchMade}
+use Rattle.js_semantics.specs.Makers.{parameter_names, Context, Made, Item, Items, PropertyKey, PropertyMade, DeclaratorMade, CatchMade}
 use Rattle.js_semantics.specs.Sources.{expression_source, statements_source, expression_layer, property_layer, key_layer, statement_layer, block_layer, catch_layer, declarator_layer, declarators_layer, expressions_layer, properties_layer, statements_layer, property_source, key_source, statement_source, block_source, catch_source, declarator_source, declarators_source, expressions_source, properties_source}
 use Rattle.js_programs.specs.Sources.{own_form, declarator_term, initialized}
 use Rattle.js_semantics.specs.declared.form.Form.TheVariants as forms

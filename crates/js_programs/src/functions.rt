@@ -2,7 +2,7 @@
 
 ghost use Rattle.std.specs.Prelude.{◌≡◌, true, false, None, IfOk};
 ghost use Rattle.js_tree.specs.Views.{parameters_view};
-ghost use Rattle.js_semantics.specs.Clean.{parameter_names};
+ghost use Rattle.js_semantics.specs.Makers.{parameter_names};
 ghost use Rattle.js_semantics.specs.Terms as semantics;
 ghost use Rattle.js_semantics.specs.Makers as makers;
 ghost use Rattle.js_semantics.specs.Sources.{statements_source};

@@ -2,7 +2,7 @@
 
 ghost use Rattle.std.specs.Prelude.{◌≡◌, ◌++◌, IfOk, OnOk, map};
 ghost use Rattle.js_tree.specs.Views.{parameters_view};
-ghost use Rattle.js_semantics.specs.Clean.{parameter_names};
+ghost use Rattle.js_semantics.specs.Makers.{parameter_names};
 ghost use Rattle.js_semantics.specs.Makers as makers;
 ghost use Rattle.js_semantics.specs.Sources.{expression_source, statements_source, statement_source, declarator_source, declarators_source};
 ghost use Rattle.js_heap.specs.Cells as cells;

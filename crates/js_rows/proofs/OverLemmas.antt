@@ -17,9 +17,14 @@ use Rattle.js_steps.specs.declared.reduced.Reduced.TheVariants as reduced
 use Rattle.js_steps.specs.Tasks.{Wide}
 use Rattle.js_steps.specs.Answers.{Reduces, reduced_move, reduced_term, in_scope}
 use Rattle.js_rows.specs.Does.{Does, DoesIn, DoesWith}
-use Rattle.js_rows.specs.Over.{answered_by, uncovered, gone_to, choice}
+use Rattle.js_rows.specs.Over.{answered_by, uncovered, gone_to}
 use Rattle.js_rows.proofs.AnswerLemmas.{stops-does}
 use Rattle.js_rows.proofs.PartLemmas.{first-tree}
+
+-- the index of the part that a test chooses
+abbrev pub choice : Bool → ℕ
+choice true = 0
+choice false = 1
 
 -- ---- what is done first
 

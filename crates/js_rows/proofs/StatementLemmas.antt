@@ -26,10 +26,10 @@ use Rattle.js_steps.specs.declared.reduced.Reduced.{Reduced}
 use Rattle.js_steps.specs.declared.reduced.Reduced.TheVariants as reduced
 use Rattle.js_steps.specs.Answers.{in_scope}
 use Rattle.js_rows.specs.Does.{Does, Replies, replied_with}
-use Rattle.js_rows.specs.Over.{RepliesOver, RepliesOverWith, RepliesInside, RepliesAnywhere, answered_by, entered_script, script_declared, scope_declared, uncovered, gone_to, choice}
+use Rattle.js_rows.specs.Over.{RepliesOver, RepliesOverWith, RepliesInside, RepliesAnywhere, answered_by, entered_script, script_declared, scope_declared, uncovered, gone_to}
 use Rattle.js_rows.proofs.AnswerLemmas.{passes-reply, in-context}
 use Rattle.js_rows.proofs.PartLemmas.{first-tree, no-trees}
-use Rattle.js_rows.proofs.OverLemmas.{first-kept, same-action, same-answer, same-row, turns-does, yields-does, passes-does, scopes-does, give-does, uncovers-does, chosen-does, kept-does, kept-else, otherwise-does, otherwise-else}
+use Rattle.js_rows.proofs.OverLemmas.{choice, first-kept, same-action, same-answer, same-row, turns-does, yields-does, passes-does, scopes-does, give-does, uncovers-does, chosen-does, kept-does, kept-else, otherwise-does, otherwise-else}
 
 -- ---- statements
 

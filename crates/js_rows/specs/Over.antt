@@ -92,11 +92,6 @@ abbrev pub tested : Bool → Reduced
 tested true = reduced.Turns
 tested false = reduced.Gives values.Undefined
 
--- the index of the part that a test chooses
-abbrev pub choice : Bool → ℕ
-choice true = 0
-choice false = 1
-
 -- ---- what is done before a row's answer
 
 -- the bottom frame is that of a script

@@ -18,7 +18,7 @@ use Rattle.js_semantics.specs.Terms.{Terms, one}
 use Rattle.js_heap.specs.Values.{shown}
 use Rattle.js_semantics.specs.State.{Frame, State}
 use Rattle.js_semantics.specs.Functions.{Program}
-use Rattle.js_semantics.specs.Clean.{expression_made, clean_script}
+use Rattle.js_semantics.proofs.Clean.{expression_made, clean_script}
 use Rattle.js_semantics.specs.Literals.{expression_literals}
 use Rattle.js_semantics.specs.Run.{Run, running, over, plain, program_of, state_of}
 use Rattle.js_semantics.specs.Frames.{frames}

@@ -1,5 +1,6 @@
 pub mod TreeFolds
 pub mod SourceFolds
+pub mod Clean
 pub mod Reports
 pub mod Steps
 pub mod Cases
@@ -25,6 +26,7 @@ pub mod ShapeStart
 pub mod DepthLemmas
 pub mod DepthLaws
 pub mod EvaluationSound
+pub mod Ready
 pub mod WaitLemmas
 pub mod WaitMakers
 pub mod LiteralMakers

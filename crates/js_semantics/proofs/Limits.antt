@@ -6,7 +6,7 @@ use Rattle.js_tree.specs.Trees as t
 use Rattle.js_heap.specs.World.{World, Room}
 use Rattle.js_semantics.specs.Terms.{scripts, Terms, end, one, settled}
 use Rattle.js_semantics.specs.State.{State}
-use Rattle.js_semantics.specs.Clean.{clean_script}
+use Rattle.js_semantics.proofs.Clean.{clean_script}
 use Rattle.js_semantics.specs.Run.{bottom_frame, first_state, placed_scripts, program_of, run_of, steps}
 use Rattle.js_semantics.proofs.Reports.{ended_normally, threw_text, Outcome, outcome, outcome_of}
 

@@ -8,7 +8,7 @@ use Rattle.js_heap.specs.BuiltIns.{script_scope}
 use Rattle.js_semantics.specs.Terms.{Terms, one, Source, script_source}
 use Rattle.js_semantics.specs.State.{Frame, State}
 use Rattle.js_semantics.specs.Makers.{Items, number_made, name_made, member_made, call_made, items_of, no_items, expression_item, return_item, function_item, script_term}
-use Rattle.js_semantics.specs.Clean.{clean_script, clean_scripts}
+use Rattle.js_semantics.proofs.Clean.{clean_script, clean_scripts}
 use Rattle.js_semantics.specs.Run.{Run, running, over, plain, threw}
 use Rattle.js_semantics.specs.Frames.{offset_of, at, StandingThrow, thrown, frames, Listed, as_block, as_catch, as_local, as_closure, as_script, as_global, scope_chain}
 

@@ -4,7 +4,7 @@ use Rattle.js_tree.specs.Trees.{Statements}
 use Rattle.js_semantics.specs.Terms.{Terms}
 use Rattle.js_heap.specs.Values.{shown}
 use Rattle.js_semantics.specs.Run.{ended, threw, Run, running, over, program_of, start, steps, steps_taken, printed_of}
-use Rattle.js_semantics.specs.Clean.{clean_scripts}
+use Rattle.js_semantics.proofs.Clean.{clean_scripts}
 
 pub data Ending : Type 0 where
   still_running : Ending

@@ -9,7 +9,8 @@ use Rattle.js_semantics.specs.Run.{program_of, plain as plain_run}
 use Rattle.js_semantics.specs.Sound.{SoundRun}
 use Rattle.js_semantics.specs.Untouched.{IsUntouched, AreUntouched}
 use Rattle.js_semantics.specs.Shapes.{AreShaped, ShapedRun}
-use Rattle.js_semantics.specs.Waiting.{all_ready, AllWait, RunWaits}
+use Rattle.js_semantics.proofs.Ready.{all_ready}
+use Rattle.js_semantics.specs.Waiting.{AllWait, RunWaits}
 use Rattle.js_semantics.specs.Depths.{RunListsFrames}
 use Rattle.js_semantics.proofs.SourceFolds.{expression-related, statements-related}
 use Rattle.js_semantics.proofs.UnstartedMakers.{AreUnstarted, term-untouched, terms-untouched, unstarted, keeps-fresh, script-fresh}

@@ -9,8 +9,7 @@ use Rattle.js_heap.specs.declared.value.Value.TheVariants as values
 use Rattle.js_heap.specs.declared.cell.Binding.{Binding}
 use Rattle.js_semantics.specs.Terms.{Mark, to_name, first, doing, read, function, choose, loop, Term, done, standing, part, Terms, end, more, one, joined, Form, enter_debugger, break_, continue_, throw_, ending}
 use Rattle.js_semantics.specs.Untouched.{HasNoAddress, AreDeclared, UntouchedForm, IsUntouched, AreUntouched}
-use Rattle.js_semantics.specs.Makers.{Context, Made, Item, Items, untouched, lexical_item, if_item, while_item, do_while_item, for_item, for_lexical_item, for_of_item, return_item, try_item, function_item, unnamed, naming, within, plain, plains, assigned_to, compounded, updated, deleted, type_of, assignment, unary_term, binary_term, comma_term, call_term, form_of, body_terms, function_term, returned_body, PropertyKey, fixed_key, computed_key, PropertyMade, value_property, method_property, Parts, property_parts, properties_parts, object_term, and_items, block_term, DeclaratorMade, initializer_terms, declarators_terms, declarators_names, optional_term, optional_terms, for_parts, CatchMade, caught, finally_term, script_term, leaf, nothing, item}
-use Rattle.js_semantics.specs.Clean.{parameter_names}
+use Rattle.js_semantics.specs.Makers.{parameter_names, Context, Made, Item, Items, untouched, lexical_item, if_item, while_item, do_while_item, for_item, for_lexical_item, for_of_item, return_item, try_item, function_item, unnamed, naming, within, plain, plains, assigned_to, compounded, updated, deleted, type_of, assignment, unary_term, binary_term, comma_term, call_term, form_of, body_terms, function_term, returned_body, PropertyKey, fixed_key, computed_key, PropertyMade, value_property, method_property, Parts, property_parts, properties_parts, object_term, and_items, block_term, DeclaratorMade, initializer_terms, declarators_terms, declarators_names, optional_term, optional_terms, for_parts, CatchMade, caught, finally_term, script_term, leaf, nothing, item}
 use Rattle.js_semantics.proofs.SourceFolds.{Relations, Keeps}
 
 -- ---- unstarted terms

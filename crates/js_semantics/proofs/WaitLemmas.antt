@@ -27,7 +27,8 @@ use Rattle.js_semantics.specs.Functions.{code_here, Program, FunctionCode, first
 use Rattle.js_semantics.specs.Rows.{ending_row, only, script_row, enter_row, block_row, chosen, kept_or, otherwise, turn_or_end, loop_row, for_in, enter_for_of_row, list_row, elements_of, body_part, turn_row, type_of_found, comma_row, compound_row, update_row, assign_row, callee_this, callee_row, properties_from, object_or_fail, object_row, row, catch_row, taken}
 use Rattle.js_semantics.specs.Next.{Walked, all_values, moved, with_value, scope_in, around, next, walk}
 use Rattle.js_semantics.specs.Run.{literals, literals_of, with_literals, all_with_literals, placed_scripts, program_from, program_of, first_state, start as start_of, plain, Run, running, over, run_of, run_after, step_in, steps_in}
-use Rattle.js_semantics.specs.Waiting.{all_ready, uncovers, ByCase, Waits, AllWait, PartsWait, RestWaits, ProgramWaits, ActionWaits, MoveWaits, RunWaits}
+use Rattle.js_semantics.proofs.Ready.{all_ready}
+use Rattle.js_semantics.specs.Waiting.{uncovers, ByCase, Waits, AllWait, PartsWait, RestWaits, ProgramWaits, ActionWaits, MoveWaits, RunWaits}
 use Rattle.js_semantics.proofs.GiveLemmas.{GivesValues, put-gives, remove-gives, built_in-gives, type_of-gives, update_row-gives, made-gives, function_row-gives}
 
 -- ---- what takes no step

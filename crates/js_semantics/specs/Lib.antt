@@ -7,7 +7,6 @@ pub mod Rows
 pub mod Next
 pub mod Run
 pub mod Makers
-pub mod Clean
 pub mod Literals
 pub mod Frames
 pub mod Laws

@@ -1,6 +1,8 @@
 -- The terms of trees: what each form of the grammar is before its first step. Parentheses, empty statements and
 -- function declarations are dropped, and number, string and boolean literals and `null` are values.
 use Rattle.std.specs.Prelude.{ℕ, Bool, true, false, List, [], ◌∷◌, ◌++◌, map, length, Option, Some, None, pos}
+use Rattle.js_tree.specs.Trees as trees
+use Rattle.js_tree.specs.Trees.{Parameters}
 use Rattle.js_operators.specs.declared.operator.UnaryOperator.{UnaryOperator}
 use Rattle.js_operators.specs.declared.operator.UnaryOperator.TheVariants as unaries
 use Rattle.js_operators.specs.declared.operator.UpdateOperator.{UpdateOperator}
@@ -39,6 +41,11 @@ pub record Items : Type 0 where
   pub names : List Binding
   pub functions : Context → Terms
   pub terms : Context → Terms
+
+-- the names of a list of parameters, or the one name of an arrow without parentheses
+abbrev pub parameter_names : Parameters → List (List ℕ)
+parameter_names (trees.one_name n) = n ∷ []
+parameter_names (trees.name_list ns) = ns
 
 -- a place that gives no name
 abbrev pub unnamed : Context → Context

@@ -1,7 +1,7 @@
 -- What takes no step is done at once: where all parts of a form about to be reduced have their values, the form waits for
 -- its step, and isn't one that is finished without one.
-use Rattle.std.specs.Prelude.{◌≡◌, Bool, true, false, ◌&&◌, [], ◌∷◌, None}
-use Rattle.js_semantics.specs.Terms.{first, doing, body, updating, Form, scripts, script, sequence, enter, enter_debugger, enter_for, block, scoped, loop, body_of, catching, finishing, literal, function, method, Term, done, standing, part, Terms, end, more, all_done}
+use Rattle.std.specs.Prelude.{◌≡◌, Bool, true, false, [], ◌∷◌, None}
+use Rattle.js_semantics.specs.Terms.{first, doing, body, updating, Form, scripts, script, sequence, enter, enter_debugger, enter_for, block, scoped, loop, body_of, catching, finishing, function, method, Term, done, standing, part, Terms, end, more, all_done}
 use Rattle.js_semantics.specs.State.{Action, go, make, write, take_line, set_here, push_frame, pop_frame, Move, goes}
 use Rattle.js_semantics.specs.Functions.{Program}
 use Rattle.js_semantics.specs.Run.{Run, running, over}
@@ -31,17 +31,6 @@ uncovers (block names) = true
 uncovers (function f) = true
 uncovers (method f) = true
 uncovers f = false
-
--- before the first step a string literal counts as a value
-abbrev pub is_ready : Term → Bool
-is_ready (done v) = true
-is_ready (part (literal us) now later) = true
-is_ready t = false
-
--- all parts count as values before the first step
-abbrev pub all_ready : Terms → Bool
-all_ready end = true
-all_ready (more t ts) = is_ready t && all_ready ts
 
 -- the first of two statements where something is so, else the second
 abbrev pub ByCase : Bool → Type 0 → Type 0 → Type 0

@@ -4,7 +4,7 @@ ghost use Rattle.std.specs.Prelude.{◌≡◌, true, false, IfOk};
 ghost use Rattle.js_tree.specs.Views.{parameters_view};
 ghost use Rattle.js_semantics.specs.Terms as semantics;
 ghost use Rattle.js_semantics.specs.Makers as makers;
-ghost use Rattle.js_semantics.specs.Clean.{parameter_names};
+ghost use Rattle.js_semantics.specs.Makers.{parameter_names};
 ghost use Rattle.js_semantics.specs.Sources.{expression_source, statements_source};
 ghost use Rattle.js_semantics.specs.declared.form.Form.TheVariants as forms;
 ghost use Rattle.js_terms.specs.Views.{term_view, terms_view};

@@ -5,11 +5,13 @@ pub mod FollowLemmas
 pub mod StackLemmas
 pub mod TaskLemmas
 pub mod PartLemmas
+pub mod SettledParts
 pub mod SettleLemmas
 pub mod FinishLemmas
 pub mod StageLemmas
 pub mod ClosingLemmas
 pub mod DescentLemmas
+pub mod Taking
 pub mod PassLemmas
 pub mod ConcludeLemmas
 pub mod TravelLemmas

@@ -28,7 +28,8 @@ use Rattle.js_steps.specs.declared.task.Task.{Task}
 use Rattle.js_steps.specs.Gaps.{scope_at, all_risen}
 use Rattle.js_steps.specs.Tasks.{Wide, form_in, task_form, later_of, index_of, turn_scope, gaps_of}
 use Rattle.js_steps.specs.Stacks.{wide, outer_of, values_of, extra_of}
-use Rattle.js_steps.specs.Passing.{passing_try, passing_call, passing_turn, passing_entry, passing_of, took, HasPassedTasks}
+use Rattle.js_steps.specs.Passing.{passing_try, passing_call, passing_turn, passing_entry, passing_of, HasPassedTasks}
+use Rattle.js_steps.proofs.Taking.{took}
 
 -- ---- forms that take a completion
 

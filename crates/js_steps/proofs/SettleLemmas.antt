@@ -12,7 +12,8 @@ use Rattle.js_steps.specs.Tasks.{Wide, task_form, later_of, gap_of, gaps_of, sco
 use Rattle.js_steps.specs.Points.{row_term, IsAtRow}
 use Rattle.js_steps.specs.Stacks.{values_of, with_value, outer_of}
 use Rattle.js_steps.specs.Parts.{IsOpen, at_of, parts_of, parts_with, moved, IsNextPart}
-use Rattle.js_steps.specs.Settling.{settled_row, settled_parts}
+use Rattle.js_steps.specs.Settling.{settled_row}
+use Rattle.js_steps.proofs.SettledParts.{settled_parts}
 use Rattle.js_steps.proofs.TreeLemmas.{open-tree}
 use Rattle.js_steps.proofs.PartLemmas.{joined-value}
 

@@ -38,7 +38,8 @@ use Rattle.js_steps.specs.Rows.{IsCatching, CatchOf, redex}
 use Rattle.js_steps.specs.Stacks.{has_extra, wide, begun, outer_of, values_of, extra_of, without_values, at_part, OwnsOnly}
 use Rattle.js_steps.specs.Settling.{proceeding, settled_row, IsInnermost}
 use Rattle.js_steps.specs.Following.{innermost}
-use Rattle.js_steps.specs.Passing.{passing_try, passing_call, passing_turn, passing_entry, passing_of, took, TakesSo}
+use Rattle.js_steps.specs.Passing.{passing_try, passing_call, passing_turn, passing_entry, passing_of, TakesSo}
+use Rattle.js_steps.proofs.Taking.{took}
 use Rattle.js_steps.specs.Stepping.{Tells, TellsWithin, IfGoesOn, StandsIn, answer_of, Says, went_of}
 use Rattle.std.proofs.lemmas.Result.{on_ok_weaker}
 use Rattle.js_steps.specs.Answers.{Reduces}

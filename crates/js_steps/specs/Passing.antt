@@ -1,15 +1,10 @@
 -- What the forms around make of a completion that travels outward.
 use Rattle.std.specs.Prelude.{◌≡◌, ℕ, List, [], ◌∷◌, Option, Some, None, slice_get}
 use Rattle.js_heap.specs.declared.value.Addr.{Addr}
-use Rattle.js_heap.specs.declared.value.Value.TheVariants as values
 use Rattle.js_heap.specs.World.{World}
 use Rattle.js_semantics.specs.declared.form.Completion.{Completion}
 use Rattle.js_semantics.specs.declared.form.Completion.TheVariants.{Throws as throws, Returns as returns, Breaks as breaks, Continues as continues}
-use Rattle.js_semantics.specs.declared.form.Form.{Form}
-use Rattle.js_semantics.specs.declared.form.Form.TheVariants.{Ending as ending}
-use Rattle.js_semantics.specs.Terms.{Terms, end, settled}
-use Rattle.js_semantics.specs.State.{Action, go, leave, pop_frame, give, travels}
-use Rattle.js_semantics.specs.Rows.{taken}
+use Rattle.js_semantics.specs.State.{travels}
 use Rattle.js_operations.specs.Contexts.{Context, state_of}
 use Rattle.js_code.specs.declared.op.Op.{Op}
 use Rattle.js_code.specs.declared.op.Op.TheVariants as ops
@@ -54,18 +49,6 @@ passing_of t ops.Frame info c = passing_call c
 passing_of t ops.LoopBody info c = passing_turn c
 passing_of t ops.BodyOf info c = passing_entry (slice_get t.for_ofs.items info) c
 passing_of t op info c = passings.Lets
-
--- ---- what it makes of it
-
--- what a form does with a completion that it takes so, or lets pass
-abbrev pub took : Addr → Form → Completion → Terms → Passing → Action
-took scope f c later passings.Lets = leave c
-took scope f c later passings.Unframes = pop_frame (leave c)
-took scope f c later (passings.Takes (takings.Catches v)) = taken scope f c later
-took scope f c later (passings.Takes takings.Keeps) = go (settled (ending (Some c)) later end)
-took scope f c later (passings.Takes (takings.Returns v)) = pop_frame (give v)
-took scope f c later (passings.Takes takings.Breaks) = give values.Undefined
-took scope f c later (passings.Takes takings.Turns) = go (settled f end later)
 
 -- ---- outward
 

@@ -5,7 +5,7 @@ use Rattle.js_heap.specs.declared.value.Value.{Value}
 use Rattle.js_heap.specs.declared.value.Value.TheVariants as values
 use Rattle.js_semantics.specs.declared.form.Completion.{Completion}
 use Rattle.js_semantics.specs.declared.form.Form.TheVariants.{This as this, Ending as ending, TurnOf as turn_of}
-use Rattle.js_semantics.specs.Terms.{Term, done, part, Terms, end, one, dones, last_value, test_of, behind_first, behind_body, at_body, at_test, finished, settled}
+use Rattle.js_semantics.specs.Terms.{Term, done, part, Terms, end, one, dones, last_value, test_of, behind_first, behind_body, at_body, at_test, finished}
 use Rattle.js_world.specs.Cells.{binding_at}
 use Rattle.js_code.specs.declared.op.Op.{Op}
 use Rattle.js_code.specs.declared.op.Op.TheVariants as ops
@@ -80,11 +80,6 @@ closed ts t op info inner e now later closings.Ending = ended_term (kept_of e) n
 abbrev pub settled_row : List (List ℕ) → NodeTable → List Wide → Term
 settled_row ts t [] = done values.Undefined
 settled_row ts t (w ∷ ws) = resettled (gaps_of ts t ws) (finished (task_form ts t w) (dones w.values) (later_of ts t w))
-
--- the parts of the innermost task have made a step
-abbrev pub settled_parts : List (List ℕ) → NodeTable → List Wide → Term
-settled_parts ts t [] = done values.Undefined
-settled_parts ts t (w ∷ ws) = resettled (gaps_of ts t ws) (settled (task_form ts t w) (parts_of ts t (w ∷ ws)) (later_of ts t w))
 
 -- the innermost task before its next part, with none in its gap
 abbrev pub proceeding : List (List ℕ) → NodeTable → List Wide → Term

@@ -6,10 +6,9 @@ use Rattle.js_tree.specs.declared.tree.Expr.{Expr}
 use Rattle.js_tree.specs.Views.{parameters_view}
 use Rattle.js_heap.specs.Cells.{declared}
 use Rattle.js_heap.specs.declared.value.Value.TheVariants as values
-use Rattle.js_semantics.specs.Clean.{parameter_names}
 use Rattle.js_semantics.specs.Terms as semantics
 use Rattle.js_semantics.specs.Makers as makers
-use Rattle.js_semantics.specs.Makers.{Context}
+use Rattle.js_semantics.specs.Makers.{parameter_names, Context}
 use Rattle.js_semantics.specs.Sources.{expression_source, statements_source, statement_source, block_source, catch_source, declarators_source}
 use Rattle.js_semantics.specs.declared.form.Form.TheVariants as forms
 use Rattle.js_semantics.specs.declared.form.Mark.{Mark}

@@ -1,7 +1,7 @@
 use Rattle.std.proofs.Common.{◌≡◌, ◌∙◌, ap, sym, false}
 use Rattle.js_semantics.specs.declared.form.Form.TheVariants as forms
 use Rattle.js_code.specs.Ops.{operator_of}
-use Rattle.js_compile.specs.Operations.{needs_names}
+use Rattle.js_compile.proofs.NeedsNames.{needs_names}
 use Rattle.js_compile.proofs.GrownLemmas.{grows_same}
 use Rattle.js_compile.proofs.EntryLemmas.{same_entry, answer_enters, needs_nothing}
 use Rattle.js_compile.proofs.forms.form_entry.Goals as goal

@@ -1,6 +1,6 @@
 use Rattle.std.proofs.Common.{◌≡◌, drop}
 use Rattle.js_semantics.specs.BuiltIns.{joined_parts}
-use Rattle.js_operations.specs.Texts.{with_parts}
+use Rattle.js_operations.proofs.Joining.{with_parts}
 use Rattle.js_operations.proofs.lists.joined_parts.Given as goal
 
 abbrev pub invariant-loop-element : goal.invariant-loop-element

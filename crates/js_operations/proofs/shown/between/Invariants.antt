@@ -1,6 +1,6 @@
 use Rattle.std.proofs.Common.{◌≡◌, ◌++◌, drop}
 use Rattle.js_heap.specs.Values.{between}
-use Rattle.js_operations.specs.Texts.{behind_each}
+use Rattle.js_operations.proofs.Joining.{behind_each}
 use Rattle.js_operations.proofs.shown.between.Given as goal
 
 abbrev pub invariant-loop-i : goal.invariant-loop-i
