@@ -4,7 +4,7 @@ use Rattle.std.specs.Prelude.{Ok, Err, option_to_list, slice_set}
 use Rattle.js_heap.specs.World.{World, is_evaluation}
 use Rattle.js_semantics.specs.declared.form.Mark.{Mark}
 use Rattle.js_semantics.specs.State.{Frame, set_here, push_frame, pop_frame, moved_frames, rest_of, first_line, other_lines}
-use Rattle.js_operations.specs.declared.stop.Stop.TheVariants.{Effect}
+use Rattle.js_operations.specs.declared.action_end.ActionEnd.TheVariants.{Effect}
 use Rattle.js_operations.specs.Flow.{performed}
 use Rattle.js_operations.specs.Contexts.{Context, Turns, Prints, Takes}
 

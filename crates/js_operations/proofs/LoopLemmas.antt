@@ -12,7 +12,7 @@ use Rattle.js_semantics.specs.Functions.{with_names}
 use Rattle.js_world.specs.declared.stored.Slot.{Slot}
 use Rattle.js_world.specs.Cells.{bindings}
 use Rattle.js_world.specs.Names.{name_of}
-use Rattle.js_operations.specs.declared.stop.Stop.{Stop}
+use Rattle.js_operations.specs.declared.action_end.ActionEnd.{ActionEnd}
 use Rattle.js_operations.specs.Flow.{performed, Stops, Yields, Passes, Gives}
 use Rattle.js_operations.proofs.FlowLemmas.{yields-err, gives-err, passes-err}
 use Rattle.js_operations.proofs.ListLemmas.{cons_at}
@@ -31,7 +31,7 @@ pub names-step : (a : Addr) (ts : List (List ℕ)) (ss : List Slot) (i : ℕ) (d
     ((s : State) (k : Action) → performed (write a (changes.Declare (name_of ts (get_or ss i d).name.number) (get_or ss i d).constant) k) (with_world s w) ≡ performed k (with_world s u)) → NamesLeft a ts ss v (i + 1) u
 names-step a ts ss i d v w u l h g = λ s k. names_at a ts ss i d v w s k l h ∙ g s (with_names a (bindings ts (drop (i + 1) ss)) k)
 
-pub names-stop : (a : Addr) (ts : List (List ℕ)) (ss : List Slot) (i : ℕ) (d : Slot) (v w u : World) (r : Result (Unit {0}) Stop) (e : Stop) → i < length ss → NamesLeft a ts ss v i w →
+pub names-stop : (a : Addr) (ts : List (List ℕ)) (ss : List Slot) (i : ℕ) (d : Slot) (v w u : World) (r : Result (Unit {0}) ActionEnd) (e : ActionEnd) → i < length ss → NamesLeft a ts ss v i w →
     ((s : State) (k : Action) → Stops (write a (changes.Declare (name_of ts (get_or ss i d).name.number) (get_or ss i d).constant) k) (with_world s w) e (with_world s u)) → IsErrAnd r (λ e'. e' ≡ e) → Passes (with_names a (bindings ts ss)) v r u
 names-stop a ts ss i d v w u r e l h g q =
     passes-err (with_names a (bindings ts ss)) v u r e q (λ s k said. names_at a ts ss i d v w s k l h ∙ g s (with_names a (bindings ts (drop (i + 1) ss)) k) said)
@@ -57,7 +57,7 @@ texts-step ts i t made more x v w u l e h f g =
     let P : List Value → Type 0 = λ xs. TextsLeft ts v (i + 1) xs u in
     subst P (sym f) (λ s k. texts_at ts i t made v w s k l e h ∙ g s (λ y. make_texts (drop (i + 1) ts) (λ vs. k (made ++ y ∷ vs))) ∙ simp append_assoc)
 
-pub texts-stop : (ts : List (List ℕ)) (i : ℕ) (t : List ℕ) (made : List Value) (v w u : World) (r : Result (List Value) Stop) (e : Stop) → i < length ts → t ≡ get_or ts i t → TextsLeft ts v i made w →
+pub texts-stop : (ts : List (List ℕ)) (i : ℕ) (t : List ℕ) (made : List Value) (v w u : World) (r : Result (List Value) ActionEnd) (e : ActionEnd) → i < length ts → t ≡ get_or ts i t → TextsLeft ts v i made w →
     ((s : State) (h : Value → Action) → Stops (make_text t h) (with_world s w) e (with_world s u)) → IsErrAnd r (λ d. d ≡ e) → Yields (make_texts ts) v r u
 texts-stop ts i t made v w u r e l f h g q =
     yields-err (make_texts ts) v u r e q (λ s k said. texts_at ts i t made v w s k l f h ∙ g s (λ y. make_texts (drop (i + 1) ts) (λ vs. k (made ++ y ∷ vs))) said)
@@ -71,7 +71,7 @@ ElementsLeft a first vs v i l w = (s : State) → performed (push_all a first vs
 push_at : (a : Addr) (l : ℕ) (vs : List Value) (i : ℕ) → i < length vs → push_all a l (drop i vs) ≡ write a (changes.Element l (get_or vs i values.Undefined)) (push_all a (l + 1) (drop (i + 1) vs))
 push_at a l vs i h = ap (λ xs. push_all a l xs) (cons_at vs i values.Undefined h)
 
-pub push-stop : (a : Addr) (first l : ℕ) (vs : List Value) (i : ℕ) (v w u : World) (r : Result Value Stop) (e : Stop) → i < length vs → ElementsLeft a first vs v i l w →
+pub push-stop : (a : Addr) (first l : ℕ) (vs : List Value) (i : ℕ) (v w u : World) (r : Result Value ActionEnd) (e : ActionEnd) → i < length vs → ElementsLeft a first vs v i l w →
     ((s : State) (k : Action) → Stops (write a (changes.Element l (get_or vs i values.Undefined)) k) (with_world s w) e (with_world s u)) → IsErrAnd r (λ d. d ≡ e) → Gives (push_all a first vs) v r u
 push-stop a first l vs i v w u r e h inv g q =
     gives-err (push_all a first vs) v u r e q (λ s said. inv s ∙ ap (λ x. performed x (with_world s w)) (push_at a l vs i h) ∙ g s (push_all a (l + 1) (drop (i + 1) vs)) said)

@@ -13,7 +13,7 @@ use Rattle.js_semantics.specs.References.{Found, value_of_found, name_written, n
 use Rattle.js_semantics.specs.Rows.{type_of_found}
 use Rattle.js_world.specs.declared.stored.FoundSlot.{FoundSlot}
 use Rattle.js_world.specs.Calls.{Kept, kept_slot, kept_found}
-use Rattle.js_operations.specs.declared.stop.Stop.{Stop}
+use Rattle.js_operations.specs.declared.action_end.ActionEnd.{ActionEnd}
 use Rattle.js_operations.specs.Flow.{Stops, Ends}
 use Rattle.js_operations.specs.Names.{value_of_slot, slot_written, type_of_bound, type_of_slot}
 
@@ -79,7 +79,7 @@ bound_constant name true (Some u) a v p q = refl
 bound_constant name false (Some u) a v p q = cc
 bound_constant name b None a v p q = cc
 
-pub constant-fails : (name : List ℕ) (o : Option FoundSlot) (f : FoundSlot) (v : Value) (x w : World) (e : Stop) → o ≡ Some f → is_some f.value ≡ true → f.constant ≡ true → Ends (fail classes.TypeError (codes "Assignment to constant variable.")) x e w →
+pub constant-fails : (name : List ℕ) (o : Option FoundSlot) (f : FoundSlot) (v : Value) (x w : World) (e : ActionEnd) → o ≡ Some f → is_some f.value ≡ true → f.constant ≡ true → Ends (fail classes.TypeError (codes "Assignment to constant variable.")) x e w →
     (s : State) (k : Action) → Stops (with_written (slot_written name o v) k) (with_world s x) e (with_world s w)
 constant-fails name o f v x w e i p q h = λ s k.
     let r : slot_written name o v ≡ refused classes.TypeError (codes "Assignment to constant variable.") = ap (λ y. slot_written name y v) i ∙ bound_constant name f.constant f.value f.scope v p q in

@@ -7,7 +7,7 @@ use Rattle.js_heap.specs.World.{World}
 use Rattle.js_semantics.specs.Terms.{done}
 use Rattle.js_semantics.specs.Run.{bottom_frame}
 use Rattle.js_semantics.specs.State.{Frame, State, goes, printed_values, Action, print, take_line}
-use Rattle.js_operations.specs.declared.stop.Stop.{Stop}
+use Rattle.js_operations.specs.declared.action_end.ActionEnd.{ActionEnd}
 use Rattle.js_operations.specs.Flow.{performed, Stops}
 
 -- a state apart from its world, whose printed texts are those since some were last taken
@@ -34,11 +34,11 @@ abbrev pub Turns : (Action → Action) → Context → Context → Type 0
 Turns f c d = (w : World) (taken : List (List ℕ)) (k : Action) → performed (f k) (state_of w c taken) ≡ performed k (state_of w d taken)
 
 -- performing the action is printing: it gives undefined, and tells the values; or it ends
-abbrev pub Prints : List ℕ → World → Context → Result (Unit {0}) Stop → Context → Type 0
+abbrev pub Prints : List ℕ → World → Context → Result (Unit {0}) ActionEnd → Context → Type 0
 Prints text w c (Ok u) d = (taken : List (List ℕ)) (vs : List Value) → performed (print vs text) (state_of w c taken) ≡ goes (done values.Undefined) (state_of w d taken) (printed_values vs)
 Prints text w c (Err e) d = (taken : List (List ℕ)) (vs : List Value) → Stops (print vs text) (state_of w c taken) e (state_of w d taken)
 
 -- the next line of the input, or the action ends
-abbrev pub Takes : World → Context → Result (Option (List ℕ)) Stop → Context → Type 0
+abbrev pub Takes : World → Context → Result (Option (List ℕ)) ActionEnd → Context → Type 0
 Takes w c (Ok line) d = (taken : List (List ℕ)) (k : Option (List ℕ) → Action) → performed (take_line k) (state_of w c taken) ≡ performed (k line) (state_of w d taken)
 Takes w c (Err e) d = (taken : List (List ℕ)) (k : Option (List ℕ) → Action) → Stops (take_line k) (state_of w c taken) e (state_of w d taken)

@@ -11,8 +11,8 @@ use Rattle.js_semantics.specs.Terms.{Term}
 use Rattle.js_semantics.specs.State.{State, with_world, Move, has_effect, is_full, Action, raise, make, give, make_text, perform}
 use Rattle.js_world.specs.declared.world.Refused.{Refused}
 use Rattle.js_world.specs.declared.world.Refused.TheVariants as refusals
-use Rattle.js_operations.specs.declared.stop.Stop.{Stop}
-use Rattle.js_operations.specs.declared.stop.Stop.TheVariants.{Raised, Given, Effect, Full, Memory}
+use Rattle.js_operations.specs.declared.action_end.ActionEnd.{ActionEnd}
+use Rattle.js_operations.specs.declared.action_end.ActionEnd.TheVariants.{Raised, Given, Effect, Full, Memory}
 
 -- as `perform`; proofs see its cases only where they ask for them
 unfoldable pub performed : Action → State → Move Term
@@ -21,7 +21,7 @@ performed a s = perform a s
 -- ---- ends
 
 -- what an end says of its action: nothing where memory is wanting
-abbrev pub IsSaid : Stop → Type 0
+abbrev pub IsSaid : ActionEnd → Type 0
 IsSaid (Raised v) = Unit {0}
 IsSaid (Given v) = Unit {0}
 IsSaid Effect = Unit {0}
@@ -29,7 +29,7 @@ IsSaid (Full what) = Unit {0}
 IsSaid Memory = ⊥
 
 -- the move of an action that ends so in this state
-abbrev pub ended : Stop → State → Move Term
+abbrev pub ended : ActionEnd → State → Move Term
 ended (Raised v) t = performed (raise v) t
 ended (Given v) t = performed (give v) t
 ended Effect t = has_effect t
@@ -37,41 +37,41 @@ ended (Full what) t = is_full what t
 ended Memory t = has_effect t
 
 -- performing the action is ending so in that state
-abbrev pub Stops : Action → State → Stop → State → Type 0
+abbrev pub Stops : Action → State → ActionEnd → State → Type 0
 Stops a s e t = IsSaid e → performed a s ≡ ended e t
 
 -- ---- worlds
 
 -- the action ends so, with that world
-abbrev pub Ends : Action → World → Stop → World → Type 0
+abbrev pub Ends : Action → World → ActionEnd → World → Type 0
 Ends a v e w = (s : State) → Stops a (with_world s v) e (with_world s w)
 
 -- the action goes on with this value in that world, or it ends
-abbrev pub Yields : {A : Type 0} → ((A → Action) → Action) → World → Result A Stop → World → Type 0
+abbrev pub Yields : {A : Type 0} → ((A → Action) → Action) → World → Result A ActionEnd → World → Type 0
 Yields {A} f v (Ok a) w = (s : State) (k : A → Action) → performed (f k) (with_world s v) ≡ performed (k a) (with_world s w)
 Yields {A} f v (Err e) w = (s : State) (k : A → Action) → Stops (f k) (with_world s v) e (with_world s w)
 
 -- the same where the continuation takes no value
-abbrev pub Passes : {A : Type 0} → (Action → Action) → World → Result A Stop → World → Type 0
+abbrev pub Passes : {A : Type 0} → (Action → Action) → World → Result A ActionEnd → World → Type 0
 Passes f v (Ok a) w = (s : State) (k : Action) → performed (f k) (with_world s v) ≡ performed k (with_world s w)
 Passes f v (Err e) w = (s : State) (k : Action) → Stops (f k) (with_world s v) e (with_world s w)
 
 -- the action gives this value in that world, or it ends
-abbrev pub Gives : Action → World → Result Value Stop → World → Type 0
+abbrev pub Gives : Action → World → Result Value ActionEnd → World → Type 0
 Gives a v (Ok u) w = (s : State) → performed a (with_world s v) ≡ performed (give u) (with_world s w)
 Gives a v (Err e) w = (s : State) → Stops a (with_world s v) e (with_world s w)
 
 -- ---- refusals
 
 -- a full world ends an evaluation; in a run it raises the error made before the first step
-abbrev pub stop_of : Bool → Refused → Stop
+abbrev pub stop_of : Bool → Refused → ActionEnd
 stop_of evaluation refusals.Effect = Effect
 stop_of true (refusals.Full what) = Full what
 stop_of false (refusals.Full what) = Raised (values.Object heap_full_error)
 stop_of evaluation refusals.Memory = Memory
 
 -- what was tried, where a refusal is the end that the action comes to
-abbrev pub answered : {A : Type 0} → Bool → Result A Refused → Result A Stop
+abbrev pub answered : {A : Type 0} → Bool → Result A Refused → Result A ActionEnd
 answered evaluation (Ok a) = Ok a
 answered evaluation (Err r) = Err (stop_of evaluation r)
 
@@ -82,6 +82,6 @@ abbrev pub with_error : ErrorClass → List ℕ → (Value → Action) → Actio
 with_error class message k = make_text message (λ m. make (cells.Error class (message_property m ∷ [])) (λ e. k (values.Object e)))
 
 -- a value that is raised, if it was made
-abbrev pub raised_or : Result Value Stop → Stop
+abbrev pub raised_or : Result Value ActionEnd → ActionEnd
 raised_or (Ok v) = Raised v
 raised_or (Err e) = e

@@ -5,6 +5,7 @@ ghost use Rattle.js_semantics.specs.BuiltIns.{push_all, pop_last, joined_or_fail
 ghost use Rattle.js_operations.specs.Texts.{elements_at};
 ghost use Rattle.js_operations.specs.Flow.{Gives};
 
+use crate::action_end::ActionEnd;
 use crate::built_ins::{new_array, wrong_type};
 use crate::cells::{cut, make_text, put_element};
 use crate::errors::with_result;
@@ -14,7 +15,6 @@ use crate::lists::{
 };
 use crate::seen::{Seen, units_at};
 use crate::shown::between;
-use crate::stop::Stop;
 use cdp_text::units::{Units, ascii};
 use js_heap::built_in::BuiltIn;
 use js_heap::cell::Values;
@@ -51,7 +51,7 @@ fn push_all<W: World>(
     a: Addr,
     len: u32,
     values: &[Value],
-) -> Result<Value, Stop>
+) -> Result<Value, ActionEnd>
     ensures { Gives (push_all a len values.now) (W.world names.now world.old) result (W.world names.now world.new) }
 {
     let mut index = len;
@@ -63,7 +63,12 @@ fn push_all<W: World>(
 }
 
 /// `push` (23.1.3.23)
-fn push<W: World>(world: &mut W, names: &Names, a: Addr, values: &[Value]) -> Result<Value, Stop>
+fn push<W: World>(
+    world: &mut W,
+    names: &Names,
+    a: Addr,
+    values: &[Value],
+) -> Result<Value, ActionEnd>
     ensures { Gives (push_all a (length (elements_at (W.world names.now world.old) a)) values.now) (W.world names.now world.old) result (W.world names.now world.new) }
 {
     let len = array_len(world, names, a)?;
@@ -72,7 +77,7 @@ fn push<W: World>(world: &mut W, names: &Names, a: Addr, values: &[Value]) -> Re
 
 /// `pop` (23.1.3.22)
 #[tactic(auto, using(crate::proofs::CallLemmas::pop_rules))]
-fn pop<W: World>(world: &mut W, names: &Names, a: Addr) -> Result<Value, Stop>
+fn pop<W: World>(world: &mut W, names: &Names, a: Addr) -> Result<Value, ActionEnd>
     ensures { Gives (pop_last a (elements_at (W.world names.now world.old) a)) (W.world names.now world.old) result (W.world names.now world.new) }
 {
     let len = array_len(world, names, a)?;
@@ -90,7 +95,7 @@ fn joined_or_fail<W: World>(
     names: &Names,
     separator: &[u16],
     parts: Option<Texts>,
-) -> Result<Value, Stop>
+) -> Result<Value, ActionEnd>
     ensures { Gives (joined_or_fail separator.now parts) (W.world names.now world.old) result (W.world names.now world.new) }
 {
     match parts {
@@ -112,7 +117,7 @@ fn join<W: World>(
     names: &Names,
     a: Addr,
     separator: Value,
-) -> Result<Value, Stop>
+) -> Result<Value, ActionEnd>
     ensures { Gives (join (W.world names.now world.old) (elements_at (W.world names.now world.old) a) separator) (W.world names.now world.old) result (W.world names.now world.new) }
 {
     let separator = match separator {
@@ -136,7 +141,7 @@ fn array_slice<W: World>(
     names: &Names,
     a: Addr,
     arguments: &[Value],
-) -> Result<Value, Stop>
+) -> Result<Value, ActionEnd>
     ensures { Gives (array_or_wrong (slice_places (elements_at (W.world names.now world.old) a) arguments.now)) (W.world names.now world.old) result (W.world names.now world.new) }
 {
     let elements = elements_at(world, names, a);
@@ -156,7 +161,7 @@ pub fn on_array<W: World>(
     f: BuiltIn,
     receiver: Value,
     arguments: &[Value],
-) -> Result<Value, Stop>
+) -> Result<Value, ActionEnd>
     ensures { Gives (on_array (W.world names.now world.old) f receiver arguments.now) (W.world names.now world.old) result (W.world names.now world.new) }
 {
     let Value::Object(a) = receiver else {
@@ -175,7 +180,7 @@ fn array_call<W: World>(
     f: BuiltIn,
     a: Addr,
     arguments: &[Value],
-) -> Result<Value, Stop>
+) -> Result<Value, ActionEnd>
     ensures { Gives (array_call (W.world names.now world.old) f a (elements_at (W.world names.now world.old) a) arguments.now) (W.world names.now world.old) result (W.world names.now world.new) }
 {
     match f {

@@ -5,12 +5,12 @@ ghost use Rattle.js_semantics.specs.BuiltIns.{wrong_type, line_value, new_error,
 ghost use Rattle.js_operations.specs.BuiltIns.{StaysInside};
 ghost use Rattle.js_operations.specs.Flow.{Ends, Yields, Gives};
 
+use crate::action_end::ActionEnd;
 use crate::arrays::on_array;
 use crate::cells::{make, make_text};
 use crate::errors::{fail_with, with_message, with_result};
 use crate::lists::{argument, is_array, keys_at};
 use crate::seen::Seen;
-use crate::stop::Stop;
 use crate::strings::on_string;
 use cdp_text::units::Units;
 use js_heap::built_in::{BuiltIn, ErrorClass};
@@ -25,7 +25,7 @@ use js_world::world::World;
 use std::alloc::Global;
 
 /// The TypeError of an argument of a wrong type.
-pub fn wrong_type<W: World>(alloc: Global, world: &mut W, names: &Names) -> Stop
+pub fn wrong_type<W: World>(alloc: Global, world: &mut W, names: &Names) -> ActionEnd
     ensures { Ends wrong_type (W.world names.now world.old) result (W.world names.now world.new) }
 {
     fail_with(
@@ -42,7 +42,7 @@ pub fn line_value<W: World>(
     world: &mut W,
     names: &Names,
     line: Option<Units>,
-) -> Result<Value, Stop>
+) -> Result<Value, ActionEnd>
     ensures { Gives (line_value line) (W.world names.now world.old) result (W.world names.now world.new) }
 {
     match line {
@@ -58,7 +58,7 @@ fn new_error<W: World>(
     names: &Names,
     class: ErrorClass,
     properties: PropertyMap,
-) -> Result<Value, Stop>
+) -> Result<Value, ActionEnd>
     ensures { Gives (new_error class properties) (W.world names.now world.old) result (W.world names.now world.new) }
 {
     let a = make(world, names, Stored::Error { class, properties })?;
@@ -72,7 +72,7 @@ fn error_of<W: World>(
     names: &Names,
     class: ErrorClass,
     message: Value,
-) -> Result<Value, Stop>
+) -> Result<Value, ActionEnd>
     ensures { Gives (error_of class message) (W.world names.now world.old) result (W.world names.now world.new) }
 {
     match message {
@@ -90,7 +90,7 @@ fn text_or_fail<W: World>(
     world: &mut W,
     names: &Names,
     text: Option<Units>,
-) -> Result<Value, Stop>
+) -> Result<Value, ActionEnd>
     ensures { Gives (text_or_fail text) (W.world names.now world.old) result (W.world names.now world.new) }
 {
     match text {
@@ -108,7 +108,7 @@ fn string_of<W: World>(
     world: &mut W,
     names: &Names,
     value: Value,
-) -> Result<Value, Stop>
+) -> Result<Value, ActionEnd>
     ensures { Gives (string_of (W.world names.now world.old) value) (W.world names.now world.old) result (W.world names.now world.new) }
 {
     match value {
@@ -132,7 +132,7 @@ fn make_texts<W: World>(
     world: &mut W,
     names: &Names,
     texts: &[Units],
-) -> Result<Values, Stop>
+) -> Result<Values, ActionEnd>
     ensures { Yields (make_texts texts.now) (W.world names.now world.old) result (W.world names.now world.new) }
 {
     let mut values = Vec::new(alloc);
@@ -145,7 +145,11 @@ fn make_texts<W: World>(
 }
 
 /// Makes an array of values.
-pub fn new_array<W: World>(world: &mut W, names: &Names, elements: Values) -> Result<Value, Stop>
+pub fn new_array<W: World>(
+    world: &mut W,
+    names: &Names,
+    elements: Values,
+) -> Result<Value, ActionEnd>
     ensures { Gives (new_array elements) (W.world names.now world.old) result (W.world names.now world.new) }
 {
     let a = make(world, names, Stored::Array { elements })?;
@@ -158,7 +162,7 @@ fn keys_of<W: World>(
     world: &mut W,
     names: &Names,
     value: Value,
-) -> Result<Value, Stop>
+) -> Result<Value, ActionEnd>
     ensures { Gives (keys_of (W.world names.now world.old) value) (W.world names.now world.old) result (W.world names.now world.new) }
 {
     match value {
@@ -181,7 +185,7 @@ pub fn built_in_call<W: World>(
     f: BuiltIn,
     receiver: Value,
     arguments: &[Value],
-) -> Result<Value, Stop>
+) -> Result<Value, ActionEnd>
     requires { StaysInside f }
     ensures { Gives (built_in_call (W.world names.now world.old) f receiver arguments.now) (W.world names.now world.old) result (W.world names.now world.new) }
 {

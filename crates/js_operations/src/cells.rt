@@ -9,7 +9,7 @@ ghost use Rattle.js_world.specs.Cells.{cell_of};
 ghost use Rattle.js_world.specs.Names.{name_of};
 ghost use Rattle.js_operations.specs.Flow.{Yields, Passes, answered};
 
-use crate::stop::Stop;
+use crate::action_end::ActionEnd;
 use cdp_text::units::Units;
 use js_heap::value::{Addr, Value};
 use js_world::names::{NameId, Names};
@@ -17,25 +17,25 @@ use js_world::stored::Stored;
 use js_world::world::{Refused, World};
 
 /// What a refusal comes to: a full world ends an evaluation, and in a run raises the error made before the first step.
-fn answered<W: World, A>(world: &W, answer: Result<A, Refused>) -> Result<A, Stop>
+fn answered<W: World, A>(world: &W, answer: Result<A, Refused>) -> Result<A, ActionEnd>
     ensures { (names : List (List ℕ)) → result ≡ answered (is_evaluation (W.world names world.now)) answer }
 {
     match answer {
         Ok(a) => Ok(a),
-        Err(Refused::Effect) => Err(Stop::Effect),
+        Err(Refused::Effect) => Err(ActionEnd::Effect),
         Err(Refused::Full(what)) => {
             if world.is_evaluation() {
-                Err(Stop::Full(what))
+                Err(ActionEnd::Full(what))
             } else {
-                Err(Stop::Raised(Value::Object(Addr::Base(3))))
+                Err(ActionEnd::Raised(Value::Object(Addr::Base(3))))
             }
         }
-        Err(Refused::Memory) => Err(Stop::Memory),
+        Err(Refused::Memory) => Err(ActionEnd::Memory),
     }
 }
 
 /// Makes a cell.
-pub fn make<W: World>(world: &mut W, names: &Names, cell: Stored) -> Result<Addr, Stop>
+pub fn make<W: World>(world: &mut W, names: &Names, cell: Stored) -> Result<Addr, ActionEnd>
     ensures { Yields (make (cell_of names.now cell)) (W.world names.now world.old) result (W.world names.now world.new) }
 {
     let made = world.make(cell);
@@ -43,7 +43,7 @@ pub fn make<W: World>(world: &mut W, names: &Names, cell: Stored) -> Result<Addr
 }
 
 /// Makes the cell of a text.
-pub fn make_text<W: World>(world: &mut W, names: &Names, units: Units) -> Result<Value, Stop>
+pub fn make_text<W: World>(world: &mut W, names: &Names, units: Units) -> Result<Value, ActionEnd>
     ensures { Yields (make_text units) (W.world names.now world.old) result (W.world names.now world.new) }
 {
     let a = make(world, names, Stored::Text { units })?;
@@ -57,7 +57,7 @@ pub fn put<W: World>(
     a: Addr,
     key: &[u16],
     value: Value,
-) -> Result<(), Stop>
+) -> Result<(), ActionEnd>
     ensures { Passes (write a (changes.Put key.now value)) (W.world names.now world.old) result (W.world names.now world.new) }
 {
     let written = world.put(a, key, value);
@@ -65,7 +65,7 @@ pub fn put<W: World>(
 }
 
 /// Removes the property of a key of an object.
-pub fn remove<W: World>(world: &mut W, names: &Names, a: Addr, key: &[u16]) -> Result<(), Stop>
+pub fn remove<W: World>(world: &mut W, names: &Names, a: Addr, key: &[u16]) -> Result<(), ActionEnd>
     ensures { Passes (write a (changes.Remove key.now)) (W.world names.now world.old) result (W.world names.now world.new) }
 {
     let written = world.remove(a, key);
@@ -79,7 +79,7 @@ pub fn put_element<W: World>(
     a: Addr,
     index: u32,
     value: Value,
-) -> Result<(), Stop>
+) -> Result<(), ActionEnd>
     ensures { Passes (write a (changes.Element index value)) (W.world names.now world.old) result (W.world names.now world.new) }
 {
     let written = world.put_element(a, index, value);
@@ -87,7 +87,7 @@ pub fn put_element<W: World>(
 }
 
 /// Gives an array a length up to the present one.
-pub fn cut<W: World>(world: &mut W, names: &Names, a: Addr, length: u32) -> Result<(), Stop>
+pub fn cut<W: World>(world: &mut W, names: &Names, a: Addr, length: u32) -> Result<(), ActionEnd>
     ensures { Passes (write a (changes.Length length)) (W.world names.now world.old) result (W.world names.now world.new) }
 {
     let written = world.cut(a, length);
@@ -101,7 +101,7 @@ pub fn declare<W: World>(
     scope: Addr,
     name: NameId,
     constant: bool,
-) -> Result<(), Stop>
+) -> Result<(), ActionEnd>
     ensures { Passes (write scope (changes.Declare (name_of names.now name.number) constant)) (W.world names.now world.old) result (W.world names.now world.new) }
 {
     let written = world.declare(scope, name, constant);
@@ -115,7 +115,7 @@ pub fn bind<W: World>(
     scope: Addr,
     name: NameId,
     value: Value,
-) -> Result<(), Stop>
+) -> Result<(), ActionEnd>
     ensures { Passes (write scope (changes.Bind (name_of names.now name.number) value)) (W.world names.now world.old) result (W.world names.now world.new) }
 {
     let written = world.bind(names, scope, name, value);
@@ -130,7 +130,7 @@ pub fn bind_at<W: World>(
     place: usize,
     name: NameId,
     value: Value,
-) -> Result<(), Stop>
+) -> Result<(), ActionEnd>
     requires { HasPlace (read_cell (W.world names.now world.old) scope) place (name_of names.now name.number) }
     ensures { Passes (write scope (changes.Bind (name_of names.now name.number) value)) (W.world names.now world.old) result (W.world names.now world.new) }
 {

@@ -4,8 +4,8 @@ ghost use Rattle.std.specs.Prelude.{◌≡◌, length, slice_get, Some, None, If
 ghost use Rattle.js_semantics.specs.State.{set_here as here_set, push_frame as frame_pushed, pop_frame as frame_popped, moved_frames, top_this, top_spot};
 ghost use Rattle.js_operations.specs.Contexts.{start_context, bare_context, Turns, Prints, Takes};
 
+use crate::action_end::ActionEnd;
 use crate::frame::Frame;
-use crate::stop::Stop;
 use cdp_text::units::Units;
 use js_heap::value::{Addr, Value};
 use js_semantics::form::{Mark, Source, Spot};
@@ -151,22 +151,31 @@ impl Context {
     // ---- outside
 
     /// Prints a text, which ends an evaluation.
-    pub fn print<W: World>(&mut self, world: &W, names: &Names, text: Units) -> Result<(), Stop>
+    pub fn print<W: World>(
+        &mut self,
+        world: &W,
+        names: &Names,
+        text: Units,
+    ) -> Result<(), ActionEnd>
         ensures { Prints text (W.world names.now world.now) self.old result self.new }
     {
         if world.is_evaluation() {
-            return Err(Stop::Effect);
+            return Err(ActionEnd::Effect);
         }
         self.printed.push(text)?;
         Ok(())
     }
 
     /// Takes the next line of the input, which ends an evaluation.
-    pub fn take_line<W: World>(&mut self, world: &W, names: &Names) -> Result<Option<Units>, Stop>
+    pub fn take_line<W: World>(
+        &mut self,
+        world: &W,
+        names: &Names,
+    ) -> Result<Option<Units>, ActionEnd>
         ensures { Takes (W.world names.now world.now) self.old result self.new }
     {
         if world.is_evaluation() {
-            return Err(Stop::Effect);
+            return Err(ActionEnd::Effect);
         }
         Ok(self.input.pop_front())
     }

@@ -8,8 +8,8 @@ ghost use Rattle.js_semantics.specs.References.{with_result, with_written};
 ghost use Rattle.js_operations.specs.Flow.{Ends, Yields, Passes, raised_or, with_error};
 ghost use Rattle.js_operations.specs.References.{IsOfProperty};
 
+use crate::action_end::ActionEnd;
 use crate::cells::{cut, make, make_text, put, put_element, remove};
-use crate::stop::Stop;
 use cdp_text::units::{Units, ascii};
 use js_heap::built_in::ErrorClass;
 use js_heap::cell::Property;
@@ -44,7 +44,7 @@ fn make_error<W: World>(
     names: &Names,
     class: ErrorClass,
     message: Units,
-) -> Result<Value, Stop>
+) -> Result<Value, ActionEnd>
     ensures { Yields (with_error class message) (W.world names.now world.old) result (W.world names.now world.new) }
 {
     let text = make_text(world, names, message)?;
@@ -54,11 +54,11 @@ fn make_error<W: World>(
 }
 
 /// The raise of a value, if it was made.
-fn raised_or(made: Result<Value, Stop>) -> Stop
+fn raised_or(made: Result<Value, ActionEnd>) -> ActionEnd
     ensures { result ≡ raised_or made }
 {
     match made {
-        Ok(value) => Stop::Raised(value),
+        Ok(value) => ActionEnd::Raised(value),
         Err(stop) => stop,
     }
 }
@@ -70,7 +70,7 @@ pub fn fail<W: World>(
     names: &Names,
     class: ErrorClass,
     message: Units,
-) -> Stop
+) -> ActionEnd
     ensures { Ends (fail class message) (W.world names.now world.old) result (W.world names.now world.new) }
 {
     raised_or(make_error(alloc, world, names, class, message))
@@ -83,12 +83,12 @@ pub fn fail_with<W: World>(
     names: &Names,
     class: ErrorClass,
     message: &[u8],
-) -> Stop
+) -> ActionEnd
     ensures { Ends (fail class message.now) (W.world names.now world.old) result (W.world names.now world.new) }
 {
     match ascii(alloc, message) {
         Ok(units) => fail(alloc, world, names, class, units),
-        Err(_) => Stop::Memory,
+        Err(_) => ActionEnd::Memory,
     }
 }
 
@@ -98,7 +98,7 @@ pub fn with_result<W: World>(
     world: &mut W,
     names: &Names,
     computed: Computed,
-) -> Result<Value, Stop>
+) -> Result<Value, ActionEnd>
     ensures { Yields (with_result computed) (W.world names.now world.old) result (W.world names.now world.new) }
 {
     match computed {
@@ -109,7 +109,7 @@ pub fn with_result<W: World>(
 }
 
 /// The error of a key that is neither a string nor a number.
-pub fn bad_key<W: World>(alloc: Global, world: &mut W, names: &Names) -> Stop
+pub fn bad_key<W: World>(alloc: Global, world: &mut W, names: &Names) -> ActionEnd
     ensures { Ends (with_result bad_key give) (W.world names.now world.old) result (W.world names.now world.new) }
 {
     fail_with(
@@ -127,7 +127,7 @@ pub fn with_written<W: World>(
     world: &mut W,
     names: &Names,
     written: Written,
-) -> Result<(), Stop>
+) -> Result<(), ActionEnd>
     requires { IsOfProperty written }
     ensures { Passes (with_written written) (W.world names.now world.old) result (W.world names.now world.new) }
 {

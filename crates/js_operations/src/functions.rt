@@ -11,8 +11,8 @@ ghost use Rattle.js_world.specs.Names.{name_of};
 ghost use Rattle.js_operations.specs.Functions.{function_of, named_of, declared_function};
 ghost use Rattle.js_operations.specs.Flow.{Yields, Passes, Gives};
 
+use crate::action_end::ActionEnd;
 use crate::cells::{bind, declare, make};
-use crate::stop::Stop;
 use cdp_text::units::Units;
 use js_heap::built_in::Code;
 use js_heap::cell::ScopeKind;
@@ -55,7 +55,7 @@ pub fn make_function<W: World>(
     name: FunctionName,
     scope: Addr,
     this: Value,
-) -> Result<Addr, Stop>
+) -> Result<Addr, ActionEnd>
     ensures { Yields (make (function_of code length (name_text names.now name) scope this)) (W.world names.now world.old) result (W.world names.now world.new) }
 {
     let cell = function_cell(alloc, code, length, name, scope, this)?;
@@ -84,7 +84,7 @@ pub fn named_function<W: World>(
     length: u32,
     name: NameId,
     scope: Addr,
-) -> Result<Value, Stop>
+) -> Result<Value, ActionEnd>
     ensures { Gives (named_of code length (name_of names.now name.number) scope) (W.world names.now world.old) result (W.world names.now world.new) }
 {
     let slots = own_name(alloc, name)?;
@@ -119,7 +119,7 @@ pub fn declared_function<W: World>(
     code: Code,
     length: u32,
     name: NameId,
-) -> Result<(), Stop>
+) -> Result<(), ActionEnd>
     ensures { Passes (declared_function scope code length (name_of names.now name.number)) (W.world names.now world.old) result (W.world names.now world.new) }
 {
     let a = make_function(
@@ -145,7 +145,7 @@ pub fn new_scope<W: World>(
     name: FunctionName,
     outer: Addr,
     slots: Slots,
-) -> Result<Addr, Stop>
+) -> Result<Addr, ActionEnd>
     ensures { Yields (new_scope kind (name_text names.now name) outer (bindings names.now slots)) (W.world names.now world.old) result (W.world names.now world.new) }
 {
     make(
@@ -202,7 +202,12 @@ fn copy_of(alloc: Global, cell: Option<&Stored>) -> Result<Stored, AllocError>
 }
 
 /// Makes a scope with the present values of another (14.7.4.4).
-pub fn copied<W: World>(alloc: Global, world: &mut W, names: &Names, a: Addr) -> Result<Addr, Stop>
+pub fn copied<W: World>(
+    alloc: Global,
+    world: &mut W,
+    names: &Names,
+    a: Addr,
+) -> Result<Addr, ActionEnd>
     ensures { Yields (copied (W.world names.now world.old) a) (W.world names.now world.old) result (W.world names.now world.new) }
 {
     let copy = copy_of(alloc, world.find(a))?;
@@ -215,7 +220,7 @@ pub fn with_names<W: World>(
     names: &Names,
     scope: Addr,
     slots: &[Slot],
-) -> Result<(), Stop>
+) -> Result<(), ActionEnd>
     ensures { Passes (with_names scope (bindings names.now slots.now)) (W.world names.now world.old) result (W.world names.now world.new) }
 {
     for slot in slots {

@@ -1,6 +1,7 @@
 //! What the rows of the table of steps do to a world, whichever it is.
 #![tactic(auto)]
 
+pub mod action_end;
 pub mod arrays;
 pub mod built_ins;
 pub mod cells;
@@ -14,5 +15,4 @@ pub mod objects;
 pub mod properties;
 pub mod seen;
 pub mod shown;
-pub mod stop;
 pub mod strings;

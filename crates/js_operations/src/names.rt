@@ -9,10 +9,10 @@ ghost use Rattle.js_world.specs.Names.{name_of};
 ghost use Rattle.js_operations.specs.Names.{value_of_slot, slot_written, type_of_bound, type_of_slot, StandsWhereFound};
 ghost use Rattle.js_operations.specs.Flow.{Ends, Yields, Passes, Gives};
 
+use crate::action_end::ActionEnd;
 use crate::cells::{bind_at, make_text};
 use crate::errors::{fail, fail_with, with_result};
 use crate::seen::Seen;
-use crate::stop::Stop;
 use cdp_text::units::{Units, ascii};
 use js_heap::built_in::ErrorClass;
 use js_heap::computed::Computed;
@@ -68,7 +68,7 @@ pub fn get_name<W: World>(
     names: &Names,
     scope: Addr,
     name: NameId,
-) -> Result<Value, Stop>
+) -> Result<Value, ActionEnd>
     ensures { Yields (with_result (value_of_found (name_of names.now name.number) (found (W.world names.now world.old) scope (name_of names.now name.number)))) (W.world names.now world.old) result (W.world names.now world.new) }
 {
     let found = lookup(world, names, scope, name);
@@ -77,22 +77,27 @@ pub fn get_name<W: World>(
 }
 
 /// The error of a name that isn't defined.
-fn fail_undefined<W: World>(alloc: Global, world: &mut W, names: &Names, name: NameId) -> Stop
+fn fail_undefined<W: World>(alloc: Global, world: &mut W, names: &Names, name: NameId) -> ActionEnd
     ensures { Ends (fail classes.ReferenceError (name_of names.now name.number ++ codes " is not defined")) (W.world names.now world.old) result (W.world names.now world.new) }
 {
     match not_defined(alloc, names, name) {
         Ok(message) => fail(alloc, world, names, ErrorClass::ReferenceError, message),
-        Err(_) => Stop::Memory,
+        Err(_) => ActionEnd::Memory,
     }
 }
 
 /// The error of a name without a value.
-fn fail_uninitialized<W: World>(alloc: Global, world: &mut W, names: &Names, name: NameId) -> Stop
+fn fail_uninitialized<W: World>(
+    alloc: Global,
+    world: &mut W,
+    names: &Names,
+    name: NameId,
+) -> ActionEnd
     ensures { Ends (fail classes.ReferenceError (codes "Cannot access '" ++ name_of names.now name.number ++ codes "' before initialization")) (W.world names.now world.old) result (W.world names.now world.new) }
 {
     match not_initialized(alloc, names, name) {
         Ok(message) => fail(alloc, world, names, ErrorClass::ReferenceError, message),
-        Err(_) => Stop::Memory,
+        Err(_) => ActionEnd::Memory,
     }
 }
 
@@ -104,7 +109,7 @@ fn put_slot<W: World>(
     name: NameId,
     found: Option<FoundSlot>,
     value: Value,
-) -> Result<(), Stop>
+) -> Result<(), ActionEnd>
     requires { StandsWhereFound (W.world names.now world.old) found (name_of names.now name.number) }
     ensures { Passes (with_written (slot_written (name_of names.now name.number) found value)) (W.world names.now world.old) result (W.world names.now world.new) }
 {
@@ -135,7 +140,7 @@ pub fn put_name<W: World>(
     scope: Addr,
     name: NameId,
     value: Value,
-) -> Result<(), Stop>
+) -> Result<(), ActionEnd>
     ensures { Passes (with_written (name_written (name_of names.now name.number) (found (W.world names.now world.old) scope (name_of names.now name.number)) value)) (W.world names.now world.old) result (W.world names.now world.new) }
 {
     let found = lookup(world, names, scope, name);
@@ -149,7 +154,7 @@ fn type_of_value<W: World>(
     names: &Names,
     name: NameId,
     value: Option<Value>,
-) -> Result<Value, Stop>
+) -> Result<Value, ActionEnd>
     ensures { Gives (type_of_bound (W.world names.now world.old) (name_of names.now name.number) value) (W.world names.now world.old) result (W.world names.now world.new) }
 {
     match value {
@@ -172,7 +177,7 @@ fn type_of_slot<W: World>(
     names: &Names,
     name: NameId,
     found: Option<FoundSlot>,
-) -> Result<Value, Stop>
+) -> Result<Value, ActionEnd>
     ensures { Gives (type_of_slot (W.world names.now world.old) (name_of names.now name.number) found) (W.world names.now world.old) result (W.world names.now world.new) }
 {
     match found {
@@ -192,7 +197,7 @@ pub fn type_of_name<W: World>(
     names: &Names,
     scope: Addr,
     name: NameId,
-) -> Result<Value, Stop>
+) -> Result<Value, ActionEnd>
     ensures { Gives (type_of_found (W.world names.now world.old) (name_of names.now name.number) (found (W.world names.now world.old) scope (name_of names.now name.number))) (W.world names.now world.old) result (W.world names.now world.new) }
 {
     let found = lookup(world, names, scope, name);

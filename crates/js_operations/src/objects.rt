@@ -4,9 +4,9 @@ ghost use Rattle.std.specs.Prelude.{◌≡◌};
 ghost use Rattle.js_semantics.specs.Rows.{object_or_fail};
 ghost use Rattle.js_operations.specs.Flow.{Gives};
 
+use crate::action_end::ActionEnd;
 use crate::cells::make;
 use crate::errors::fail_with;
-use crate::stop::Stop;
 use js_heap::built_in::ErrorClass;
 use js_heap::value::Value;
 use js_world::names::Names;
@@ -21,7 +21,7 @@ pub fn object_or_fail<W: World>(
     world: &mut W,
     names: &Names,
     properties: Option<PropertyMap>,
-) -> Result<Value, Stop>
+) -> Result<Value, ActionEnd>
     ensures { Gives (object_or_fail properties) (W.world names.now world.old) result (W.world names.now world.new) }
 {
     match properties {

@@ -6,9 +6,9 @@ ghost use Rattle.js_world.specs.Names.{name_of};
 ghost use Rattle.js_operations.specs.References.{indexed, index_written, index_deleted};
 ghost use Rattle.js_operations.specs.Flow.{Yields, Passes};
 
+use crate::action_end::ActionEnd;
 use crate::errors::{bad_key, with_result, with_written};
 use crate::seen::Seen;
-use crate::stop::Stop;
 use js_heap::value::Value;
 use js_values::operators::key_of;
 use js_values::properties::{property_deleted, property_of, property_written};
@@ -23,7 +23,7 @@ pub fn get_property<W: World>(
     names: &Names,
     object: Value,
     key: &[u16],
-) -> Result<Value, Stop>
+) -> Result<Value, ActionEnd>
     ensures { Yields (with_result (property_of (W.world names.now world.old) object key.now)) (W.world names.now world.old) result (W.world names.now world.new) }
 {
     let value = property_of(
@@ -45,7 +45,7 @@ pub fn get_index<W: World>(
     names: &Names,
     object: Value,
     index: Value,
-) -> Result<Value, Stop>
+) -> Result<Value, ActionEnd>
     ensures { Yields (indexed (W.world names.now world.old) object index) (W.world names.now world.old) result (W.world names.now world.new) }
 {
     let key = key_of(
@@ -70,7 +70,7 @@ pub fn put_property<W: World>(
     object: Value,
     key: &[u16],
     value: Value,
-) -> Result<(), Stop>
+) -> Result<(), ActionEnd>
     ensures { Passes (with_written (property_written (W.world names.now world.old) object key.now value)) (W.world names.now world.old) result (W.world names.now world.new) }
 {
     let written = property_written(
@@ -94,7 +94,7 @@ pub fn put_index<W: World>(
     object: Value,
     index: Value,
     value: Value,
-) -> Result<(), Stop>
+) -> Result<(), ActionEnd>
     ensures { Passes (index_written (W.world names.now world.old) object index value) (W.world names.now world.old) result (W.world names.now world.new) }
 {
     let key = key_of(
@@ -118,7 +118,7 @@ pub fn remove_property<W: World>(
     names: &Names,
     object: Value,
     key: &[u16],
-) -> Result<(), Stop>
+) -> Result<(), ActionEnd>
     ensures { Passes (with_written (property_deleted (W.world names.now world.old) object key.now)) (W.world names.now world.old) result (W.world names.now world.new) }
 {
     let written = property_deleted(
@@ -140,7 +140,7 @@ pub fn remove_index<W: World>(
     names: &Names,
     object: Value,
     index: Value,
-) -> Result<(), Stop>
+) -> Result<(), ActionEnd>
     ensures { Passes (index_deleted (W.world names.now world.old) object index) (W.world names.now world.old) result (W.world names.now world.new) }
 {
     let key = key_of(
@@ -166,7 +166,7 @@ pub fn get_member<W: World>(
     names: &Names,
     object: Value,
     key: NameId,
-) -> Result<Value, Stop>
+) -> Result<Value, ActionEnd>
     ensures { Yields (with_result (property_of (W.world names.now world.old) object (name_of names.now key.number))) (W.world names.now world.old) result (W.world names.now world.new) }
 {
     let text = names.text(key)?;
@@ -181,7 +181,7 @@ pub fn put_member<W: World>(
     object: Value,
     key: NameId,
     value: Value,
-) -> Result<(), Stop>
+) -> Result<(), ActionEnd>
     ensures { Passes (with_written (property_written (W.world names.now world.old) object (name_of names.now key.number) value)) (W.world names.now world.old) result (W.world names.now world.new) }
 {
     let text = names.text(key)?;
@@ -195,7 +195,7 @@ pub fn remove_member<W: World>(
     names: &Names,
     object: Value,
     key: NameId,
-) -> Result<(), Stop>
+) -> Result<(), ActionEnd>
     ensures { Passes (with_written (property_deleted (W.world names.now world.old) object (name_of names.now key.number))) (W.world names.now world.old) result (W.world names.now world.new) }
 {
     let text = names.text(key)?;

@@ -4,12 +4,12 @@ ghost use Rattle.js_heap.specs.Values.{units_at};
 ghost use Rattle.js_semantics.specs.BuiltIns.{slice_places, text_or_wrong, occurrence_of, unit_or_fail, unit_at, on_string};
 ghost use Rattle.js_operations.specs.Flow.{Gives};
 
+use crate::action_end::ActionEnd;
 use crate::built_ins::wrong_type;
 use crate::cells::make_text;
 use crate::errors::with_result;
 use crate::lists::{argument, first_occurrence, slice_places, unit_of, units_between};
 use crate::seen::units_at;
-use crate::stop::Stop;
 use cdp_text::units::Units;
 use js_heap::built_in::BuiltIn;
 use js_heap::value::{Addr, Value};
@@ -25,7 +25,7 @@ fn occurrence_of<W: World>(
     names: &Names,
     a: Addr,
     of: Value,
-) -> Result<Value, Stop>
+) -> Result<Value, ActionEnd>
     ensures { Gives (occurrence_of (W.world names.now world.old) (units_at (W.world names.now world.old) a) of) (W.world names.now world.old) result (W.world names.now world.new) }
 {
     match of {
@@ -46,7 +46,7 @@ fn string_slice<W: World>(
     names: &Names,
     a: Addr,
     arguments: &[Value],
-) -> Result<Value, Stop>
+) -> Result<Value, ActionEnd>
     ensures { Gives (text_or_wrong (slice_places (units_at (W.world names.now world.old) a) arguments.now)) (W.world names.now world.old) result (W.world names.now world.new) }
 {
     let units = units_at(world, names, a);
@@ -62,7 +62,7 @@ fn unit_or_fail<W: World>(
     world: &mut W,
     names: &Names,
     unit: Option<u16>,
-) -> Result<Value, Stop>
+) -> Result<Value, ActionEnd>
     ensures { Gives (unit_or_fail unit) (W.world names.now world.old) result (W.world names.now world.new) }
 {
     match unit {
@@ -81,7 +81,7 @@ fn unit_at<W: World>(
     names: &Names,
     a: Addr,
     index: Value,
-) -> Result<Value, Stop>
+) -> Result<Value, ActionEnd>
     ensures { Gives (unit_at (units_at (W.world names.now world.old) a) index) (W.world names.now world.old) result (W.world names.now world.new) }
 {
     match index {
@@ -101,7 +101,7 @@ pub fn on_string<W: World>(
     f: BuiltIn,
     receiver: Value,
     arguments: &[Value],
-) -> Result<Value, Stop>
+) -> Result<Value, ActionEnd>
     ensures { Gives (on_string (W.world names.now world.old) f receiver arguments.now) (W.world names.now world.old) result (W.world names.now world.new) }
 {
     let Value::Text(a) = receiver else {

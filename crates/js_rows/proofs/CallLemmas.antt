@@ -18,7 +18,7 @@ use Rattle.js_semantics.specs.State.{Frame, State, with_world, Move, goes, trave
 use Rattle.js_semantics.specs.Functions.{Program, FunctionCode, function_at, frame_limit, called_this, frame_entered, entered, too_deep, not_a_function, call_code, call_cell, call_value, call_row}
 use Rattle.js_code.specs.declared.table.NodeTable.{NodeTable}
 use Rattle.js_code.specs.Trees.{tree}
-use Rattle.js_operations.specs.declared.stop.Stop.{Stop}
+use Rattle.js_operations.specs.declared.action_end.ActionEnd.{ActionEnd}
 use Rattle.js_operations.specs.Flow.{performed, Stops, Ends, Gives}
 use Rattle.js_operations.specs.Contexts.{Context, state_of, Turns, Prints, Takes}
 use Rattle.js_semantics.specs.BuiltIns.{log, line_value, built_in_call}
@@ -42,10 +42,10 @@ use Rattle.js_rows.proofs.AnswerLemmas.{stops-does, replies-by}
 pub does-then : (ts : List (List ℕ)) (t : NodeTable) (e : Wide) (a b : Action) (s u : State) (r : Reduced) (x : State) → performed a s ≡ performed b u → Does ts t e b u r x → Does ts t e a s r x
 does-then ts t e a b s u r x h d = let P : Move Term → Type 0 = λ m. Reduces ts t e m r x in subst P (sym h) d
 
-pub stops-by : (ts : List (List ℕ)) (t : NodeTable) (e : Wide) (a : Action) (s : State) (x : Stop) (u : State) (q : Reduced) → Stops a s x u → q ≡ stopped x → Does ts t e a s q u
+pub stops-by : (ts : List (List ℕ)) (t : NodeTable) (e : Wide) (a : Action) (s : State) (x : ActionEnd) (u : State) (q : Reduced) → Stops a s x u → q ≡ stopped x → Does ts t e a s q u
 stops-by ts t e a s x u q h i = let P : Reduced → Type 0 = λ r. Does ts t e a s r u in subst P (sym i) (stops-does ts t e a s x u h)
 
-pub ends-act : (ts : List (List ℕ)) (t : NodeTable) (a : Action) (v : World) (x : Stop) (w : World) (c : Context) (q : Reduced) → Ends a v x w → q ≡ stopped x → ActsAlways ts t (λ s. a) v c q w c
+pub ends-act : (ts : List (List ℕ)) (t : NodeTable) (a : Action) (v : World) (x : ActionEnd) (w : World) (c : Context) (q : Reduced) → Ends a v x w → q ≡ stopped x → ActsAlways ts t (λ s. a) v c q w c
 ends-act ts t a v x w c q h i = λ e taken. stops-by ts t e a (state_of v c taken) x (state_of w c taken) q (h (state_of v c taken)) i
 
 -- ---- frames
@@ -72,7 +72,7 @@ pub enters-scope : (ts : List (List ℕ)) (t : NodeTable) (code : FunctionCode) 
 enters-scope ts t code source a name outer receiver args own node body v w c d q h g n b = λ e taken.
     does-then ts t e (entered code source a name outer receiver args) (frame_entered code source a receiver own) (state_of v c taken) (state_of w c taken) q (state_of w d taken) (h (state_of v c taken) (λ s. frame_entered code source a receiver s)) (g ts t e w taken code n b)
 
-pub enters-not : (ts : List (List ℕ)) (t : NodeTable) (code : FunctionCode) (source : Source) (a : Addr) (name : List ℕ) (outer : Addr) (receiver : Value) (args : List Value) (v w : World) (c : Context) (x : Stop) (q : Reduced) →
+pub enters-not : (ts : List (List ℕ)) (t : NodeTable) (code : FunctionCode) (source : Source) (a : Addr) (name : List ℕ) (outer : Addr) (receiver : Value) (args : List Value) (v w : World) (c : Context) (x : ActionEnd) (q : Reduced) →
     ((s : State) (k : Addr → Action) → Stops (call_scope code name outer args k) (with_world s v) x (with_world s w)) → q ≡ stopped x → ActsAlways ts t (λ s. entered code source a name outer receiver args) v c q w c
 enters-not ts t code source a name outer receiver args v w c x q h i = λ e taken.
     stops-by ts t e (entered code source a name outer receiver args) (state_of v c taken) x (state_of w c taken) q (h (state_of v c taken) (λ s. frame_entered code source a receiver s)) i
@@ -82,7 +82,7 @@ enters-not ts t code source a name outer receiver args v w c x q h i = λ e take
 within_if : (ts : List (List ℕ)) (t : NodeTable) (b : Bool) (x y z : Action) (v : World) (c : Context) (q : Reduced) (w : World) (d : Context) → (if b then x else y) ≡ z → ActsAlways ts t (λ s. z) v c q w d → ActsAlways ts t (λ s. if b then x else y) v c q w d
 within_if ts t b x y z v c q w d h g = let P : Action → Type 0 = λ a. ActsAlways ts t (λ s. a) v c q w d in subst P (sym h) g
 
-pub past-limit : (ts : List (List ℕ)) (t : NodeTable) (code : FunctionCode) (source : Source) (a : Addr) (name : List ℕ) (outer : Addr) (receiver : Value) (args : List Value) (v w : World) (c : Context) (x : Stop) (q : Reduced) → nat_lt (length c.frames) 1000 ≡ false →
+pub past-limit : (ts : List (List ℕ)) (t : NodeTable) (code : FunctionCode) (source : Source) (a : Addr) (name : List ℕ) (outer : Addr) (receiver : Value) (args : List Value) (v w : World) (c : Context) (x : ActionEnd) (q : Reduced) → nat_lt (length c.frames) 1000 ≡ false →
     Ends too_deep v x w → q ≡ stopped x → ActsAlways ts t (λ s. entered_within s code source a name outer receiver args) v c q w c
 past-limit ts t code source a name outer receiver args v w c x q h g i =
     let e : (if nat_lt (length c.frames) frame_limit then entered code source a name outer receiver args else too_deep) ≡ too_deep = rw h refl in
@@ -128,18 +128,18 @@ log-prints ts args text v c d h g =
     let P : List ℕ → Type 0 = λ x. ActsOn ts args (λ s. print args x) v c reduced.Prints v d in
     subst P h (prints_by ts args args text v c d refl g)
 
-pub log-stops : (ts : List (List ℕ)) (args : List Value) (text : List ℕ) (v : World) (c d : Context) (x : Stop) (q : Reduced) → text ≡ between (codes " ") (map (shown v) args) → Prints text v c (Err x) d → q ≡ stopped x → ActsOn ts args (λ s. log v args) v c q v d
+pub log-stops : (ts : List (List ℕ)) (args : List Value) (text : List ℕ) (v : World) (c d : Context) (x : ActionEnd) (q : Reduced) → text ≡ between (codes " ") (map (shown v) args) → Prints text v c (Err x) d → q ≡ stopped x → ActsOn ts args (λ s. log v args) v c q v d
 log-stops ts args text v c d x q h g i =
     let P : List ℕ → Type 0 = λ y. ActsOn ts args (λ s. print args y) v c q v d in
     subst P h (λ t e a taken. stops-by ts t e (print args text) (state_of v c taken) x (state_of v d taken) q (g taken args) i)
 
-pub line-read : (ts : List (List ℕ)) (line : Option (List ℕ)) (r : Result Value Stop) (v w : World) (c d : Context) (q : Reduced) → Takes v c (Ok line) d → Gives (line_value line) v r w → q ≡ replied r → ActsAnywhere ts (λ s. take_line line_value) v c q w d
+pub line-read : (ts : List (List ℕ)) (line : Option (List ℕ)) (r : Result Value ActionEnd) (v w : World) (c d : Context) (q : Reduced) → Takes v c (Ok line) d → Gives (line_value line) v r w → q ≡ replied r → ActsAnywhere ts (λ s. take_line line_value) v c q w d
 line-read ts line r v w c d q h g i = λ t e taken. does-then ts t e (take_line line_value) (line_value line) (state_of v c taken) (state_of v d taken) q (state_of w d taken) (h taken line_value) (replies-by ts (line_value line) v r w q g i t e (state_of v d taken))
 
-pub line-stops : (ts : List (List ℕ)) (x : Stop) (v : World) (c d : Context) (q : Reduced) → Takes v c (Err x) d → q ≡ stopped x → ActsAnywhere ts (λ s. take_line line_value) v c q v d
+pub line-stops : (ts : List (List ℕ)) (x : ActionEnd) (v : World) (c d : Context) (q : Reduced) → Takes v c (Err x) d → q ≡ stopped x → ActsAnywhere ts (λ s. take_line line_value) v c q v d
 line-stops ts x v c d q h i = λ t e taken. stops-by ts t e (take_line line_value) (state_of v c taken) x (state_of v d taken) q (h taken line_value) i
 
-pub given-acts : (ts : List (List ℕ)) (args : List Value) (a : Action) (v : World) (r : Result Value Stop) (w : World) (c : Context) (q : Reduced) → Gives a v r w → q ≡ replied r → ActsOn ts args (λ s. a) v c q w c
+pub given-acts : (ts : List (List ℕ)) (args : List Value) (a : Action) (v : World) (r : Result Value ActionEnd) (w : World) (c : Context) (q : Reduced) → Gives a v r w → q ≡ replied r → ActsOn ts args (λ s. a) v c q w c
 given-acts ts args a v r w c q g i = λ t e h taken. replies-by ts a v r w q g i t e (state_of v c taken)
 
 built_in_by : (ts : List (List ℕ)) (args : List Value) (f h : BuiltIn) (given : Value) (v : World) (c : Context) (q : Reduced) (w : World) (d : Context) → f ≡ h → ActsOn ts args (λ s. built_in_call v h given args) v c q w d → ActsOn ts args (λ s. built_in_call v f given args) v c q w d
@@ -228,7 +228,7 @@ call-split ts t p m (given ∷ x ∷ args) v b c q w d l h g = λ e i.
     let Q : List Value → Type 0 = λ zs. ActsIn ts t zs (λ s. call_value p s x given zs) v c q w d in
     call_on ts t p m x given args v b c q w d h (subst Q (take_all (length (given ∷ x ∷ args) - 2) args (omega arith)) g) e (ap (λ zs. drop 2 zs) i)
 
-pub ends-in : (ts : List (List ℕ)) (t : NodeTable) (args : List Value) (a : Action) (v : World) (x : Stop) (w : World) (c : Context) (q : Reduced) → Ends a v x w → q ≡ stopped x → ActsIn ts t args (λ s. a) v c q w c
+pub ends-in : (ts : List (List ℕ)) (t : NodeTable) (args : List Value) (a : Action) (v : World) (x : ActionEnd) (w : World) (c : Context) (q : Reduced) → Ends a v x w → q ≡ stopped x → ActsIn ts t args (λ s. a) v c q w c
 ends-in ts t args a v x w c q h i = λ e k taken. ends-act ts t a v x w c q h i e taken
 
 not_object : (p : Program) (s : State) (x given : Value) (args : List Value) → ((a : Addr) → x ≡ values.Object a → ⊥) → call_value p s x given args ≡ not_a_function
@@ -239,6 +239,6 @@ not_object p s (values.Number z) given args h = refl
 not_object p s (values.Text a) given args h = refl
 not_object p s (values.Object a) given args h = absurd (h a refl)
 
-pub not-called : (ts : List (List ℕ)) (t : NodeTable) (p : Program) (args : List Value) (x given : Value) (v : World) (y : Stop) (w : World) (c : Context) (q : Reduced) → ((a : Addr) → x ≡ values.Object a → ⊥) → Ends not_a_function v y w → q ≡ stopped y → ActsIn ts t args (λ s. call_value p s x given args) v c q w c
+pub not-called : (ts : List (List ℕ)) (t : NodeTable) (p : Program) (args : List Value) (x given : Value) (v : World) (y : ActionEnd) (w : World) (c : Context) (q : Reduced) → ((a : Addr) → x ≡ values.Object a → ⊥) → Ends not_a_function v y w → q ≡ stopped y → ActsIn ts t args (λ s. call_value p s x given args) v c q w c
 not-called ts t p args x given v y w c q h g i =
     acts_in ts t args (λ s. call_value p s x given args) (λ s. not_a_function) v c q w c (λ taken. not_object p (state_of v c taken) x given args h) (ends-in ts t args not_a_function v y w c q g i)

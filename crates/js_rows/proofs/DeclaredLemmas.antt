@@ -29,7 +29,7 @@ use Rattle.js_world.specs.Names.{name_of}
 use Rattle.js_semantics.specs.State.{make, write}
 use Rattle.js_code.specs.Ops.{is_literal}
 use Rattle.js_code.specs.Trees.{tree, terms}
-use Rattle.js_operations.specs.declared.stop.Stop.{Stop}
+use Rattle.js_operations.specs.declared.action_end.ActionEnd.{ActionEnd}
 use Rattle.js_operations.specs.Flow.{performed, Stops, Passes}
 use Rattle.js_operations.proofs.FlowLemmas.{passes-err}
 use Rattle.js_operations.proofs.ListLemmas.{cons_at}
@@ -201,7 +201,7 @@ pub functions-step : (ts : List (List ℕ)) (t : NodeTable) (a : Addr) (ks : Lis
     ((s : State) (k : Action) → performed (with_functions a (one (tree ts t (get_or ks i d))) k) (with_world s w) ≡ performed k (with_world s u)) → FunctionsLeft ts t a ks v (i + 1) u
 functions-step ts t a ks i d v w u l h g = λ s k. functions_at ts t a ks i d v w s k l h ∙ g s (with_functions a (terms (tree ts t) (drop (i + 1) ks)) k)
 
-pub functions-stop : (ts : List (List ℕ)) (t : NodeTable) (a : Addr) (ks : List ℕ) (i d : ℕ) (v w u : World) (r : Result (Unit {0}) Stop) (e : Stop) → i < length ks → FunctionsLeft ts t a ks v i w →
+pub functions-stop : (ts : List (List ℕ)) (t : NodeTable) (a : Addr) (ks : List ℕ) (i d : ℕ) (v w u : World) (r : Result (Unit {0}) ActionEnd) (e : ActionEnd) → i < length ks → FunctionsLeft ts t a ks v i w →
     ((s : State) (k : Action) → Stops (with_functions a (one (tree ts t (get_or ks i d))) k) (with_world s w) e (with_world s u)) → IsErrAnd r (λ e'. e' ≡ e) → Passes (with_functions a (terms (tree ts t) ks)) v r u
 functions-stop ts t a ks i d v w u r e l h g q =
     passes-err (with_functions a (terms (tree ts t) ks)) v u r e q (λ s k said. functions_at ts t a ks i d v w s k l h ∙ g s (with_functions a (terms (tree ts t) (drop (i + 1) ks)) k) said)

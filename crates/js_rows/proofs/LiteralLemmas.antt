@@ -21,7 +21,7 @@ use Rattle.js_semantics.specs.Rows.{object_row, object_or_fail, properties_from}
 use Rattle.js_world.specs.declared.names.NameId.{NameId}
 use Rattle.js_world.specs.Cells.{texts_of}
 use Rattle.js_world.specs.Names.{name_of}
-use Rattle.js_operations.specs.declared.stop.Stop.{Stop}
+use Rattle.js_operations.specs.declared.action_end.ActionEnd.{ActionEnd}
 use Rattle.js_operations.specs.Flow.{performed, Stops, Ends, Yields, Gives}
 use Rattle.js_operations.specs.Functions.{named_of}
 use Rattle.js_operations.specs.Contexts.{Context, state_of}
@@ -49,19 +49,19 @@ texts_length : (ts : List (List ℕ)) (ns : List NameId) → length (texts_of ts
 texts_length ts [] = refl
 texts_length ts (n ∷ ns) = ap (λ x. suc x) (texts_length ts ns)
 
-pub cell-yields : (ts : List (List ℕ)) (f : FunctionEntry) (name : List ℕ) (scope : Addr) (receiver : Value) (n : ℕ) (v : World) (r : Result Addr Stop) (w : World) → n ≡ length f.parameters.items →
+pub cell-yields : (ts : List (List ℕ)) (f : FunctionEntry) (name : List ℕ) (scope : Addr) (receiver : Value) (n : ℕ) (v : World) (r : Result Addr ActionEnd) (w : World) → n ≡ length f.parameters.items →
     Yields (make (cells.Function f.code name n (Some scope) receiver)) v r w → Yields (make (function_cell (function_of ts f) name scope receiver)) v r w
 cell-yields ts f name scope receiver n v r w h y =
     let P : ℕ → Type 0 = λ m. Yields (make (cells.Function f.code name m (Some scope) receiver)) v r w in
     subst P (h ∙ sym (texts_length ts f.parameters.items)) y
 
-pub keyed-yields : (ts : List (List ℕ)) (f : FunctionEntry) (name key : List ℕ) (scope : Addr) (receiver : Value) (n : ℕ) (v : World) (r : Result Addr Stop) (w : World) → n ≡ length f.parameters.items → name ≡ key →
+pub keyed-yields : (ts : List (List ℕ)) (f : FunctionEntry) (name key : List ℕ) (scope : Addr) (receiver : Value) (n : ℕ) (v : World) (r : Result Addr ActionEnd) (w : World) → n ≡ length f.parameters.items → name ≡ key →
     Yields (make (cells.Function f.code name n (Some scope) receiver)) v r w → Yields (make (function_cell (function_of ts f) key scope receiver)) v r w
 keyed-yields ts f name key scope receiver n v r w h i y =
     let P : List ℕ → Type 0 = λ x. Yields (make (function_cell (function_of ts f) x scope receiver)) v r w in
     subst P i (cell-yields ts f name scope receiver n v r w h y)
 
-pub named-gives : (ts : List (List ℕ)) (f : FunctionEntry) (scope : Addr) (n : ℕ) (v : World) (r : Result Value Stop) (w : World) → n ≡ length f.parameters.items →
+pub named-gives : (ts : List (List ℕ)) (f : FunctionEntry) (scope : Addr) (n : ℕ) (v : World) (r : Result Value ActionEnd) (w : World) → n ≡ length f.parameters.items →
     Gives (named_of f.code n (name_of ts f.name.number) scope) v r w → Gives (named_function (function_of ts f) scope) v r w
 named-gives ts f scope n v r w h y =
     let P : ℕ → Type 0 = λ m. Gives (named_of f.code m (name_of ts f.name.number) scope) v r w in
@@ -71,7 +71,7 @@ made_else : (b : Bool) (x y : Action) → b ≡ false → (if b then x else y) �
 made_else true x y h = cc
 made_else false x y h = refl
 
-pub made-plain : (f : FunctionForm) (scope : Addr) (this u : Value) (v : World) (r : Result Value Stop) (w : World) → f.is_named ≡ false → u ≡ receiver_of f this →
+pub made-plain : (f : FunctionForm) (scope : Addr) (this u : Value) (v : World) (r : Result Value ActionEnd) (w : World) → f.is_named ≡ false → u ≡ receiver_of f this →
     Gives (make (function_cell f f.name scope u) (λ a. give (values.Object a))) v r w → Gives (function_made f scope this) v r w
 made-plain f scope this u v r w h i g =
     let x : Action = make (function_cell f f.name scope (receiver_of f this)) (λ a. give (values.Object a)) in
@@ -79,7 +79,7 @@ made-plain f scope this u v r w h i g =
     let Q : Action → Type 0 = λ z. Gives z v r w in
     subst Q (sym (made_else f.is_named (named_function f scope) x h)) (subst P i g)
 
-pub function-reply : (ts : List (List ℕ)) (f : FunctionForm) (scope : Addr) (u : Value) (c : Context) (v : World) (r : Result Value Stop) (w : World) (q : Reduced) → u ≡ top_this c.frames c.outer_this →
+pub function-reply : (ts : List (List ℕ)) (f : FunctionForm) (scope : Addr) (u : Value) (c : Context) (v : World) (r : Result Value ActionEnd) (w : World) (q : Reduced) → u ≡ top_this c.frames c.outer_this →
     Gives (function_made f scope u) v r w → q ≡ replied r → RepliesWith ts (function_row (state_of v c []) scope f) v c q w c
 function-reply ts f scope u c v r w q h g j =
     let P : Value → Type 0 = λ z. Gives (function_made f scope z) v r w in
@@ -87,7 +87,7 @@ function-reply ts f scope u c v r w q h g j =
 
 -- ---- object literals
 
-pub no-key : (o : Option (List Property)) (v w : World) (x : Stop) → o ≡ None → Ends (fail classes.TypeError (codes "Property key must be a string or a number")) v x w → (s : State) → Stops (object_or_fail o) (with_world s v) x (with_world s w)
+pub no-key : (o : Option (List Property)) (v w : World) (x : ActionEnd) → o ≡ None → Ends (fail classes.TypeError (codes "Property key must be a string or a number")) v x w → (s : State) → Stops (object_or_fail o) (with_world s v) x (with_world s w)
 no-key None v w x h g s = g s
 no-key (Some ps) v w x h g s = cc
 
@@ -100,7 +100,7 @@ adds_does ts t e ms vs now rest u s h =
     ap (λ (x : Terms). goes (part (task_form ts t e) (joined (dones e.values) (more (done u) x)) rest) s went) (sym h.parts) ∙
     ap (λ (x : Terms). goes (part (task_form ts t e) (joined (dones e.values) (more (done u) (now_of (head_of (later_of ts t e))))) x) s went) (sym h.behind)
 
-pub method-reply : (ts : List (List ℕ)) (f : FunctionForm) (scope : Addr) (vs : List Value) (key : Value) (v w : World) (r : Result Addr Stop) (q : Reduced) → key ≡ last_of vs → Yields (method_made (key_of v key) f scope) v r w → q ≡ answered_by (λ a. reduced.Adds (values.Object a)) r →
+pub method-reply : (ts : List (List ℕ)) (f : FunctionForm) (scope : Addr) (vs : List Value) (key : Value) (v w : World) (r : Result Addr ActionEnd) (q : Reduced) → key ≡ last_of vs → Yields (method_made (key_of v key) f scope) v r w → q ≡ answered_by (λ a. reduced.Adds (values.Object a)) r →
     (t : NodeTable) (e : Wide) (ms : List Member) (now later rest : Terms) → AddsTo ts t e ms vs now rest → DoesIn ts t e (object_row v scope ms vs (more (part (method f) now later) rest)) v q w
 method-reply ts f scope vs key v w r q i y j t e ms now later rest h =
     let P : Value → Type 0 = λ x. Yields (method_made (key_of v x) f scope) v r w in
@@ -239,7 +239,7 @@ literal-part ts t scope from to k vs v w q h g ms e x =
     same-action ts t e (object_row v scope ms vs (trees ts t from to)) (object_row v scope ms vs (more (tree ts t k) rest)) v w q (ap (object_row v scope ms vs) first)
     (g e ms rest (record { form = x.form; values = x.values; parts = ap (λ y. now_of (head_of y)) kept; behind = ap rest_of kept }))
 
-pub literal-end : (ts : List (List ℕ)) (t : NodeTable) (scope : Addr) (from to : ℕ) (ms : List Member) (vs : List Value) (v w : World) (r : Result Value Stop) (q : Reduced) → None ≡ slice_get (kids_between t from to) 0 →
+pub literal-end : (ts : List (List ℕ)) (t : NodeTable) (scope : Addr) (from to : ℕ) (ms : List Member) (vs : List Value) (v w : World) (r : Result Value ActionEnd) (q : Reduced) → None ≡ slice_get (kids_between t from to) 0 →
     Gives (object_or_fail (properties_from v [] ms vs)) v r w → q ≡ replied r →
     (e : Wide) → IsLiteralOf ts t e ms vs (trees ts t from to) → DoesIn ts t e (object_row v scope ms vs (trees ts t from to)) v q w
 literal-end ts t scope from to ms vs v w r q h g j e x =

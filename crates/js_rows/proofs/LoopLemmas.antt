@@ -19,7 +19,7 @@ use Rattle.js_semantics.specs.Functions.{new_scope}
 use Rattle.js_semantics.specs.Rows.{only, turn_or_end, copied, loop_row, for_in, enter_for_row, enter_for_of_row, list_row, elements_of, body_part, turn_row}
 use Rattle.js_world.specs.declared.stored.Slot.{Slot}
 use Rattle.js_world.specs.Cells.{binding_at}
-use Rattle.js_operations.specs.declared.stop.Stop.{Stop}
+use Rattle.js_operations.specs.declared.action_end.ActionEnd.{ActionEnd}
 use Rattle.js_operations.specs.Flow.{performed, Ends, Yields}
 use Rattle.js_operations.specs.Contexts.{Context, state_of, Turns}
 use Rattle.js_code.specs.declared.node.ForOfEntry.{ForOfEntry}
@@ -86,14 +86,14 @@ updates_does : (ts : List (List ℕ)) (t : NodeTable) (e : Wide) (b : Addr) (s :
 unfolding reduced_move reduced_term performed
 updates_does ts t e b s = refl
 
-pub first-copied : (ts : List (List ℕ)) (info : ℕ) (a : Addr) (v w : World) (r : Result Addr Stop) (q : Reduced) → (info ≡ 0 → ⊥) → Yields (copied v a) v r w → q ≡ answered_by (λ b. reduced.Tests b) r →
+pub first-copied : (ts : List (List ℕ)) (info : ℕ) (a : Addr) (v w : World) (r : Result Addr ActionEnd) (q : Reduced) → (info ≡ 0 → ⊥) → Yields (copied v a) v r w → q ≡ answered_by (λ b. reduced.Tests b) r →
     (t : NodeTable) (e : Wide) (vs : List Value) → DoesIn ts t e (loop_row v stages.First (turn_scope info a) vs (later_of ts t e)) v q w
 first-copied ts info a v w r q h y j t e vs =
     let next : Addr → Action = λ b. go (at_test (Some b) (later_of ts t e)) in
     same-action ts t e (loop_row v stages.First (turn_scope info a) vs (later_of ts t e)) (copied v a next) v w q (ap (λ x. loop_row v stages.First x vs (later_of ts t e)) (scope_some info a h))
     (yields-does ts t e (copied v a) next (λ b. reduced.Tests b) v r w q y j (λ b s. tests_does ts t e b s))
 
-pub body-copied : (ts : List (List ℕ)) (info : ℕ) (a : Addr) (v w : World) (r : Result Addr Stop) (q : Reduced) → (info ≡ 0 → ⊥) → Yields (copied v a) v r w → q ≡ answered_by (λ b. reduced.Updates b) r →
+pub body-copied : (ts : List (List ℕ)) (info : ℕ) (a : Addr) (v w : World) (r : Result Addr ActionEnd) (q : Reduced) → (info ≡ 0 → ⊥) → Yields (copied v a) v r w → q ≡ answered_by (λ b. reduced.Updates b) r →
     (t : NodeTable) (e : Wide) (vs : List Value) → DoesIn ts t e (loop_row v stages.Body (turn_scope info a) vs (later_of ts t e)) v q w
 body-copied ts info a v w r q h y j t e vs =
     let next : Addr → Action = λ b. go (at_update (Some b) (later_of ts t e)) in
@@ -106,7 +106,7 @@ initializes_does : (ts : List (List ℕ)) (t : NodeTable) (e : Wide) (constant :
 unfolding reduced_move reduced_term performed
 initializes_does ts t e constant a s = refl
 
-pub for-reply : (ts : List (List ℕ)) (scope : Addr) (node : ℕ) (constant : Bool) (bs : List Binding) (v w : World) (c d : Context) (r : Result Addr Stop) (q : Reduced) →
+pub for-reply : (ts : List (List ℕ)) (scope : Addr) (node : ℕ) (constant : Bool) (bs : List Binding) (v w : World) (c d : Context) (r : Result Addr ActionEnd) (q : Reduced) →
     Turns (set_here (start node)) c d → Yields (new_scope scopes.Block [] scope bs) v r w → q ≡ answered_by (λ a. reduced.Initializes constant a) r →
     (t : NodeTable) (e : Wide) → DoesWith ts t e (enter_for_row scope node constant bs (later_of ts t e)) v c q w d
 for-reply ts scope node constant bs v w c d r q g y j t e =
@@ -129,7 +129,7 @@ for-of-none ts t form node b v c h vs =
     same-row ts t (redex form vs None) (enter_for_of_row form.inner node b (trees ts t form.mid form.end)) (give values.Undefined) v v c c (reduced.Gives values.Undefined) (ap (enter_for_of_row form.inner node b) (no-trees ts t form.mid form.end h))
     (λ taken. give-does ts t (redex form vs None) values.Undefined (state_of v c taken))
 
-pub for-of-part : (ts : List (List ℕ)) (t : NodeTable) (form : Redex) (x : ForOfEntry) (k : ℕ) (v w : World) (c d : Context) (r : Result Addr Stop) (q : Reduced) → Some x ≡ slice_get t.for_ofs.items form.info → Some k ≡ slice_get (kids_between t form.mid form.end) 0 →
+pub for-of-part : (ts : List (List ℕ)) (t : NodeTable) (form : Redex) (x : ForOfEntry) (k : ℕ) (v w : World) (c d : Context) (r : Result Addr ActionEnd) (q : Reduced) → Some x ≡ slice_get t.for_ofs.items form.info → Some k ≡ slice_get (kids_between t form.mid form.end) 0 →
     Turns (set_here (start x.node)) c d → Yields (new_scope scopes.Block [] form.inner (binding_at ts x.slot ∷ [])) v r w → q ≡ answered_by (λ a. reduced.Lists a) r →
     (vs : List Value) → DoesWith ts t (redex form vs None) (enter_for_of_row form.inner x.node (binding_at ts x.slot) (trees ts t form.mid form.end)) v c q w d
 for-of-part ts t form x k v w c d r q h i g y j vs =
@@ -166,7 +166,7 @@ list-goes ts t info x u vs w h i j e k =
     subst P i (same-action ts t e (list_row w (binding_at ts x.slot) u (later_of ts t e)) first w w (reduced.Iterates u) (list_if (is_array w u) first (fail classes.TypeError (codes "Value is not an array")) j)
     (λ s. iterates_does ts t e x u (with_world s w) (h ∙ ap (λ n. slice_get t.for_ofs.items n) (sym k))))
 
-pub list-fails : (ts : List (List ℕ)) (t : NodeTable) (info : ℕ) (b : Binding) (u : Value) (vs : List Value) (v w : World) (x : Stop) (q : Reduced) → u ≡ argument vs 0 → false ≡ is_array v u → Ends (fail classes.TypeError (codes "Value is not an array")) v x w → q ≡ stopped x →
+pub list-fails : (ts : List (List ℕ)) (t : NodeTable) (info : ℕ) (b : Binding) (u : Value) (vs : List Value) (v w : World) (x : ActionEnd) (q : Reduced) → u ≡ argument vs 0 → false ≡ is_array v u → Ends (fail classes.TypeError (codes "Value is not an array")) v x w → q ≡ stopped x →
     (e : Wide) → e.info ≡ info → DoesIn ts t e (list_row v b (only vs) (later_of ts t e)) v q w
 list-fails ts t info b u vs v w x q i j g m e k =
     let P : Value → Type 0 = λ y. DoesIn ts t e (list_row v b y (later_of ts t e)) v q w in
@@ -196,7 +196,7 @@ turn-none ts t form b list i w h vs =
     (ap (λ o. turn_row form.inner b i o (later_of ts t e)) (element_first w (done list) (trees ts t form.mid form.end) i ∙ sym h))
     (λ s. give-does ts t e values.Undefined (with_world s w))
 
-pub turn-part : (ts : List (List ℕ)) (t : NodeTable) (form : Redex) (x : ForOfEntry) (list u : Value) (i : ℕ) (y : Slot) (v w : World) (r : Result Addr Stop) (q : Reduced) → Some x ≡ slice_get t.for_ofs.items form.info → Some u ≡ elements_of v (one (done list)) i →
+pub turn-part : (ts : List (List ℕ)) (t : NodeTable) (form : Redex) (x : ForOfEntry) (list u : Value) (i : ℕ) (y : Slot) (v w : World) (r : Result Addr ActionEnd) (q : Reduced) → Some x ≡ slice_get t.for_ofs.items form.info → Some u ≡ elements_of v (one (done list)) i →
     y ≡ record x.slot { value = Some u } → Yields (new_scope scopes.Block [] form.inner (binding_at ts y ∷ [])) v r w → q ≡ answered_by (λ a. reduced.Iterated a) r →
     (vs : List Value) → IsTurn ts t (redex form vs (Some (extras.Turn list i))) (binding_at ts x.slot) v q w
 turn-part ts t form x list u i y v w r q h g j p m vs =

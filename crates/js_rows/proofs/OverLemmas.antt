@@ -7,7 +7,7 @@ use Rattle.js_heap.specs.World.{World}
 use Rattle.js_semantics.specs.Terms.{Term, more, settle}
 use Rattle.js_semantics.specs.State.{State, with_world, Action, go, give, Move}
 use Rattle.js_semantics.specs.Rows.{chosen, kept_or, otherwise}
-use Rattle.js_operations.specs.declared.stop.Stop.{Stop}
+use Rattle.js_operations.specs.declared.action_end.ActionEnd.{ActionEnd}
 use Rattle.js_operations.specs.Flow.{performed, Yields, Passes}
 use Rattle.js_operations.specs.Contexts.{Context, state_of, Turns}
 use Rattle.js_code.specs.declared.table.NodeTable.{NodeTable}
@@ -46,7 +46,7 @@ pub turns-does : (ts : List (List ℕ)) (t : NodeTable) (e : Wide) (f : Action �
 turns-does ts t e f a v w b c d r h g = λ taken. does-by ts t e (f a) a (state_of v b taken) (state_of v c taken) (state_of w d taken) r (h v taken a) (g taken)
 
 -- something that is made first
-pub yields-does : {A : Type 0} (ts : List (List ℕ)) (t : NodeTable) (e : Wide) (f : (A → Action) → Action) (k : A → Action) (g : A → Reduced) (v : World) (r : Result A Stop) (w : World) (q : Reduced) →
+pub yields-does : {A : Type 0} (ts : List (List ℕ)) (t : NodeTable) (e : Wide) (f : (A → Action) → Action) (k : A → Action) (g : A → Reduced) (v : World) (r : Result A ActionEnd) (w : World) (q : Reduced) →
     Yields f v r w → q ≡ answered_by g r → ((a : A) (s : State) → Does ts t e (k a) s (g a) s) → DoesIn ts t e (f k) v q w
 yields-does ts t e f k g v (Ok a) w q h i d =
     same-answer ts t e (f k) v w (g a) q i (λ s. does-by ts t e (f k) (k a) (with_world s v) (with_world s w) (with_world s w) (g a) (h s k) (d a (with_world s w)))
@@ -54,7 +54,7 @@ yields-does ts t e f k g v (Err x) w q h i d =
     same-answer ts t e (f k) v w (answered_by g (Err x)) q i (λ s. stops-does ts t e (f k) (with_world s v) x (with_world s w) (h s k))
 
 -- something that is done first
-pub passes-does : {A : Type 0} (ts : List (List ℕ)) (t : NodeTable) (e : Wide) (f : Action → Action) (k : Action) (g : A → Reduced) (v : World) (r : Result A Stop) (w : World) (q : Reduced) →
+pub passes-does : {A : Type 0} (ts : List (List ℕ)) (t : NodeTable) (e : Wide) (f : Action → Action) (k : Action) (g : A → Reduced) (v : World) (r : Result A ActionEnd) (w : World) (q : Reduced) →
     Passes f v r w → q ≡ answered_by g r → ((a : A) (s : State) → Does ts t e k s (g a) s) → DoesIn ts t e (f k) v q w
 passes-does ts t e f k g v (Ok a) w q h i d =
     same-answer ts t e (f k) v w (g a) q i (λ s. does-by ts t e (f k) k (with_world s v) (with_world s w) (with_world s w) (g a) (h s k) (d a (with_world s w)))

@@ -17,7 +17,7 @@ use Rattle.js_semantics.specs.Functions.{new_scope}
 use Rattle.js_world.specs.declared.stored.Slot.{Slot}
 use Rattle.js_world.specs.Cells.{bindings}
 use Rattle.js_semantics.specs.Rows.{only, chosen, kept_or, otherwise, script_row, block_row, catch_row, enter_row, initialize_row, choose_row, both_row, either_row}
-use Rattle.js_operations.specs.declared.stop.Stop.{Stop}
+use Rattle.js_operations.specs.declared.action_end.ActionEnd.{ActionEnd}
 use Rattle.js_operations.specs.Flow.{Yields, Passes}
 use Rattle.js_operations.specs.Contexts.{Context, state_of, Turns}
 use Rattle.js_code.specs.declared.table.NodeTable.{NodeTable}
@@ -43,7 +43,7 @@ enter-none t node from to c h = λ ts w e.
     same-row ts t e (enter_row node (trees ts t from to)) (give values.Undefined) w w c c (reduced.Gives values.Undefined) (ap (enter_row node) (no-trees ts t from to h))
     (λ taken. give-does ts t e values.Undefined (state_of w c taken))
 
-pub initialize-reply : (ts : List (List ℕ)) (scope : Addr) (name : List ℕ) (vs : List Value) (u : Value) (v : World) (r : Result (Unit {0}) Stop) (w : World) (q : Reduced) → u ≡ argument vs 0 → Passes (write scope (changes.Bind name u)) v r w → q ≡ replied_with r values.Undefined → Replies ts (initialize_row scope name vs) v q w
+pub initialize-reply : (ts : List (List ℕ)) (scope : Addr) (name : List ℕ) (vs : List Value) (u : Value) (v : World) (r : Result (Unit {0}) ActionEnd) (w : World) (q : Reduced) → u ≡ argument vs 0 → Passes (write scope (changes.Bind name u)) v r w → q ≡ replied_with r values.Undefined → Replies ts (initialize_row scope name vs) v q w
 initialize-reply ts scope name vs u v r w q i h e =
     let P : Value → Type 0 = λ x. Replies ts (write scope (changes.Bind name x) (give values.Undefined)) v q w in
     subst P i (passes-reply ts (write scope (changes.Bind name u)) values.Undefined v r w q h e)
@@ -112,7 +112,7 @@ script-none ts t number names from to v c h = λ e.
     same-row ts t e (script_row number names (trees ts t from to)) (give values.Undefined) v v c c (reduced.Gives values.Undefined) (ap (script_row number names) (no-trees ts t from to h))
     (λ taken. give-does ts t e values.Undefined (state_of v c taken))
 
-pub script-part : (ts : List (List ℕ)) (t : NodeTable) (number : ℕ) (names : List Binding) (from to k : ℕ) (v w : World) (c d : Context) (r : Result (Unit {0}) Stop) (q : Reduced) →
+pub script-part : (ts : List (List ℕ)) (t : NodeTable) (number : ℕ) (names : List Binding) (from to k : ℕ) (v w : World) (c d : Context) (r : Result (Unit {0}) ActionEnd) (q : Reduced) →
     Some k ≡ slice_get (kids_between t from to) 0 → Turns (entered_script number) c d → Passes (script_declared names (trees ts t (from + 1) to)) v r w → q ≡ answered_by (λ _. reduced.Uncovers k) r →
     RepliesOverWith ts t (script_row number names (trees ts t from to)) v c q w d
 script-part ts t number names from to k v w c d r q h g p j = λ e.
@@ -144,7 +144,7 @@ block-plain ts t scope [] from to k v h i = λ e.
     (λ s. uncovers-does ts t e k (with_world s v))
 block-plain ts t scope (x ∷ xs) from to k v h i = absurd (some_slots (length xs) i)
 
-pub block-part : (ts : List (List ℕ)) (t : NodeTable) (scope : Addr) (slots : List Slot) (from to k : ℕ) (v w : World) (r : Result Addr Stop) (q : Reduced) →
+pub block-part : (ts : List (List ℕ)) (t : NodeTable) (scope : Addr) (slots : List Slot) (from to k : ℕ) (v w : World) (r : Result Addr ActionEnd) (q : Reduced) →
     Some k ≡ slice_get (kids_between t from to) 0 → nat_eq (length slots) 0 ≡ false → Yields (scope_declared scopes.Block scope (bindings ts slots) (trees ts t (from + 1) to)) v r w → q ≡ answered_by (λ a. reduced.Scopes a k) r →
     RepliesOver ts t (block_row scope (bindings ts slots) (trees ts t from to)) v q w
 block-part ts t scope [] from to k v w r q h i y m = cc
@@ -173,7 +173,7 @@ catch-none ts t scope name thrown from to v h = λ e.
     same-action ts t e (catch_row scope (Some name) thrown (trees ts t from to)) (give values.Undefined) v v (reduced.Gives values.Undefined) (ap (catch_row scope (Some name) thrown) (no-trees ts t from to h))
     (λ s. give-does ts t e values.Undefined (with_world s v))
 
-pub catch-part : (ts : List (List ℕ)) (t : NodeTable) (scope : Addr) (name : List ℕ) (thrown : Value) (from to k : ℕ) (v w : World) (r : Result Addr Stop) (q : Reduced) →
+pub catch-part : (ts : List (List ℕ)) (t : NodeTable) (scope : Addr) (name : List ℕ) (thrown : Value) (from to k : ℕ) (v w : World) (r : Result Addr ActionEnd) (q : Reduced) →
     Some k ≡ slice_get (kids_between t from to) 0 → Yields (new_scope scopes.Catch [] scope (record { name = name; constant = false; value = Some thrown } ∷ [])) v r w → q ≡ answered_by (λ a. reduced.Scopes a k) r →
     RepliesOver ts t (catch_row scope (Some name) thrown (trees ts t from to)) v q w
 catch-part ts t scope name thrown from to k v w r q h y m = λ e.

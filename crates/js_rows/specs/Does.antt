@@ -5,8 +5,8 @@ use Rattle.js_heap.specs.World.{World}
 use Rattle.js_heap.specs.declared.computed.Computed.{Computed}
 use Rattle.js_semantics.specs.References.{with_result}
 use Rattle.js_semantics.specs.State.{State, with_world, Action, go}
-use Rattle.js_operations.specs.declared.stop.Stop.{Stop}
-use Rattle.js_operations.specs.declared.stop.Stop.TheVariants.{Raised, Given, Effect, Full, Memory}
+use Rattle.js_operations.specs.declared.action_end.ActionEnd.{ActionEnd}
+use Rattle.js_operations.specs.declared.action_end.ActionEnd.TheVariants.{Raised, Given, Effect, Full, Memory}
 use Rattle.js_operations.specs.Flow.{performed}
 use Rattle.js_operations.specs.Contexts.{Context, state_of}
 use Rattle.js_code.specs.declared.table.NodeTable.{NodeTable}
@@ -40,7 +40,7 @@ RepliesWith ts a v c r w d = (t : NodeTable) (e : Wide) → DoesWith ts t e a v 
 -- ---- what operations come to, as answers
 
 -- the answer where an action ends so
-abbrev pub stopped : Stop → Reduced
+abbrev pub stopped : ActionEnd → Reduced
 stopped (Raised v) = reduced.Raises v
 stopped (Given v) = reduced.Gives v
 stopped Effect = reduced.Effect
@@ -48,12 +48,12 @@ stopped (Full what) = reduced.Full what
 stopped Memory = reduced.Memory
 
 -- the answer where an action gives a value, or ends
-abbrev pub replied : Result Value Stop → Reduced
+abbrev pub replied : Result Value ActionEnd → Reduced
 replied (Ok v) = reduced.Gives v
 replied (Err e) = stopped e
 
 -- the answer where an action passes and gives this value, or ends
-abbrev pub replied_with : Result (Unit {0}) Stop → Value → Reduced
+abbrev pub replied_with : Result (Unit {0}) ActionEnd → Value → Reduced
 replied_with (Ok u) v = reduced.Gives v
 replied_with (Err e) v = stopped e
 
@@ -68,11 +68,11 @@ abbrev pub AssignsIt : List (List ℕ) → Computed → World → Reduced → Wo
 AssignsIt ts x v r w = (t : NodeTable) (e : Wide) → DoesIn ts t e (with_result x (λ old. go (assigned ts t e old))) v r w
 
 -- the answer where a callee was read, or the action ended
-abbrev pub calling : Result Value Stop → Reduced
+abbrev pub calling : Result Value ActionEnd → Reduced
 calling (Ok v) = reduced.Calls v
 calling (Err e) = stopped e
 
 -- the answer where an old value was read, or the action ended
-abbrev pub assigning : Result Value Stop → Reduced
+abbrev pub assigning : Result Value ActionEnd → Reduced
 assigning (Ok v) = reduced.Assigns v
 assigning (Err e) = stopped e

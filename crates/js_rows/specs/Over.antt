@@ -15,7 +15,7 @@ use Rattle.js_semantics.specs.Rows.{script_frame, turn_row, elements_of}
 use Rattle.js_semantics.specs.Functions.{new_scope, with_names, with_functions, function_cell, named_function, receiver_of}
 use Rattle.js_semantics.specs.References.{with_key}
 use Rattle.js_semantics.specs.declared.form.FunctionForm.{FunctionForm}
-use Rattle.js_operations.specs.declared.stop.Stop.{Stop}
+use Rattle.js_operations.specs.declared.action_end.ActionEnd.{ActionEnd}
 use Rattle.js_operations.specs.Contexts.{Context}
 use Rattle.js_code.specs.declared.table.NodeTable.{NodeTable}
 use Rattle.js_steps.specs.declared.reduced.Reduced.{Reduced}
@@ -73,7 +73,7 @@ pub record AddsTo (ts : List (List ℕ)) (t : NodeTable) (e : Wide) (ms : List M
 -- ---- answers by what is made for them
 
 -- the answer with what was made, or the end that its making came to
-abbrev pub answered_by : {A : Type 0} → (A → Reduced) → Result A Stop → Reduced
+abbrev pub answered_by : {A : Type 0} → (A → Reduced) → Result A ActionEnd → Reduced
 answered_by f (Ok a) = f a
 answered_by f (Err e) = stopped e
 

@@ -10,8 +10,8 @@ use Rattle.js_heap.specs.World.{World}
 use Rattle.js_semantics.specs.State.{Action, give, fail}
 use Rattle.js_semantics.specs.References.{Found, value_of_found, name_written, with_result, with_written}
 use Rattle.js_heap.specs.Operators.{update_result}
-use Rattle.js_operations.specs.declared.stop.Stop.{Stop}
-use Rattle.js_operations.specs.declared.stop.Stop.TheVariants.{Memory}
+use Rattle.js_operations.specs.declared.action_end.ActionEnd.{ActionEnd}
+use Rattle.js_operations.specs.declared.action_end.ActionEnd.TheVariants.{Memory}
 use Rattle.js_semantics.specs.Rows.{updated_by, update_value}
 use Rattle.js_rows.specs.declared.updates.Update.{Update}
 use Rattle.js_rows.specs.declared.updates.Update.TheVariants.{To, Fails}
@@ -55,6 +55,6 @@ abbrev pub name_updated : UpdateOperator → Bool → List ℕ → Option Found 
 name_updated o prefix name f = updated_by o (value_of_found name f) (λ old new. with_written (name_written name f new) (give (update_value prefix old new)))
 
 -- the end of a reading that gives no value
-abbrev pub unread : Result Value Stop → Stop
+abbrev pub unread : Result Value ActionEnd → ActionEnd
 unread (Ok v) = Memory
 unread (Err e) = e

@@ -4,24 +4,24 @@ ghost use Rattle.std.specs.Prelude.{◌≡◌};
 ghost use Rattle.js_rows.specs.Does.{stopped, replied, replied_with, calling, assigning};
 
 use js_heap::value::Value;
-use js_operations::stop::Stop;
+use js_operations::action_end::ActionEnd;
 use js_steps::reduced::Reduced;
 
 /// The end of an action.
-pub fn stopped(stop: Stop) -> Reduced
+pub fn stopped(stop: ActionEnd) -> Reduced
     ensures { result ≡ stopped stop }
 {
     match stop {
-        Stop::Raised(value) => Reduced::Raises(value),
-        Stop::Given(value) => Reduced::Gives(value),
-        Stop::Effect => Reduced::Effect,
-        Stop::Full(what) => Reduced::Full(what),
-        Stop::Memory => Reduced::Memory,
+        ActionEnd::Raised(value) => Reduced::Raises(value),
+        ActionEnd::Given(value) => Reduced::Gives(value),
+        ActionEnd::Effect => Reduced::Effect,
+        ActionEnd::Full(what) => Reduced::Full(what),
+        ActionEnd::Memory => Reduced::Memory,
     }
 }
 
 /// A value that is given, or the end of an action before that.
-pub fn replied(outcome: Result<Value, Stop>) -> Reduced
+pub fn replied(outcome: Result<Value, ActionEnd>) -> Reduced
     ensures { result ≡ replied outcome }
 {
     match outcome {
@@ -32,7 +32,7 @@ pub fn replied(outcome: Result<Value, Stop>) -> Reduced
 
 /// A value that is given once something is done, or the end of an action before that.
 #[inline(always)]
-pub fn replied_with(outcome: Result<(), Stop>, value: Value) -> Reduced
+pub fn replied_with(outcome: Result<(), ActionEnd>, value: Value) -> Reduced
     ensures { result ≡ replied_with outcome value }
 {
     match outcome {
@@ -43,7 +43,7 @@ pub fn replied_with(outcome: Result<(), Stop>, value: Value) -> Reduced
 
 /// A value that is called, or the end of an action before that.
 #[inline(always)]
-pub fn calling(outcome: Result<Value, Stop>) -> Reduced
+pub fn calling(outcome: Result<Value, ActionEnd>) -> Reduced
     ensures { result ≡ calling outcome }
 {
     match outcome {
@@ -54,7 +54,7 @@ pub fn calling(outcome: Result<Value, Stop>) -> Reduced
 
 /// An old value on which an operator is taken, or the end of an action before that.
 #[inline(always)]
-pub fn assigning(outcome: Result<Value, Stop>) -> Reduced
+pub fn assigning(outcome: Result<Value, ActionEnd>) -> Reduced
     ensures { result ≡ assigning outcome }
 {
     match outcome {

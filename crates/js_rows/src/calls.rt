@@ -24,13 +24,13 @@ use js_code::table::NodeTable;
 use js_heap::built_in::{BuiltIn, Code, ErrorClass};
 use js_heap::cell::ScopeKind;
 use js_heap::value::{Addr, Value};
+use js_operations::action_end::ActionEnd;
 use js_operations::built_ins::{built_in_call, line_value};
 use js_operations::context::Context;
 use js_operations::errors::fail_with;
 use js_operations::frame::Frame;
 use js_operations::functions::new_scope;
 use js_operations::shown::logged;
-use js_operations::stop::Stop;
 use js_semantics::form::{Mark, Source};
 use js_steps::reduced::Reduced;
 use js_steps::task::Redex;
@@ -54,7 +54,7 @@ pub struct Callee {
 /// The TypeError of a callee that is no function.
 #[cold]
 #[inline(never)]
-fn not_a_function<W: World>(alloc: Global, world: &mut W, names: &Names) -> Stop
+fn not_a_function<W: World>(alloc: Global, world: &mut W, names: &Names) -> ActionEnd
     ensures { Ends not_a_function (W.world names.now world.old) result (W.world names.now world.new) }
 {
     fail_with(
@@ -69,7 +69,7 @@ fn not_a_function<W: World>(alloc: Global, world: &mut W, names: &Names) -> Stop
 /// The RangeError of one frame too many.
 #[cold]
 #[inline(never)]
-fn too_deep<W: World>(alloc: Global, world: &mut W, names: &Names) -> Stop
+fn too_deep<W: World>(alloc: Global, world: &mut W, names: &Names) -> ActionEnd
     ensures { Ends too_deep (W.world names.now world.old) result (W.world names.now world.new) }
 {
     fail_with(
@@ -94,7 +94,7 @@ fn call_scope<W: World>(
     name: FunctionName,
     outer: Addr,
     arguments: &[Value],
-) -> Result<Addr, Stop>
+) -> Result<Addr, ActionEnd>
     ensures { Yields (call_scope (entry_code names.now table.now place entry.now) (name_text names.now name) outer arguments.now) (W.world names.now world.old) result (W.world names.now world.new) }
 {
     let slots = call_slots(

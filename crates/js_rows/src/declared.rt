@@ -15,8 +15,8 @@ use js_code::node::FunctionEntry;
 use js_code::op::Op;
 use js_code::table::NodeTable;
 use js_heap::value::Addr;
+use js_operations::action_end::ActionEnd;
 use js_operations::functions::declared_function;
-use js_operations::stop::Stop;
 use js_world::names::Names;
 use js_world::world::World;
 use std::alloc::Global;
@@ -28,11 +28,11 @@ fn declare_entry<W: World>(
     names: &Names,
     scope: Addr,
     entry: &FunctionEntry,
-) -> Result<(), Stop>
+) -> Result<(), ActionEnd>
     ensures { Passes (declared names.now scope entry.now) (W.world names.now world.old) result (W.world names.now world.new) }
 {
     let Ok(length) = u32::try_from(entry.parameters.len()) else {
-        return Err(Stop::Memory);
+        return Err(ActionEnd::Memory);
     };
     declared_function(alloc, world, names, scope, entry.code, length, entry.name)
 }
@@ -71,7 +71,7 @@ fn with_function<W: World>(
     table: &NodeTable,
     scope: Addr,
     part: u32,
-) -> Result<(), Stop>
+) -> Result<(), ActionEnd>
     ensures { Passes (with_functions scope (one (tree names.now table.now part))) (W.world names.now world.old) result (W.world names.now world.new) }
 {
     match entry_of_part(table, part) {
@@ -90,7 +90,7 @@ pub fn with_functions<W: World>(
     scope: Addr,
     from: u32,
     to: u32,
-) -> Result<(), Stop>
+) -> Result<(), ActionEnd>
     ensures { Passes (with_functions scope (trees names.now table.now from to)) (W.world names.now world.old) result (W.world names.now world.new) }
 {
     let parts = parts_between(table, from, to);

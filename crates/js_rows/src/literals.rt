@@ -32,6 +32,7 @@ use js_code::table::NodeTable;
 use js_heap::built_in::ErrorClass;
 use js_heap::cell::Values;
 use js_heap::value::{Addr, Value};
+use js_operations::action_end::ActionEnd;
 use js_operations::built_ins::new_array;
 use js_operations::cells::make;
 use js_operations::context::Context;
@@ -39,7 +40,6 @@ use js_operations::errors::{bad_key, fail_with};
 use js_operations::functions::{make_function, named_function};
 use js_operations::lists::last_of;
 use js_operations::seen::Seen;
-use js_operations::stop::Stop;
 use js_steps::reduced::Reduced;
 use js_steps::task::Redex;
 use js_values::operators::key_of;
@@ -56,7 +56,7 @@ fn array_of<W: World>(
     names: &Names,
     world: &mut W,
     values: &[Value],
-) -> Result<Value, Stop>
+) -> Result<Value, ActionEnd>
     ensures { Gives (make (cells.Array values.now) (λ a. give (value.Object a))) (W.world names.now world.old) result (W.world names.now world.new) }
 {
     let elements = Values::from_vec(Vec::from_slice(alloc, values)?);
@@ -101,7 +101,7 @@ fn nameless_function<W: World>(
     scope: Addr,
     entry: &FunctionEntry,
     receiver: Value,
-) -> Result<Addr, Stop>
+) -> Result<Addr, ActionEnd>
     ensures { Yields (make (function_cell (function_of names.now entry.now) (name_of names.now entry.now.name.number) scope receiver)) (W.world names.now world.old) result (W.world names.now world.new) }
 {
     let count = parameter_count(entry)?;
@@ -118,7 +118,7 @@ fn own_function<W: World>(
     world: &mut W,
     scope: Addr,
     entry: &FunctionEntry,
-) -> Result<Value, Stop>
+) -> Result<Value, ActionEnd>
     ensures { Gives (named_function (function_of names.now entry.now) scope) (W.world names.now world.old) result (W.world names.now world.new) }
 {
     let count = parameter_count(entry)?;
@@ -133,7 +133,7 @@ fn plain_function<W: World>(
     scope: Addr,
     entry: &FunctionEntry,
     receiver: Value,
-) -> Result<Value, Stop>
+) -> Result<Value, ActionEnd>
     ensures { Gives (make (function_cell (function_of names.now entry.now) (name_of names.now entry.now.name.number) scope receiver) (λ a. give (value.Object a))) (W.world names.now world.old) result (W.world names.now world.new) }
 {
     let a = nameless_function(alloc, names, world, scope, entry, receiver)?;
@@ -148,7 +148,7 @@ fn made_function<W: World>(
     scope: Addr,
     entry: &FunctionEntry,
     this: Value,
-) -> Result<Value, Stop>
+) -> Result<Value, ActionEnd>
     ensures { Gives (function_made (function_of names.now entry.now) scope this) (W.world names.now world.old) result (W.world names.now world.new) }
 {
     if entry.is_named {
@@ -228,7 +228,7 @@ fn object_or_fail<W: World>(
     names: &Names,
     world: &mut W,
     properties: Option<PropertyMap>,
-) -> Result<Value, Stop>
+) -> Result<Value, ActionEnd>
     ensures { Gives (object_or_fail properties) (W.world names.now world.old) result (W.world names.now world.new) }
 {
     match properties {
@@ -253,7 +253,7 @@ fn object_of<W: World>(
     world: &mut W,
     members: &[MemberEntry],
     values: &[Value],
-) -> Result<Value, Stop>
+) -> Result<Value, ActionEnd>
     ensures { Gives (object_or_fail (properties_from (W.world names.now world.old) [] (members_of names.now members.now) values.now)) (W.world names.now world.old) result (W.world names.now world.new) }
 {
     let properties = properties_from(alloc, names, &*world, members, values)?;
@@ -270,7 +270,7 @@ fn keyed_method<W: World>(
     scope: Addr,
     entry: &FunctionEntry,
     key: Units,
-) -> Result<Addr, Stop>
+) -> Result<Addr, ActionEnd>
     ensures { Yields (make (function_cell (function_of names.now entry.now) key scope value.Undefined)) (W.world names.now world.old) result (W.world names.now world.new) }
 {
     let count = parameter_count(entry)?;
@@ -289,7 +289,7 @@ fn made_method<W: World>(
     scope: Addr,
     entry: &FunctionEntry,
     key: Value,
-) -> Result<Addr, Stop>
+) -> Result<Addr, ActionEnd>
     ensures { Yields (method_made (key_of (W.world names.now world.old) key) (function_of names.now entry.now) scope) (W.world names.now world.old) result (W.world names.now world.new) }
 {
     let seen = Seen {
@@ -303,7 +303,7 @@ fn made_method<W: World>(
 }
 
 /// An object literal behind a method that is made.
-fn adds_in(outcome: Result<Addr, Stop>) -> Reduced
+fn adds_in(outcome: Result<Addr, ActionEnd>) -> Reduced
     ensures { result ≡ answered_by (λ a. reduced.Adds (value.Object a)) outcome }
 {
     match outcome {

@@ -29,12 +29,12 @@ use js_code::table::NodeTable;
 use js_heap::built_in::ErrorClass;
 use js_heap::cell::ScopeKind;
 use js_heap::value::{Addr, Value};
+use js_operations::action_end::ActionEnd;
 use js_operations::context::Context;
 use js_operations::errors::fail_with;
 use js_operations::functions::copied;
 use js_operations::lists::is_array;
 use js_operations::seen::Seen;
-use js_operations::stop::Stop;
 use js_semantics::form::Mark;
 use js_steps::reduced::Reduced;
 use js_steps::task::Redex;
@@ -67,7 +67,7 @@ pub fn loop_test<W: World>(names: &Names, world: &W, values: &[Value]) -> Reduce
 }
 
 /// A test in a new scope that is made.
-fn tests_in(outcome: Result<Addr, Stop>) -> Reduced
+fn tests_in(outcome: Result<Addr, ActionEnd>) -> Reduced
     ensures { result ≡ answered_by (λ a. reduced.Tests a) outcome }
 {
     match outcome {
@@ -77,7 +77,7 @@ fn tests_in(outcome: Result<Addr, Stop>) -> Reduced
 }
 
 /// An update in a new scope that is made.
-fn updates_in(outcome: Result<Addr, Stop>) -> Reduced
+fn updates_in(outcome: Result<Addr, ActionEnd>) -> Reduced
     ensures { result ≡ answered_by (λ a. reduced.Updates a) outcome }
 {
     match outcome {
@@ -121,7 +121,7 @@ pub fn loop_body<W: World>(
 // ---- for
 
 /// An initialiser in the scope of the names that is made.
-fn initializes_in(outcome: Result<Addr, Stop>, constant: bool) -> Reduced
+fn initializes_in(outcome: Result<Addr, ActionEnd>, constant: bool) -> Reduced
     ensures { result ≡ answered_by (λ a. reduced.Initializes constant a) outcome }
 {
     match outcome {
@@ -166,7 +166,7 @@ pub fn enter_for<W: World>(
 // ---- for .. of
 
 /// A list in a scope that is made.
-fn lists_in(outcome: Result<Addr, Stop>) -> Reduced
+fn lists_in(outcome: Result<Addr, ActionEnd>) -> Reduced
     ensures { result ≡ answered_by (λ a. reduced.Lists a) outcome }
 {
     match outcome {
@@ -293,7 +293,7 @@ fn turn_slot(slot: Slot, value: Value) -> Slot
 }
 
 /// A turn in a scope that is made.
-fn iterated_in(outcome: Result<Addr, Stop>) -> Reduced
+fn iterated_in(outcome: Result<Addr, ActionEnd>) -> Reduced
     ensures { result ≡ answered_by (λ a. reduced.Iterated a) outcome }
 {
     match outcome {

@@ -14,10 +14,10 @@ ghost use Rattle.js_rows.specs.Does.{Replies};
 
 use crate::answers::replied;
 use js_heap::value::Value;
+use js_operations::action_end::ActionEnd;
 use js_operations::errors::with_result;
 use js_operations::lists::argument;
 use js_operations::seen::Seen;
-use js_operations::stop::Stop;
 use js_operators::operator::{BinaryOperator, UnaryOperator};
 use js_steps::reduced::Reduced;
 use js_values::numbers::{shift_count, shifted_right, to_signed, to_unsigned};
@@ -152,14 +152,14 @@ fn binary_slowly<W: World>(
     operator: BinaryOperator,
     left: Value,
     right: Value,
-) -> Result<Value, Stop>
+) -> Result<Value, ActionEnd>
     ensures { Yields (with_result (binary_result (W.world names.now world.old) operator left right)) (W.world names.now world.old) result (W.world names.now world.new) }
 {
     if !is_safe(left) {
-        return Err(Stop::Memory);
+        return Err(ActionEnd::Memory);
     }
     if !is_safe(right) {
-        return Err(Stop::Memory);
+        return Err(ActionEnd::Memory);
     }
     let computed = binary_result(
         alloc,
@@ -184,7 +184,7 @@ fn binary_value<W: World>(
     operator: BinaryOperator,
     left: Value,
     right: Value,
-) -> Result<Value, Stop>
+) -> Result<Value, ActionEnd>
     ensures { Yields (with_result (binary_result (W.world names.now world.old) operator left right)) (W.world names.now world.old) result (W.world names.now world.new) }
 {
     match quick_result(operator, left, right) {
@@ -218,11 +218,11 @@ fn unary_value<W: World>(
     names: &Names,
     operator: UnaryOperator,
     value: Value,
-) -> Result<Value, Stop>
+) -> Result<Value, ActionEnd>
     ensures { Yields (with_result (unary_result (W.world names.now world.old) operator value)) (W.world names.now world.old) result (W.world names.now world.new) }
 {
     if !is_safe(value) {
-        return Err(Stop::Memory);
+        return Err(ActionEnd::Memory);
     }
     let computed = unary_result(
         alloc,

@@ -16,9 +16,9 @@ use crate::reading::{index_value, member_value};
 use crate::values::value_at;
 use crate::writing::{put_index_value, put_member_value};
 use js_heap::value::Value;
+use js_operations::action_end::ActionEnd;
 use js_operations::lists::last_of;
 use js_operations::properties::{remove_index, remove_property};
-use js_operations::stop::Stop;
 use js_steps::reduced::Reduced;
 use js_world::names::{NameId, Names};
 use js_world::world::World;
@@ -117,7 +117,7 @@ fn delete_own<W: World>(
     names: &Names,
     object: Value,
     key: NameId,
-) -> Result<(), Stop>
+) -> Result<(), ActionEnd>
     ensures { Passes (with_written (property_deleted (W.world names.now world.old) object (name_of names.now key.number))) (W.world names.now world.old) result (W.world names.now world.new) }
 {
     let text = names.text(key)?;

@@ -15,9 +15,9 @@ ghost use Rattle.js_operations.specs.References.{indexed};
 
 use crate::names::value_of_name;
 use js_heap::value::{Addr, Value};
+use js_operations::action_end::ActionEnd;
 use js_operations::names::get_name;
 use js_operations::properties::{get_index, get_property};
-use js_operations::stop::Stop;
 use js_world::names::{NameId, Names};
 use js_world::stored::Stored;
 use js_world::world::World;
@@ -33,7 +33,7 @@ fn name_slowly<W: World>(
     names: &Names,
     scope: Addr,
     name: NameId,
-) -> Result<Value, Stop>
+) -> Result<Value, ActionEnd>
     ensures { Yields (with_result (value_of_found (name_of names.now name.number) (found (W.world names.now world.old) scope (name_of names.now name.number)))) (W.world names.now world.old) result (W.world names.now world.new) }
 {
     get_name(alloc, world, names, scope, name)
@@ -48,7 +48,7 @@ pub fn name_value<W: World>(
     names: &Names,
     scope: Addr,
     name: NameId,
-) -> Result<Value, Stop>
+) -> Result<Value, ActionEnd>
     ensures { Yields (with_result (value_of_found (name_of names.now name.number) (found (W.world names.now world.old) scope (name_of names.now name.number)))) (W.world names.now world.old) result (W.world names.now world.new) }
 {
     match value_of_name(world, names, scope, name) {
@@ -101,7 +101,7 @@ fn member_slowly<W: World>(
     names: &Names,
     object: Value,
     key: NameId,
-) -> Result<Value, Stop>
+) -> Result<Value, ActionEnd>
     ensures { Yields (with_result (property_of (W.world names.now world.old) object (name_of names.now key.number))) (W.world names.now world.old) result (W.world names.now world.new) }
 {
     let text = names.text(key)?;
@@ -117,7 +117,7 @@ pub fn member_value<W: World>(
     names: &Names,
     object: Value,
     key: NameId,
-) -> Result<Value, Stop>
+) -> Result<Value, ActionEnd>
     ensures { Yields (with_result (property_of (W.world names.now world.old) object (name_of names.now key.number))) (W.world names.now world.old) result (W.world names.now world.new) }
 {
     match value_of_member(world, names, object, key) {
@@ -203,7 +203,7 @@ fn index_slowly<W: World>(
     names: &Names,
     object: Value,
     index: Value,
-) -> Result<Value, Stop>
+) -> Result<Value, ActionEnd>
     ensures { Yields (indexed (W.world names.now world.old) object index) (W.world names.now world.old) result (W.world names.now world.new) }
 {
     get_index(alloc, world, names, object, index)
@@ -218,7 +218,7 @@ pub fn index_value<W: World>(
     names: &Names,
     object: Value,
     index: Value,
-) -> Result<Value, Stop>
+) -> Result<Value, ActionEnd>
     ensures { Yields (indexed (W.world names.now world.old) object index) (W.world names.now world.old) result (W.world names.now world.new) }
 {
     match value_of_index(world, names, object, index) {

@@ -11,8 +11,8 @@ use crate::declared::with_functions;
 use js_code::table::NodeTable;
 use js_heap::cell::ScopeKind;
 use js_heap::value::Addr;
+use js_operations::action_end::ActionEnd;
 use js_operations::functions::new_scope;
-use js_operations::stop::Stop;
 use js_world::names::Names;
 use js_world::stored::{FunctionName, Slot, Slots};
 use js_world::world::World;
@@ -26,7 +26,7 @@ pub fn nameless_scope<W: World>(
     kind: ScopeKind,
     outer: Addr,
     slots: &[Slot],
-) -> Result<Addr, Stop>
+) -> Result<Addr, ActionEnd>
     ensures { Yields (new_scope kind [] outer (bindings names.now slots.now)) (W.world names.now world.old) result (W.world names.now world.new) }
 {
     let slots = Slots::from_vec(Vec::from_slice(alloc, slots)?);
@@ -44,7 +44,7 @@ pub fn scope_with<W: World>(
     slots: &[Slot],
     from: u32,
     to: u32,
-) -> Result<Addr, Stop>
+) -> Result<Addr, ActionEnd>
     ensures { Yields (scope_declared kind outer (bindings names.now slots.now) (trees names.now table.now from to)) (W.world names.now world.old) result (W.world names.now world.new) }
 {
     let scope = nameless_scope(alloc, names, world, kind, outer, slots)?;

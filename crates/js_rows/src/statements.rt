@@ -21,12 +21,12 @@ use js_code::node::ScriptEntry;
 use js_code::table::NodeTable;
 use js_heap::cell::ScopeKind;
 use js_heap::value::{Addr, Value};
+use js_operations::action_end::ActionEnd;
 use js_operations::cells::bind;
 use js_operations::context::Context;
 use js_operations::frame::Frame;
 use js_operations::functions::with_names;
 use js_operations::seen::Seen;
-use js_operations::stop::Stop;
 use js_semantics::form::{Mark, Source};
 use js_steps::reduced::Reduced;
 use js_steps::task::Redex;
@@ -161,7 +161,7 @@ pub fn either<W: World>(
 // ---- scripts and blocks
 
 /// A kept part that is uncovered once something is done.
-fn uncovered_after(outcome: Result<(), Stop>, part: u32) -> Reduced
+fn uncovered_after(outcome: Result<(), ActionEnd>, part: u32) -> Reduced
     ensures { result ≡ answered_by (λ _. reduced.Uncovers part) outcome }
 {
     match outcome {
@@ -171,7 +171,7 @@ fn uncovered_after(outcome: Result<(), Stop>, part: u32) -> Reduced
 }
 
 /// A kept part that is uncovered in a scope that is made.
-fn scoped(outcome: Result<Addr, Stop>, part: u32) -> Reduced
+fn scoped(outcome: Result<Addr, ActionEnd>, part: u32) -> Reduced
     ensures { result ≡ answered_by (λ a. reduced.Scopes a part) outcome }
 {
     match outcome {
@@ -211,7 +211,7 @@ fn declare_script<W: World>(
     slots: &[Slot],
     from: u32,
     to: u32,
-) -> Result<(), Stop>
+) -> Result<(), ActionEnd>
     ensures { Passes (script_declared (bindings names.now slots.now) (trees names.now table.now from to)) (W.world names.now world.old) result (W.world names.now world.new) }
 {
     let scope = Addr::Base(1);

@@ -25,12 +25,12 @@ use js_code::op::UpdateKind;
 use js_heap::built_in::ErrorClass;
 use js_heap::computed::Computed;
 use js_heap::value::{Addr, Value};
+use js_operations::action_end::ActionEnd;
 use js_operations::cells::bind_at;
 use js_operations::errors::{bad_key, fail};
 use js_operations::names::{get_name, put_name};
 use js_operations::properties::put_property;
 use js_operations::seen::Seen;
-use js_operations::stop::Stop;
 use js_operators::operator::{BinaryOperator, UpdateOperator};
 use js_steps::reduced::Reduced;
 use js_values::operators::{key_of, update_result};
@@ -151,7 +151,7 @@ fn update_property<W: World>(
     prefix: bool,
     object: Value,
     key: &[u16],
-) -> Result<Value, Stop>
+) -> Result<Value, ActionEnd>
     ensures { Gives (property_updated (W.world names.now world.old) operator prefix object key.now) (W.world names.now world.old) result (W.world names.now world.new) }
 {
     match read_updated(alloc, world, names, operator, object, key)? {
@@ -172,7 +172,7 @@ pub fn update_index_slowly<W: World>(
     prefix: bool,
     object: Value,
     index: Value,
-) -> Result<Value, Stop>
+) -> Result<Value, ActionEnd>
     ensures { Gives (index_updated (W.world names.now world.old) operator prefix object index) (W.world names.now world.old) result (W.world names.now world.new) }
 {
     let key = key_of(
@@ -209,7 +209,7 @@ fn update_member_slowly<W: World>(
     prefix: bool,
     object: Value,
     key: NameId,
-) -> Result<Value, Stop>
+) -> Result<Value, ActionEnd>
     ensures { Gives (property_updated (W.world names.now world.old) operator prefix object (name_of names.now key.number)) (W.world names.now world.old) result (W.world names.now world.new) }
 {
     let text = names.text(key)?;
@@ -310,7 +310,7 @@ fn update_old_name<W: World>(
     scope: Addr,
     name: NameId,
     old: Value,
-) -> Result<Value, Stop>
+) -> Result<Value, ActionEnd>
     ensures { Gives (old_updated operator prefix (name_of names.now name.number) (found (W.world names.now world.old) scope (name_of names.now name.number)) old) (W.world names.now world.old) result (W.world names.now world.new) }
 {
     match updated_value(alloc, operator, old)? {
@@ -323,11 +323,11 @@ fn update_old_name<W: World>(
 }
 
 /// The end of a reading that gives no value.
-fn unread(outcome: Result<Value, Stop>) -> Stop
+fn unread(outcome: Result<Value, ActionEnd>) -> ActionEnd
     ensures { result ≡ unread outcome }
 {
     match outcome {
-        Ok(_) => Stop::Memory,
+        Ok(_) => ActionEnd::Memory,
         Err(stop) => stop,
     }
 }
@@ -342,7 +342,7 @@ fn update_name_slowly<W: World>(
     prefix: bool,
     scope: Addr,
     name: NameId,
-) -> Result<Value, Stop>
+) -> Result<Value, ActionEnd>
     ensures { Gives (name_updated operator prefix (name_of names.now name.number) (found (W.world names.now world.old) scope (name_of names.now name.number))) (W.world names.now world.old) result (W.world names.now world.new) }
 {
     match value_of_name(world, names, scope, name) {

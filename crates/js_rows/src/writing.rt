@@ -14,9 +14,9 @@ ghost use Rattle.js_rows.specs.References.{is_object_cell, has_place};
 
 use crate::reading::index_of;
 use js_heap::value::{Addr, Value};
+use js_operations::action_end::ActionEnd;
 use js_operations::cells::{put, put_element};
 use js_operations::properties::{put_index, put_property};
-use js_operations::stop::Stop;
 use js_world::names::{NameId, Names};
 use js_world::stored::Stored;
 use js_world::world::World;
@@ -52,7 +52,7 @@ fn put_member_slowly<W: World>(
     object: Value,
     key: NameId,
     value: Value,
-) -> Result<(), Stop>
+) -> Result<(), ActionEnd>
     ensures { Passes (with_written (property_written (W.world names.now world.old) object (name_of names.now key.number) value)) (W.world names.now world.old) result (W.world names.now world.new) }
 {
     let text = names.text(key)?;
@@ -66,7 +66,7 @@ fn put_own<W: World>(
     a: Addr,
     key: NameId,
     value: Value,
-) -> Result<(), Stop>
+) -> Result<(), ActionEnd>
     ensures { Passes (write a (changes.Put (name_of names.now key.number) value)) (W.world names.now world.old) result (W.world names.now world.new) }
 {
     let text = names.text(key)?;
@@ -82,7 +82,7 @@ pub fn put_member_value<W: World>(
     object: Value,
     key: NameId,
     value: Value,
-) -> Result<(), Stop>
+) -> Result<(), ActionEnd>
     ensures { Passes (with_written (property_written (W.world names.now world.old) object (name_of names.now key.number) value)) (W.world names.now world.old) result (W.world names.now world.new) }
 {
     let Value::Object(a) = object else {
@@ -125,7 +125,7 @@ fn put_index_slowly<W: World>(
     object: Value,
     index: Value,
     value: Value,
-) -> Result<(), Stop>
+) -> Result<(), ActionEnd>
     ensures { Passes (index_written (W.world names.now world.old) object index value) (W.world names.now world.old) result (W.world names.now world.new) }
 {
     put_index(alloc, world, names, object, index, value)
@@ -140,7 +140,7 @@ pub fn put_index_value<W: World>(
     object: Value,
     index: Value,
     value: Value,
-) -> Result<(), Stop>
+) -> Result<(), ActionEnd>
     ensures { Passes (index_written (W.world names.now world.old) object index value) (W.world names.now world.old) result (W.world names.now world.new) }
 {
     let Value::Object(a) = object else {

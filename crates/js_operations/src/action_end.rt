@@ -1,7 +1,7 @@
 //! How an action ends before it goes on.
 
 ghost use Rattle.std.specs.Prelude.{◌≡◌};
-ghost use Rattle.js_operations.specs.declared.stop.Stop.TheVariants.{Memory as memory};
+ghost use Rattle.js_operations.specs.declared.action_end.ActionEnd.TheVariants.{Memory as memory};
 
 use js_heap::change::Counted;
 use js_heap::value::Value;
@@ -9,7 +9,7 @@ use std::alloc::{AllocError, AllocFailed};
 
 /// Why an action doesn't go on.
 #[derive(Clone, Copy, Debug, PartialEq, Eq)]
-pub enum Stop {
+pub enum ActionEnd {
     /// It raises a value.
     Raised(Value),
     /// It ends, giving a value.
@@ -22,18 +22,18 @@ pub enum Stop {
     Memory,
 }
 
-impl From<AllocError> for Stop {
+impl From<AllocError> for ActionEnd {
     ghost from_gives = { λ _ e. e ≡ memory };
 
-    fn from(_error: AllocError) -> Stop {
-        Stop::Memory
+    fn from(_error: AllocError) -> ActionEnd {
+        ActionEnd::Memory
     }
 }
 
-impl<T: Drop> From<AllocFailed<T>> for Stop {
+impl<T: Drop> From<AllocFailed<T>> for ActionEnd {
     ghost from_gives = { λ _ e. e ≡ memory };
 
-    fn from(_error: AllocFailed<T>) -> Stop {
-        Stop::Memory
+    fn from(_error: AllocFailed<T>) -> ActionEnd {
+        ActionEnd::Memory
     }
 }
