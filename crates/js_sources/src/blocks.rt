@@ -19,7 +19,7 @@ use js_terms::term::{Term, Terms, end, one, part};
 use js_tree::tree::{Block, Catch, Stmts};
 use std::alloc::{AllocError, Global};
 
-// a block
+/// A block.
 #[cycle(source)]
 #[tactic(auto, using(js_programs::proofs::SourceLaws::source_block_body))]
 pub fn block_term<'a>(alloc: Global, block: &Block, place: Place<'a>) -> Result<Term, AllocError>
@@ -30,7 +30,7 @@ pub fn block_term<'a>(alloc: Global, block: &Block, place: Place<'a>) -> Result<
     block_of(alloc, &block.body, statements, functions)
 }
 
-// a block of what its statements and functions are
+/// A block of what its statements and functions are.
 fn block_of(
     alloc: Global,
     body: &Stmts,
@@ -44,7 +44,7 @@ fn block_of(
     part(alloc, Form::Block(names), end(alloc), later)
 }
 
-// a block with what catches its errors
+/// A block with what catches its errors.
 #[cycle(source)]
 #[tactic(auto, using(js_programs::proofs::SourceLaws::source_catch))]
 pub fn caught_term<'a>(
@@ -64,7 +64,7 @@ pub fn caught_term<'a>(
     }
 }
 
-// a block that catches the errors of a term
+/// A block that catches the errors of a term.
 fn catching(
     alloc: Global,
     name: &Option<Units>,
@@ -87,7 +87,7 @@ fn optional_name(name: &Option<Units>) -> Result<Option<Units>, AllocError>
     }
 }
 
-// a term with the block that finishes after it
+/// A term with the block that finishes after it.
 #[cycle(source)]
 pub fn finally_term<'a>(
     alloc: Global,
@@ -106,7 +106,7 @@ pub fn finally_term<'a>(
     }
 }
 
-// a block that is run after a term
+/// A block that is run after a term.
 fn finishing(alloc: Global, term: Term, block: Term) -> Result<Term, AllocError>
     ensures { IfOk result (λ t. term_view t ≡ semantics.part forms.Finishing (semantics.one (term_view term)) (semantics.one (term_view block))) }
 {

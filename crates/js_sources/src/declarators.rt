@@ -17,7 +17,7 @@ use js_terms::term::{Term, Terms, end, one, part, terms_of};
 use js_tree::tree::{Declarator, Declarators, Expr};
 use std::alloc::{AllocError, Global};
 
-// the declarators of a `let` or `const`
+/// The declarators of a `let` or `const`.
 #[cycle(source)]
 #[tactic(auto, using(js_programs::proofs::SourceLaws::declarator_laws))]
 pub fn declarators_term<'a>(
@@ -55,14 +55,14 @@ fn declarator<'a>(alloc: Global, d: &Declarator, place: Place<'a>) -> Result<Ter
     initialize(alloc, &d.name, value)
 }
 
-// a name that is given its value
+/// A name that is given its value.
 fn initialize(alloc: Global, name: &Units, value: Terms) -> Result<Term, AllocError>
     ensures { IfOk result (λ t. term_view t ≡ semantics.part (forms.Initialize name.now) (terms_view value) semantics.end) }
 {
     part(alloc, Form::Initialize(name.clone()?), value, end(alloc))
 }
 
-// a value that may be absent, where a part gives a name
+/// A value that may be absent, where a part gives a name.
 #[cycle(source)]
 fn named_terms<'a>(alloc: Global, e: &Option<Expr>, place: Place<'a>) -> Result<Terms, AllocError>
     ensures { IfOk result (λ ts. terms_view ts ≡ initialized (option_map expression_source e.now) (context_of place.entry)) }

@@ -24,7 +24,7 @@ use js_terms::term::{Term, Terms, done, end, leaf, one, part, terms_of, two};
 use js_tree::tree::{Expr, Exprs};
 use std::alloc::{AllocError, Global};
 
-// an expression
+/// An expression.
 #[cycle(source)]
 pub fn expression_term<'a>(alloc: Global, e: &Expr, place: Place<'a>) -> Result<Term, AllocError>
     ensures { IfOk result (λ t. term_view t ≡ (expression_source e.now).term (context_of place.entry)) }
@@ -156,14 +156,14 @@ pub fn expression_term<'a>(alloc: Global, e: &Expr, place: Place<'a>) -> Result<
     }
 }
 
-// an array literal
+/// An array literal.
 fn array_term(alloc: Global, elements: Terms) -> Result<Term, AllocError>
     ensures { IfOk result (λ t. term_view t ≡ semantics.part forms.Array (terms_view elements) semantics.end) }
 {
     part(alloc, Form::Array, elements, end(alloc))
 }
 
-// a property with a fixed key
+/// A property with a fixed key.
 fn member_term(alloc: Global, object: Term, name: &Units) -> Result<Term, AllocError>
     ensures { IfOk result (λ t. term_view t ≡ semantics.part (forms.Read (references.Member name.now)) (semantics.one (term_view object)) semantics.end) }
 {
@@ -176,7 +176,7 @@ fn member_term(alloc: Global, object: Term, name: &Units) -> Result<Term, AllocE
     )
 }
 
-// a property with a computed key
+/// A property with a computed key.
 fn index_term(alloc: Global, object: Term, key: Term) -> Result<Term, AllocError>
     ensures { IfOk result (λ t. term_view t ≡ semantics.part (forms.Read references.Index) (semantics.more (term_view object) (semantics.one (term_view key))) semantics.end) }
 {
@@ -184,7 +184,7 @@ fn index_term(alloc: Global, object: Term, key: Term) -> Result<Term, AllocError
     part(alloc, Form::Read(Reference::Index), parts, end(alloc))
 }
 
-// a part of an expression or a statement, which gives no name
+/// A part of an expression or a statement, which gives no name.
 #[cycle(source)]
 pub fn part_term<'a>(alloc: Global, e: &Expr, place: Place<'a>) -> Result<Term, AllocError>
     ensures { IfOk result (λ t. term_view t ≡ makers.plain (expression_source e.now) (context_of place.entry)) }
@@ -192,7 +192,7 @@ pub fn part_term<'a>(alloc: Global, e: &Expr, place: Place<'a>) -> Result<Term, 
     expression_term(alloc, e, unnamed(place))
 }
 
-// parts that follow one another
+/// Parts that follow one another.
 #[cycle(source)]
 #[tactic(auto, using(js_programs::proofs::SourceLaws::list_laws))]
 pub fn parts_terms<'a>(alloc: Global, es: &Exprs, place: Place<'a>) -> Result<Terms, AllocError>

@@ -23,7 +23,7 @@ use js_tree::names::Names;
 use js_tree::tree::{ArrowParameters, Expr, Stmts};
 use std::alloc::{AllocError, Global};
 
-// a function expression with what its body is
+/// A function expression with what its body is.
 pub fn function_term<'a>(
     alloc: Global,
     node: u32,
@@ -39,7 +39,7 @@ pub fn function_term<'a>(
     part(alloc, Form::Function(form), end(alloc), later)
 }
 
-// an arrow whose body declares these names
+/// An arrow whose body declares these names.
 pub fn arrow_term<'a>(
     alloc: Global,
     node: u32,
@@ -54,7 +54,7 @@ pub fn arrow_term<'a>(
     part(alloc, Form::Function(form), end(alloc), later)
 }
 
-// an arrow with a block as its body
+/// An arrow with a block as its body.
 pub fn block_arrow_term<'a>(
     alloc: Global,
     node: u32,
@@ -69,7 +69,7 @@ pub fn block_arrow_term<'a>(
     arrow_term(alloc, node, parameters, names, place, later)
 }
 
-// a method with a key that is known, or a declared function, with what its body is
+/// A method with a key that is known, or a declared function, with what its body is.
 fn named_term(
     alloc: Global,
     node: u32,
@@ -85,7 +85,7 @@ fn named_term(
     part(alloc, Form::Function(form), end(alloc), later)
 }
 
-// a body before the functions that it declares
+/// A body before the functions that it declares.
 pub fn body_parts(alloc: Global, statements: Terms, functions: Terms) -> Result<Terms, AllocError>
     ensures { IfOk result (λ ts. terms_view ts ≡ semantics.more (semantics.part forms.Sequence (terms_view statements) semantics.end) (terms_view functions)) }
 {
@@ -96,7 +96,7 @@ pub fn body_parts(alloc: Global, statements: Terms, functions: Terms) -> Result<
     )
 }
 
-// an arrow's expression, which is entered as a `return`
+/// An arrow's expression, which is entered as a `return`.
 fn returned(alloc: Global, node: u32, value: Term) -> Result<Terms, AllocError>
     ensures { IfOk result (λ ts. terms_view ts ≡ semantics.one (semantics.part forms.Sequence (semantics.one (semantics.part (forms.Enter node) semantics.end (semantics.one (semantics.part forms.Return (semantics.one (term_view value)) semantics.end)))) semantics.end)) }
 {
@@ -106,7 +106,7 @@ fn returned(alloc: Global, node: u32, value: Term) -> Result<Terms, AllocError>
     one(alloc, body)
 }
 
-// the body of a function and the functions that it declares
+/// The body of a function and the functions that it declares.
 #[cycle(source)]
 pub fn body_terms<'a>(alloc: Global, body: &Stmts, place: Place<'a>) -> Result<Terms, AllocError>
     ensures { IfOk result (λ ts. terms_view ts ≡ makers.body_terms (statements_source body.now) (context_of place.entry)) }
@@ -117,7 +117,7 @@ pub fn body_terms<'a>(alloc: Global, body: &Stmts, place: Place<'a>) -> Result<T
     body_parts(alloc, statements, functions)
 }
 
-// an arrow's expression as its body
+/// An arrow's expression as its body.
 #[cycle(source)]
 pub fn returned_terms<'a>(alloc: Global, e: &Expr, place: Place<'a>) -> Result<Terms, AllocError>
     ensures { IfOk result (λ ts. terms_view ts ≡ makers.body_terms (makers.returned_body (expression_source e.now)) (context_of place.entry)) }
@@ -127,7 +127,7 @@ pub fn returned_terms<'a>(alloc: Global, e: &Expr, place: Place<'a>) -> Result<T
     returned(alloc, node, value)
 }
 
-// a method with a key that is known, or a declared function
+/// A method with a key that is known, or a declared function.
 #[cycle(source)]
 pub fn function_part<'a>(
     alloc: Global,

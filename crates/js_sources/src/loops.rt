@@ -18,7 +18,7 @@ use js_terms::term::{Term, Terms, done, end, part, two};
 use js_tree::tree::Declarators;
 use std::alloc::{AllocError, Global};
 
-// a `while` or a `do`
+/// A `while` or a `do`.
 pub fn simple_loop(
     alloc: Global,
     node: u32,
@@ -32,7 +32,7 @@ pub fn simple_loop(
     entered(alloc, node, loop_term(alloc, stage, end(alloc), parts)?)
 }
 
-// a `for` without names
+/// A `for` without names.
 pub fn for_term(
     alloc: Global,
     node: u32,
@@ -47,7 +47,7 @@ pub fn for_term(
     entered(alloc, node, loop_term(alloc, Stage::First, first, parts)?)
 }
 
-// a `for` with names
+/// A `for` with names.
 pub fn for_lexical_term(
     alloc: Global,
     node: u32,
@@ -68,7 +68,7 @@ pub fn for_lexical_term(
     )
 }
 
-// a `for .. of`
+/// A `for .. of`.
 pub fn for_of_term(
     alloc: Global,
     node: u32,

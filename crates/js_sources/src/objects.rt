@@ -21,7 +21,7 @@ use js_tree::names::Names;
 use js_tree::tree::{Expr, PropertyDefinition, PropertyDefinitions, PropertyName, Stmts};
 use std::alloc::{AllocError, Global};
 
-// an object literal
+/// An object literal.
 #[cycle(source)]
 pub fn object_term<'a>(
     alloc: Global,
@@ -34,7 +34,7 @@ pub fn object_term<'a>(
     object_of(alloc, properties, parts)
 }
 
-// an object literal of the parts of its members
+/// An object literal of the parts of its members.
 fn object_of(
     alloc: Global,
     properties: &PropertyDefinitions,
@@ -46,7 +46,7 @@ fn object_of(
     part(alloc, Form::Object(members), parts.now, parts.later)
 }
 
-// the parts of the members
+/// The parts of the members.
 #[cycle(source)]
 #[tactic(auto, using(js_programs::proofs::SourceLaws::source_properties))]
 fn properties_parts<'a>(
@@ -59,7 +59,7 @@ fn properties_parts<'a>(
     property_items(alloc, &properties.items, place)
 }
 
-// the parts of members, made from the last one on
+/// The parts of members, made from the last one on.
 #[cycle(source)]
 fn property_items<'a>(
     alloc: Global,
@@ -168,7 +168,7 @@ fn property_parts<'a>(
     }
 }
 
-// a value that has its key as its name
+/// A value that has its key as its name.
 #[cycle(source)]
 fn keyed_value<'a>(
     alloc: Global,
@@ -183,7 +183,7 @@ fn keyed_value<'a>(
     before(alloc, value, parts)
 }
 
-// a method with a computed key, and the parts behind it
+/// A method with a computed key, and the parts behind it.
 fn computed_method(
     alloc: Global,
     node: u32,

@@ -23,7 +23,7 @@ use js_terms::term::{Term, Terms, done, end, joined, leaf, one, part, terms_of};
 use js_tree::tree::{Expr, Stmt, Stmts};
 use std::alloc::{AllocError, Global};
 
-// the statements of a list
+/// The statements of a list.
 #[cycle(source)]
 #[tactic(auto, using(js_programs::proofs::SourceLaws::list_laws))]
 pub fn statements_terms<'a>(
@@ -51,7 +51,7 @@ fn statement_items<'a>(
     Ok(terms)
 }
 
-// the functions that a list of statements declares
+/// The functions that a list of statements declares.
 #[cycle(source)]
 #[tactic(auto, using(js_programs::proofs::SourceLaws::source_statements))]
 pub fn functions_terms<'a>(alloc: Global, ss: &Stmts, place: Place<'a>) -> Result<Terms, AllocError>
@@ -220,7 +220,7 @@ fn statement_term<'a>(alloc: Global, s: &Stmt, place: Place<'a>) -> Result<Term,
     }
 }
 
-// an `if`
+/// An `if`.
 fn if_term(
     alloc: Global,
     node: u32,
@@ -234,7 +234,7 @@ fn if_term(
     entered(alloc, node, term)
 }
 
-// a statement without parts
+/// A statement without parts.
 fn plain_statement(alloc: Global, node: u32, form: Form) -> Result<Term, AllocError>
     ensures { IfOk result (λ t. term_view t ≡ semantics.part (forms.Enter node) semantics.end (semantics.one (semantics.part form semantics.end semantics.end))) }
 {
@@ -242,7 +242,7 @@ fn plain_statement(alloc: Global, node: u32, form: Form) -> Result<Term, AllocEr
     entered(alloc, node, term)
 }
 
-// a `return`
+/// A `return`.
 fn return_term(alloc: Global, node: u32, value: Terms) -> Result<Term, AllocError>
     ensures { IfOk result (λ t. term_view t ≡ semantics.part (forms.Enter node) semantics.end (semantics.one (semantics.part forms.Return (terms_view value) semantics.end))) }
 {
@@ -250,7 +250,7 @@ fn return_term(alloc: Global, node: u32, value: Terms) -> Result<Term, AllocErro
     entered(alloc, node, returned)
 }
 
-// a `throw`
+/// A `throw`.
 fn throw_term(alloc: Global, node: u32, value: Term) -> Result<Term, AllocError>
     ensures { IfOk result (λ t. term_view t ≡ semantics.part (forms.Enter node) semantics.end (semantics.one (semantics.part (forms.Throw node) (semantics.one (term_view value)) semantics.end))) }
 {
@@ -258,7 +258,7 @@ fn throw_term(alloc: Global, node: u32, value: Term) -> Result<Term, AllocError>
     entered(alloc, node, thrown)
 }
 
-// a `debugger`
+/// A `debugger`.
 fn debugger_term(alloc: Global, node: u32) -> Result<Term, AllocError>
     ensures { IfOk result (λ t. term_view t ≡ semantics.part (forms.EnterDebugger node) semantics.end (semantics.one makers.nothing)) }
 {
@@ -266,7 +266,7 @@ fn debugger_term(alloc: Global, node: u32) -> Result<Term, AllocError>
     part(alloc, Form::EnterDebugger(node), end(alloc), later)
 }
 
-// the second branch of an `if`, where it has one
+/// The second branch of an `if`, where it has one.
 #[cycle(source)]
 fn alternate_term<'a>(
     alloc: Global,
@@ -281,7 +281,7 @@ fn alternate_term<'a>(
     }
 }
 
-// the term of an expression, or the value that stands for one that is absent
+/// The term of an expression, or the value that stands for one that is absent.
 #[cycle(source)]
 fn optional_term<'a>(
     alloc: Global,
@@ -297,7 +297,7 @@ fn optional_term<'a>(
     }
 }
 
-// an expression as the only part, where there is one
+/// An expression as the only part, where there is one.
 #[cycle(source)]
 fn optional_terms<'a>(
     alloc: Global,

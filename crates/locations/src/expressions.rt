@@ -14,7 +14,7 @@ use js_semantics::form::Mark;
 use js_tree::tree::{Expr, Exprs, Stmts};
 use std::alloc::AllocError;
 
-// an expression
+/// An expression.
 #[cycle(tree_marks)]
 pub fn expression_marks(marks: &mut Vec<Marked>, e: &Expr) -> Result<(), AllocError>
     ensures { OnOk result (marks.new.items ≡ marks.old.items ++ (expression_marks e.now).marks) }
@@ -72,7 +72,7 @@ pub fn expression_marks(marks: &mut Vec<Marked>, e: &Expr) -> Result<(), AllocEr
     }
 }
 
-// the body of a function with its closing brace
+/// The body of a function with its closing brace.
 #[cycle(tree_marks)]
 pub fn function_marks(marks: &mut Vec<Marked>, node: u32, body: &Stmts) -> Result<(), AllocError>
     ensures { OnOk result (marks.new.items ≡ marks.old.items ++ definitions.in_function node (statements_marks body.now)) }
@@ -81,7 +81,7 @@ pub fn function_marks(marks: &mut Vec<Marked>, node: u32, body: &Stmts) -> Resul
     add(marks, SpotKind::Return, Mark::BeforeEnd(node, 1))
 }
 
-// an arrow's expression body
+/// An arrow's expression body.
 #[cycle(tree_marks)]
 fn returned_marks(marks: &mut Vec<Marked>, body: &Expr) -> Result<(), AllocError>
     ensures { OnOk result (marks.new.items ≡ marks.old.items ++ definitions.in_returned (expression_marks body.now)) }
@@ -90,7 +90,7 @@ fn returned_marks(marks: &mut Vec<Marked>, body: &Expr) -> Result<(), AllocError
     expression_marks(marks, body)
 }
 
-// expressions that follow one another
+/// Expressions that follow one another.
 #[cycle(tree_marks)]
 fn expressions_marks(marks: &mut Vec<Marked>, es: &Exprs) -> Result<(), AllocError>
     ensures { OnOk result (marks.new.items ≡ marks.old.items ++ expressions_marks es.now) }
@@ -101,7 +101,7 @@ fn expressions_marks(marks: &mut Vec<Marked>, es: &Exprs) -> Result<(), AllocErr
     Ok(())
 }
 
-// an expression that may be left out
+/// An expression that may be left out.
 #[cycle(tree_marks)]
 pub fn optional_marks(marks: &mut Vec<Marked>, e: &Option<Expr>) -> Result<(), AllocError>
     ensures { OnOk result (marks.new.items ≡ marks.old.items ++ definitions.in_present (option_map expression_marks e.now)) }

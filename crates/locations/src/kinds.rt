@@ -9,7 +9,7 @@ use crate::spot::SpotKind;
 use js_tree::script::Script;
 use std::alloc::{AllocError, Global};
 
-// of two kinds the stronger one
+/// Of two kinds the stronger one.
 fn stronger(first: SpotKind, second: SpotKind) -> SpotKind
     ensures { result ≡ stronger first second }
 {
@@ -31,7 +31,7 @@ fn stronger(first: SpotKind, second: SpotKind) -> SpotKind
     }
 }
 
-// what stands where a mark is added to what stood there
+/// What stands where a mark is added to what stood there.
 fn with_mark(before: Option<SpotKind>, kind: SpotKind) -> Option<SpotKind>
     ensures { result ≡ with_mark before kind }
 {
@@ -41,7 +41,7 @@ fn with_mark(before: Option<SpotKind>, kind: SpotKind) -> Option<SpotKind>
     }
 }
 
-// so many offsets at which nothing stands
+/// So many offsets at which nothing stands.
 fn no_kinds(alloc: Global, count: usize) -> Result<Vec<Option<SpotKind>>, AllocError>
     ensures long { IfOk result (λ kinds. length kinds.items ≡ count) }
     ensures empty { IfOk result (λ kinds. (x : ℕ) → kind_of kinds.items x ≡ None) }
@@ -53,7 +53,7 @@ fn no_kinds(alloc: Global, count: usize) -> Result<Vec<Option<SpotKind>>, AllocE
     Ok(kinds)
 }
 
-// what stands at each offset of a script that has these marks
+/// What stands at each offset of a script that has these marks.
 pub fn kinds_of(
     alloc: Global,
     script: &Script,

@@ -17,7 +17,7 @@ use cdp_text::line_table::LineTable;
 use js_tree::script::Script;
 use std::alloc::{AllocError, Global};
 
-// the marks of a script
+/// The marks of a script.
 fn marks_of(alloc: Global, script: &Script) -> Result<Vec<Marked>, AllocError>
     ensures { IfOk result (λ marks. marks.items ≡ script_marks script.now) }
 {
@@ -26,7 +26,7 @@ fn marks_of(alloc: Global, script: &Script) -> Result<Vec<Marked>, AllocError>
     Ok(marks)
 }
 
-// the locations where this is what stands at each offset of a source, which has as many or one more
+/// The locations where this is what stands at each offset of a source, which has as many or one more.
 fn spots_of(
     alloc: Global,
     source: &[u16],

@@ -14,7 +14,7 @@ pub struct Marked {
     pub kind: SpotKind,
 }
 
-// adds a mark
+/// Adds a mark.
 pub fn add(marks: &mut Vec<Marked>, kind: SpotKind, mark: Mark) -> Result<(), AllocError>
     ensures { OnOk result (marks.new.items ≡ marks.old.items ++ definitions.at kind mark) }
 {

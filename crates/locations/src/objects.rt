@@ -8,7 +8,7 @@ use crate::marks::Marked;
 use js_tree::tree::{PropertyDefinition, PropertyDefinitions, PropertyName};
 use std::alloc::AllocError;
 
-// the members of an object literal
+/// The members of an object literal.
 #[cycle(tree_marks)]
 pub fn properties_marks(
     marks: &mut Vec<Marked>,
@@ -22,7 +22,7 @@ pub fn properties_marks(
     Ok(())
 }
 
-// a member
+/// A member.
 #[cycle(tree_marks)]
 fn property_marks(marks: &mut Vec<Marked>, property: &PropertyDefinition) -> Result<(), AllocError>
     ensures { OnOk result (marks.new.items ≡ marks.old.items ++ property_marks property.now) }
@@ -45,7 +45,7 @@ fn property_marks(marks: &mut Vec<Marked>, property: &PropertyDefinition) -> Res
     }
 }
 
-// the key of a member
+/// The key of a member.
 #[cycle(tree_marks)]
 fn key_marks(marks: &mut Vec<Marked>, key: &PropertyName) -> Result<(), AllocError>
     ensures { OnOk result (marks.new.items ≡ marks.old.items ++ key_marks key.now) }

@@ -53,14 +53,14 @@ pub fn between(spots: &[Spot], start: Pos, end: Option<Pos>) -> &[Spot]
     }
 }
 
-// the location at a place of the list, if it is there
+/// The location at a place of the list, if it is there.
 fn spot_at(spots: &[Spot], place: usize) -> Option<Spot>
     ensures { result ≡ slice_get spots.now place }
 {
     spots.get(place).copied()
 }
 
-// how many locations are before a position
+/// How many locations are before a position.
 fn count_before(spots: &[Spot], pos: Pos) -> usize
     requires { IsAscending spots.now }
     ensures within { result ≤ length spots.now }
@@ -69,7 +69,7 @@ fn count_before(spots: &[Spot], pos: Pos) -> usize
     spots.partition_point(|spot| stands_before(spot, pos))
 }
 
-// whether a location is before a position
+/// Whether a location is before a position.
 #[tactic(auto, using(crate::proofs::SearchLemmas::decided))]
 fn stands_before(spot: &Spot, pos: Pos) -> bool
     ensures { result ≡ is_before spot.now.pos pos }

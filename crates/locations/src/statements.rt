@@ -12,7 +12,7 @@ use js_semantics::form::Mark;
 use js_tree::tree::{Block, Catch, Declarators, Stmt, Stmts};
 use std::alloc::AllocError;
 
-// the statements of a list
+/// The statements of a list.
 #[cycle(tree_marks)]
 pub fn statements_marks(marks: &mut Vec<Marked>, ss: &Stmts) -> Result<(), AllocError>
     ensures { OnOk result (marks.new.items ≡ marks.old.items ++ statements_marks ss.now) }
@@ -23,7 +23,7 @@ pub fn statements_marks(marks: &mut Vec<Marked>, ss: &Stmts) -> Result<(), Alloc
     Ok(())
 }
 
-// a statement
+/// A statement.
 #[cycle(tree_marks)]
 fn statement_marks(marks: &mut Vec<Marked>, s: &Stmt) -> Result<(), AllocError>
     ensures { OnOk result (marks.new.items ≡ marks.old.items ++ statement_marks s.now) }
@@ -127,14 +127,14 @@ fn statement_marks(marks: &mut Vec<Marked>, s: &Stmt) -> Result<(), AllocError>
     }
 }
 
-// the start of a statement
+/// The start of a statement.
 fn begin(marks: &mut Vec<Marked>, kind: SpotKind, node: u32) -> Result<(), AllocError>
     ensures { OnOk result (marks.new.items ≡ marks.old.items ++ definitions.beginning kind node) }
 {
     add(marks, kind, Mark::Start(node))
 }
 
-// the second branch of an `if`, where it has one
+/// The second branch of an `if`, where it has one.
 #[cycle(tree_marks)]
 fn alternate_marks(marks: &mut Vec<Marked>, alternate: &Option<Box<Stmt>>) -> Result<(), AllocError>
     ensures { OnOk result (marks.new.items ≡ marks.old.items ++ definitions.where_present (option_map (λ b. statement_marks b.value) alternate.now)) }
@@ -145,7 +145,7 @@ fn alternate_marks(marks: &mut Vec<Marked>, alternate: &Option<Box<Stmt>>) -> Re
     }
 }
 
-// the declarators of a list
+/// The declarators of a list.
 #[cycle(tree_marks)]
 fn declarators_marks(marks: &mut Vec<Marked>, ds: &Declarators) -> Result<(), AllocError>
     ensures { OnOk result (marks.new.items ≡ marks.old.items ++ declarators_marks ds.now) }
@@ -156,7 +156,7 @@ fn declarators_marks(marks: &mut Vec<Marked>, ds: &Declarators) -> Result<(), Al
     Ok(())
 }
 
-// a `catch`, where there is one
+/// A `catch`, where there is one.
 #[cycle(tree_marks)]
 fn handler_marks(marks: &mut Vec<Marked>, handler: &Option<Catch>) -> Result<(), AllocError>
     ensures { OnOk result (marks.new.items ≡ marks.old.items ++ definitions.where_present (option_map catch_marks handler.now)) }
@@ -167,7 +167,7 @@ fn handler_marks(marks: &mut Vec<Marked>, handler: &Option<Catch>) -> Result<(),
     }
 }
 
-// a `finally`, where there is one
+/// A `finally`, where there is one.
 #[cycle(tree_marks)]
 fn finalizer_marks(marks: &mut Vec<Marked>, finalizer: &Option<Block>) -> Result<(), AllocError>
     ensures { OnOk result (marks.new.items ≡ marks.old.items ++ definitions.where_present (option_map block_marks finalizer.now)) }
@@ -178,7 +178,7 @@ fn finalizer_marks(marks: &mut Vec<Marked>, finalizer: &Option<Block>) -> Result
     }
 }
 
-// a block
+/// A block.
 #[cycle(tree_marks)]
 fn block_marks(marks: &mut Vec<Marked>, block: &Block) -> Result<(), AllocError>
     ensures { OnOk result (marks.new.items ≡ marks.old.items ++ block_marks block.now) }

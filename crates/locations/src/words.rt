@@ -7,7 +7,7 @@ ghost use Rattle.locations.specs.Marks.{expression_marks};
 use js_semantics::form::Mark;
 use js_tree::tree::Expr;
 
-// the name at the end of an expression, where it is a name or a member by a name
+/// The name at the end of an expression, where it is a name or a member by a name.
 #[tactic(auto, using(crate::proofs::TreeLaws::expression_laws))]
 fn last_word(e: &Expr) -> Option<Mark>
     ensures { result ≡ (expression_marks e.now).last_word }
@@ -38,7 +38,7 @@ fn last_word(e: &Expr) -> Option<Mark>
     }
 }
 
-// the place of a call: the last word of its callee, else its `(`
+/// The place of a call: the last word of its callee, else its `(`.
 pub fn call_place(callee: &Expr, parentheses: u32) -> Mark
     ensures { result ≡ makers.place_or (expression_marks callee.now).last_word parentheses }
 {
@@ -48,7 +48,7 @@ pub fn call_place(callee: &Expr, parentheses: u32) -> Mark
     }
 }
 
-// the node of an expression
+/// The node of an expression.
 #[tactic(auto, using(crate::proofs::TreeLaws::expression_laws))]
 pub fn node_of(e: &Expr) -> u32
     ensures { result ≡ (expression_marks e.now).node }

@@ -1,4 +1,5 @@
-// Printed texts, one after another, to a sink.
+//! Printed texts, one after another, to a sink.
+
 ghost use Rattle.std.specs.Prelude.{◌≡◌, IfOk, OnOk, OnErr, IsErrOf, string_bytes};
 ghost use Rattle.cdp_edge.specs.Outside.{Rose, gains, GainsLess};
 ghost use Rattle.script_runs.specs.Printing.{printed_line, printed_lines};

@@ -1,4 +1,5 @@
-// Turns of a machine: many steps each.
+//! Turns of a machine: many steps each.
+
 ghost use Rattle.std.specs.Prelude.{◌≡◌, [], None, IfOk, IfNone, IfSome, OnErr, IsErrOf};
 ghost use Rattle.cdp_edge.specs.Outside.{Rose};
 ghost use Rattle.js_world.specs.Heaps.{heap_world};
