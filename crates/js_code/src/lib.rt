@@ -10,5 +10,5 @@
 
 pub mod node;
 pub mod op;
-pub mod reading;
+mod reading;
 pub mod table;

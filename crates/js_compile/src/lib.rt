@@ -8,11 +8,11 @@
 //! - `AreCompiled`: the code stands for the scripts, and each source's index finds its functions (`IsIndexed`).
 #![tactic(auto)]
 
-pub mod entries;
-pub mod forms;
+mod entries;
+mod forms;
 pub mod functions;
 pub mod laws;
-pub mod names;
-pub mod nodes;
+mod names;
+mod nodes;
 pub mod scripts;
 pub mod terms;

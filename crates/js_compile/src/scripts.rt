@@ -27,7 +27,7 @@ pub struct ScriptCode {
 }
 
 /// A table without nodes. It takes no memory.
-pub fn empty_table(alloc: Global) -> NodeTable
+fn empty_table(alloc: Global) -> NodeTable
     ensures { IsEmpty result }
 {
     NodeTable {

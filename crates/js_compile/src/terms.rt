@@ -32,7 +32,7 @@ pub fn add_literal(alloc: Global, table: &mut NodeTable, value: Value) -> Result
 }
 
 /// A node for a form whose parts have nodes; none where no node has the form.
-pub fn add_part(
+fn add_part(
     alloc: Global,
     names: &mut Names,
     table: &mut NodeTable,
@@ -78,7 +78,7 @@ pub fn add_term(
 /// Nodes for terms, in order.
 #[cycle(add_term)]
 #[tactic(auto, using(js_terms::proofs::TermLaws::terms_listed))]
-pub fn add_terms(
+fn add_terms(
     alloc: Global,
     names: &mut Names,
     table: &mut NodeTable,

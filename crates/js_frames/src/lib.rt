@@ -10,8 +10,8 @@
 
 pub mod arrivals;
 pub mod frames;
-pub mod reducing;
-pub mod scopes;
+mod reducing;
+mod scopes;
 pub mod spans;
 pub mod standing;
 pub mod throws;

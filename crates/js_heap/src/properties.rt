@@ -57,7 +57,7 @@ pub fn key_place(properties: &[Property], key: &[u16]) -> usize
 }
 
 /// The place of a name's binding; the length where there is none.
-pub fn name_place(names: &[Binding], name: &[u16]) -> usize
+pub(crate) fn name_place(names: &[Binding], name: &[u16]) -> usize
     ensures { result ≡ name_place names.now name.now }
 {
     for i in 0..names.len() {

@@ -13,4 +13,4 @@ pub mod end;
 pub mod machine;
 pub mod plain;
 pub mod scripts;
-pub mod start;
+mod start;

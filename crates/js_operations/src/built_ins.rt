@@ -25,7 +25,7 @@ use js_world::world::World;
 use std::alloc::Global;
 
 /// The TypeError of an argument of a wrong type.
-pub fn wrong_type<W: World>(alloc: Global, world: &mut W, names: &Names) -> ActionEnd
+pub(crate) fn wrong_type<W: World>(alloc: Global, world: &mut W, names: &Names) -> ActionEnd
     ensures { Ends wrong_type (W.world names.now world.old) result (W.world names.now world.new) }
 {
     fail_with(

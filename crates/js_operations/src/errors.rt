@@ -23,7 +23,7 @@ use js_world::world::World;
 use std::alloc::{AllocError, Global};
 
 /// The properties of an error with this message.
-pub fn with_message(alloc: Global, message: Value) -> Result<PropertyMap, AllocError>
+pub(crate) fn with_message(alloc: Global, message: Value) -> Result<PropertyMap, AllocError>
     ensures { IfOk result (λ properties. properties ≡ message_property message ∷ []) }
 {
     let mut properties = PropertyMap::new(alloc);

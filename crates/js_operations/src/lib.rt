@@ -11,7 +11,7 @@
 #![tactic(auto)]
 
 pub mod action_end;
-pub mod arrays;
+mod arrays;
 pub mod built_ins;
 pub mod cells;
 pub mod context;
@@ -20,8 +20,8 @@ pub mod frame;
 pub mod functions;
 pub mod lists;
 pub mod names;
-pub mod objects;
+mod objects;
 pub mod properties;
 pub mod seen;
 pub mod shown;
-pub mod strings;
+mod strings;

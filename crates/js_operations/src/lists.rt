@@ -121,7 +121,7 @@ fn keys_of_stored(alloc: Global, cell: Option<&Stored>) -> Result<Vec<Units>, Al
 }
 
 /// The enumerable own keys of the object at an address in order (20.1.2.18).
-pub fn keys_at<W: World>(
+pub(crate) fn keys_at<W: World>(
     alloc: Global,
     world: &W,
     names: &Names,
@@ -163,14 +163,14 @@ fn elements_of(cell: Option<&Stored>) -> &[Value]
 }
 
 /// The elements of the array at an address; of another cell none.
-pub fn elements_at<'a, W: World>(world: &'a W, names: &Names, a: Addr) -> &'a [Value]
+pub(crate) fn elements_at<'a, W: World>(world: &'a W, names: &Names, a: Addr) -> &'a [Value]
     ensures { result.now ≡ elements_at (W.world names.now world.now) a }
 {
     elements_of(world.find(a))
 }
 
 /// The index of the first element that is the same as a value, or -1 (23.1.3.17).
-pub fn first_same<C: Cells>(cells: &C, elements: &[Value], value: Value) -> i64
+pub(crate) fn first_same<C: Cells>(cells: &C, elements: &[Value], value: Value) -> i64
     ensures { result ≡ first_same (C.world cells.now) 0 elements.now value }
 {
     for i in 0..elements.len() {
@@ -197,7 +197,7 @@ fn joined_part<C: Cells>(
 
 /// The texts of elements that are joined; none where one is an object (23.1.3.18).
 #[tactic(auto, using(crate::proofs::ListLemmas::part_rules))]
-pub fn joined_parts<C: Cells>(
+pub(crate) fn joined_parts<C: Cells>(
     alloc: Global,
     cells: &C,
     elements: &[Value],
@@ -236,7 +236,7 @@ pub fn place(count: usize, default: usize, argument: Value) -> Option<usize>
 }
 
 /// The places that two arguments name in so many; none where one is no number.
-pub fn slice_places(count: usize, arguments: &[Value]) -> Option<(usize, usize)>
+pub(crate) fn slice_places(count: usize, arguments: &[Value]) -> Option<(usize, usize)>
     ensures places { result ≡ both_places (place count 0 (argument arguments.now 0)) (place count count (argument arguments.now 1)) }
     ensures within { IfSome result (λ places. (places.0 ≤ count) × (places.1 ≤ count)) }
 {
@@ -246,7 +246,7 @@ pub fn slice_places(count: usize, arguments: &[Value]) -> Option<(usize, usize)>
 }
 
 /// The values between two places.
-pub fn values_between(values: &[Value], from: usize, to: usize) -> &[Value]
+pub(crate) fn values_between(values: &[Value], from: usize, to: usize) -> &[Value]
     requires first { from ≤ length values.now }
     requires second { to ≤ length values.now }
     ensures { result.now ≡ take (to - from) (drop from values.now) }
@@ -258,7 +258,7 @@ pub fn values_between(values: &[Value], from: usize, to: usize) -> &[Value]
 }
 
 /// The units between two places.
-pub fn units_between(units: &[u16], from: usize, to: usize) -> &[u16]
+pub(crate) fn units_between(units: &[u16], from: usize, to: usize) -> &[u16]
     requires first { from ≤ length units.now }
     requires second { to ≤ length units.now }
     ensures { result.now ≡ take (to - from) (drop from units.now) }
@@ -286,7 +286,7 @@ pub fn begins_with(text: &[u16], start: &[u16]) -> bool
 }
 
 /// The index of the first occurrence of a text, or -1 (22.1.3.9).
-pub fn first_occurrence(text: &[u16], of: &[u16]) -> i64
+pub(crate) fn first_occurrence(text: &[u16], of: &[u16]) -> i64
     ensures { result ≡ first_occurrence 0 text.now of.now }
 {
     for i in 0..text.len() {
@@ -301,7 +301,7 @@ pub fn first_occurrence(text: &[u16], of: &[u16]) -> i64
 }
 
 /// The unit of an index.
-pub fn unit_of(text: &[u16], index: i64) -> Option<u16>
+pub(crate) fn unit_of(text: &[u16], index: i64) -> Option<u16>
     ensures { result ≡ unit_of text.now index }
 {
     if index < 0 {

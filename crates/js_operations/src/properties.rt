@@ -159,20 +159,6 @@ pub fn remove_index<W: World>(
 
 // ---- keys that are names
 
-/// The value of a property whose key is a name.
-pub fn get_member<W: World>(
-    alloc: Global,
-    world: &mut W,
-    names: &Names,
-    object: Value,
-    key: NameId,
-) -> Result<Value, ActionEnd>
-    ensures { Yields (with_result (property_of (W.world names.now world.old) object (name_of names.now key.number))) (W.world names.now world.old) result (W.world names.now world.new) }
-{
-    let text = names.text(key)?;
-    get_property(alloc, world, names, object, text)
-}
-
 /// Writes a property whose key is a name.
 pub fn put_member<W: World>(
     alloc: Global,
@@ -186,18 +172,4 @@ pub fn put_member<W: World>(
 {
     let text = names.text(key)?;
     put_property(alloc, world, names, object, text, value)
-}
-
-/// Deletes a property whose key is a name.
-pub fn remove_member<W: World>(
-    alloc: Global,
-    world: &mut W,
-    names: &Names,
-    object: Value,
-    key: NameId,
-) -> Result<(), ActionEnd>
-    ensures { Passes (with_written (property_deleted (W.world names.now world.old) object (name_of names.now key.number))) (W.world names.now world.old) result (W.world names.now world.new) }
-{
-    let text = names.text(key)?;
-    remove_property(alloc, world, names, object, text)
 }

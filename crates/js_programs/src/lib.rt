@@ -15,4 +15,4 @@ pub mod objects;
 pub mod operators;
 pub mod places;
 pub mod references;
-pub mod spaces;
+mod spaces;

@@ -24,7 +24,7 @@ pub enum Target {
 
 /// A term taken apart where it is read.
 #[tactic(auto, using(js_terms::proofs::TermLaws::term_laws))]
-pub fn target_of(alloc: Global, term: Term) -> Result<Target, AllocError>
+fn target_of(alloc: Global, term: Term) -> Result<Target, AllocError>
     ensures { IfOk result (λ target. IsTarget (term_view term) target) }
 {
     match term {
@@ -45,7 +45,7 @@ fn read_target(alloc: Global, form: Form, now: Terms, later: Terms) -> Result<Ta
 
 /// `target = value`; a term that isn't a target stays as it is.
 #[tactic(auto, using(crate::proofs::TargetLaws::assigned_laws))]
-pub fn assigned_to(alloc: Global, target: Term, value: Term) -> Result<Term, AllocError>
+fn assigned_to(alloc: Global, target: Term, value: Term) -> Result<Term, AllocError>
     ensures { IfOk result (λ t. term_view t ≡ makers.assigned_to (term_view target) (term_view value)) }
 {
     match target_of(alloc, target)? {
@@ -59,7 +59,7 @@ pub fn assigned_to(alloc: Global, target: Term, value: Term) -> Result<Term, All
 
 /// `target op= value`.
 #[tactic(auto, using(crate::proofs::TargetLaws::compounded_laws))]
-pub fn compounded(
+fn compounded(
     alloc: Global,
     operator: BinaryOperator,
     target: Term,
@@ -114,7 +114,7 @@ pub fn deleted(alloc: Global, target: Term) -> Result<Term, AllocError>
 
 /// `typeof operand`.
 #[tactic(auto, using(crate::proofs::TargetLaws::type_laws))]
-pub fn type_of(alloc: Global, operand: Term) -> Result<Term, AllocError>
+pub(crate) fn type_of(alloc: Global, operand: Term) -> Result<Term, AllocError>
     ensures { IfOk result (λ t. term_view t ≡ makers.type_of (term_view operand)) }
 {
     match target_of(alloc, operand)? {

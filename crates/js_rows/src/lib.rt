@@ -10,23 +10,23 @@
 //! - `IsRow`: the answer is that of the definition's row.
 #![tactic(auto)]
 
-pub mod answers;
-pub mod callees;
-pub mod calls;
-pub mod codes;
-pub mod declared;
-pub mod entries;
-pub mod literals;
-pub mod loops;
-pub mod names;
+mod answers;
+mod callees;
+mod calls;
+mod codes;
+mod declared;
+mod entries;
+mod literals;
+mod loops;
+mod names;
 pub mod operators;
-pub mod parts;
-pub mod properties;
-pub mod reading;
-pub mod scopes;
-pub mod simple;
-pub mod statements;
+mod parts;
+mod properties;
+mod reading;
+mod scopes;
+mod simple;
+mod statements;
 pub mod table;
-pub mod updates;
-pub mod values;
-pub mod writing;
+mod updates;
+mod values;
+mod writing;

@@ -120,7 +120,7 @@ fn on_two_numbers(operator: BinaryOperator, y: i64, z: i64) -> Option<Value>
 
 /// The value of an operator on two values, where it is found without a text or an error.
 #[inline(always)]
-pub fn quick_result(operator: BinaryOperator, left: Value, right: Value) -> Option<Value>
+pub(crate) fn quick_result(operator: BinaryOperator, left: Value, right: Value) -> Option<Value>
     ensures { (w : AnyWorld) → IfSome result (λ v. binary_result w operator left right ≡ a_value v) }
 {
     match (left, right) {

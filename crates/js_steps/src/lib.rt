@@ -14,22 +14,22 @@
 //! - `StandsIn`: what holds of a machine between its steps; `HasRun` says how many steps of the definition it has made.
 #![tactic(auto)]
 
-pub mod answer;
-pub mod closing;
-pub mod concluding;
-pub mod finish;
-pub mod following;
+mod answer;
+mod closing;
+mod concluding;
+mod finish;
+mod following;
 pub mod laws;
-pub mod leaf;
-pub mod parts;
-pub mod passing;
+mod leaf;
+mod parts;
+mod passing;
 pub mod reduced;
 pub mod rows;
 pub mod run;
 pub mod settling;
 pub mod stack;
-pub mod stages;
+mod stages;
 pub mod step;
 pub mod stepped;
 pub mod task;
-pub mod travelling;
+mod travelling;

@@ -55,7 +55,7 @@ fn enter(table: &NodeTable, stack: &mut Stack, inner: Addr, n: u32) -> Result<En
 /// # Errors
 ///
 /// There is no memory for the tasks on the way.
-pub fn descend(
+fn descend(
     table: &NodeTable,
     stack: &mut Stack,
     inner: Addr,
@@ -136,7 +136,7 @@ pub fn give(
 ///
 /// There is no memory for it.
 #[inline(always)]
-pub fn take_up(
+pub(crate) fn take_up(
     table: &NodeTable,
     stack: &mut Stack,
     inner: Addr,

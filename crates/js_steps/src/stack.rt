@@ -35,7 +35,7 @@ impl Model for Stack {
 
 /// Whether a task owns what a `finally` keeps, or a list with its index.
 #[inline(always)]
-pub fn has_extra(op: Op, info: u32) -> bool
+pub(crate) fn has_extra(op: Op, info: u32) -> bool
     ensures { result ≡ has_extra op info }
 {
     match op {

@@ -8,7 +8,7 @@ use js_tree::names::Names;
 use std::alloc::{AllocError, Global};
 
 /// A copy of a binding.
-pub fn binding_copy(binding: &Binding) -> Result<Binding, AllocError>
+fn binding_copy(binding: &Binding) -> Result<Binding, AllocError>
     ensures { IfOk result (λ b. b ≡ binding.now) }
 {
     Ok(Binding {
@@ -19,7 +19,7 @@ pub fn binding_copy(binding: &Binding) -> Result<Binding, AllocError>
 }
 
 /// A copy of the names of a scope.
-pub fn scope_names_copy(alloc: Global, names: &ScopeNames) -> Result<ScopeNames, AllocError>
+fn scope_names_copy(alloc: Global, names: &ScopeNames) -> Result<ScopeNames, AllocError>
     ensures { IfOk result (λ ns. ns ≡ names.now) }
 {
     let mut items = Vec::new(alloc);
@@ -41,7 +41,7 @@ pub fn names_copy(alloc: Global, names: &Names) -> Result<Names, AllocError>
 }
 
 /// A copy of a reference.
-pub fn reference_copy(reference: &Reference) -> Result<Reference, AllocError>
+fn reference_copy(reference: &Reference) -> Result<Reference, AllocError>
     ensures { IfOk result (λ r. r ≡ reference.now) }
 {
     match reference {
@@ -52,7 +52,7 @@ pub fn reference_copy(reference: &Reference) -> Result<Reference, AllocError>
 }
 
 /// A copy of a function's form.
-pub fn function_form_copy(alloc: Global, form: &FunctionForm) -> Result<FunctionForm, AllocError>
+fn function_form_copy(alloc: Global, form: &FunctionForm) -> Result<FunctionForm, AllocError>
     ensures { IfOk result (λ f. f ≡ form.now) }
 {
     Ok(FunctionForm {
@@ -76,7 +76,7 @@ fn member_copy(member: &Member) -> Result<Member, AllocError>
 }
 
 /// A copy of the members of an object literal.
-pub fn members_copy(alloc: Global, members: &Members) -> Result<Members, AllocError>
+fn members_copy(alloc: Global, members: &Members) -> Result<Members, AllocError>
     ensures { IfOk result (λ ms. ms ≡ members.now) }
 {
     let mut items = Vec::new(alloc);

@@ -1,7 +1,7 @@
 //! Operators and properties on values.
 #![tactic(auto)]
 
-pub mod arithmetic;
+mod arithmetic;
 pub mod numbers;
 pub mod operators;
 pub mod properties;

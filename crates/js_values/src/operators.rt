@@ -78,7 +78,7 @@ fn negated(answer: Option<bool>) -> Option<bool>
 }
 
 /// Whether one value equals another by `==` (7.2.14); none where their types don't compare.
-pub fn is_equal<C: Cells>(cells: &C, v: Value, u: Value) -> Option<bool>
+fn is_equal<C: Cells>(cells: &C, v: Value, u: Value) -> Option<bool>
     ensures { result ≡ is_equal (C.world cells.now) v u }
 {
     match (v, u) {
@@ -94,7 +94,7 @@ pub fn is_equal<C: Cells>(cells: &C, v: Value, u: Value) -> Option<bool>
 }
 
 /// An operator on two values that are to be numbers.
-pub fn numeric(
+pub(crate) fn numeric(
     alloc: Global,
     operator: BinaryOperator,
     v: Value,
@@ -117,7 +117,7 @@ fn shorter(first: usize, second: usize) -> usize
 }
 
 /// Whether a text stands before another, by units (7.2.13).
-pub fn units_before(a: &[u16], b: &[u16]) -> bool
+fn units_before(a: &[u16], b: &[u16]) -> bool
     ensures { result ≡ units_before a.now b.now }
 {
     let shared = shorter(a.len(), b.len());
@@ -158,12 +158,7 @@ fn joined_texts(
 }
 
 /// `+` (13.15.3): a sum of numbers, or a text where one side is a string.
-pub fn sum_of<C: Cells>(
-    alloc: Global,
-    cells: &C,
-    v: Value,
-    u: Value,
-) -> Result<Computed, AllocError>
+fn sum_of<C: Cells>(alloc: Global, cells: &C, v: Value, u: Value) -> Result<Computed, AllocError>
     requires first { IsSafe v }
     requires second { IsSafe u }
     ensures { IfOk result (λ r. r ≡ sum_of (C.world cells.now) v u) }

@@ -18,7 +18,7 @@ pub fn not_safe(alloc: Global) -> Result<Computed, AllocError>
 }
 
 /// The TypeError of operands that aren't numbers.
-pub fn not_numbers(alloc: Global) -> Result<Computed, AllocError>
+pub(crate) fn not_numbers(alloc: Global) -> Result<Computed, AllocError>
     ensures { IfOk result (λ r. r ≡ not_numbers) }
 {
     let message = ascii(alloc, b"Operands must be numbers")?;
@@ -34,7 +34,7 @@ pub fn not_a_text(alloc: Global) -> Result<Computed, AllocError>
 }
 
 /// The TypeError of values of types that don't compare.
-pub fn not_comparable(alloc: Global) -> Result<Computed, AllocError>
+pub(crate) fn not_comparable(alloc: Global) -> Result<Computed, AllocError>
     ensures { IfOk result (λ r. r ≡ not_comparable) }
 {
     let message = ascii(alloc, b"Cannot compare values of different types")?;
@@ -53,7 +53,7 @@ pub fn safe(alloc: Global, z: i64) -> Result<Computed, AllocError>
 }
 
 /// A quotient without a rest (ECMA-262, 6.1.6.1.5).
-pub fn quotient(alloc: Global, y: i64, z: i64) -> Result<Computed, AllocError>
+pub(crate) fn quotient(alloc: Global, y: i64, z: i64) -> Result<Computed, AllocError>
     requires { nat_abs y < 2 ^ 53 }
     ensures { IfOk result (λ r. r ≡ quotient y z) }
 {
@@ -64,7 +64,7 @@ pub fn quotient(alloc: Global, y: i64, z: i64) -> Result<Computed, AllocError>
 }
 
 /// The rest of a division, with the dividend's sign (6.1.6.1.6).
-pub fn remainder(alloc: Global, y: i64, z: i64) -> Result<Computed, AllocError>
+pub(crate) fn remainder(alloc: Global, y: i64, z: i64) -> Result<Computed, AllocError>
     requires { nat_abs y < 2 ^ 53 }
     ensures { IfOk result (λ r. r ≡ remainder y z) }
 {

@@ -7,7 +7,7 @@ use cdp_text::units::{Units, ascii};
 use std::alloc::{AllocError, Global};
 
 /// Whether a text is these bytes, one unit for each.
-pub fn is_ascii(units: &[u16], bytes: &[u8]) -> bool
+pub(crate) fn is_ascii(units: &[u16], bytes: &[u8]) -> bool
     ensures { result ≡ same_units units.now bytes.now }
 {
     if units.len() != bytes.len() {

@@ -39,14 +39,14 @@ impl Model for BaseHeap {
 }
 
 /// What is at a place.
-pub fn stored_at(cells: &[Stored], at: usize) -> Option<&Stored>
+pub(crate) fn stored_at(cells: &[Stored], at: usize) -> Option<&Stored>
     ensures { option_copied result ≡ slice_get cells.now at }
 {
     cells.get(at)
 }
 
 /// One more cell.
-pub fn push_cell(cells: &mut Vec<Stored>, cell: Stored) -> Result<(), AllocError>
+pub(crate) fn push_cell(cells: &mut Vec<Stored>, cell: Stored) -> Result<(), AllocError>
     ensures pushed { OnOk result (cells.new.items ≡ cells.old.items ++ cell ∷ []) }
     ensures kept { OnErr result (cells.new.items ≡ cells.old.items) }
 {
@@ -89,7 +89,7 @@ pub fn is_within(cell: &Stored, end: usize) -> bool
 }
 
 /// What is left of the units once a cell of these units is made, or what it would pass: the cells' limit before the units'.
-pub fn room_for(cells_left: u32, units_left: u32, units: u64) -> Result<u32, Refused>
+pub(crate) fn room_for(cells_left: u32, units_left: u32, units: u64) -> Result<u32, Refused>
     ensures { MakesRoom cells_left units_left units result }
 {
     if cells_left == 0 {
@@ -99,7 +99,7 @@ pub fn room_for(cells_left: u32, units_left: u32, units: u64) -> Result<u32, Ref
 }
 
 /// Gives the name at a place of a scope a value.
-pub fn value_in_cell(cell: &mut Stored, place: usize, value: Value)
+fn value_in_cell(cell: &mut Stored, place: usize, value: Value)
     ensures { cell.new ≡ value_in_cell cell.old place value }
 {
     match cell {
@@ -110,7 +110,7 @@ pub fn value_in_cell(cell: &mut Stored, place: usize, value: Value)
 
 /// Gives the name at a place of the scope at a place a value.
 #[tactic(auto, using(crate::proofs::BindLemmas::cell_rules))]
-pub fn value_in_cells(cells: &mut Vec<Stored>, at: usize, place: usize, value: Value)
+pub(crate) fn value_in_cells(cells: &mut Vec<Stored>, at: usize, place: usize, value: Value)
     ensures { cells.new.items ≡ value_in_cells cells.old.items at place value }
 {
     if at < cells.len() {

@@ -12,7 +12,7 @@
 //! - `HasPlace`: a scope's name stands at a place.
 #![tactic(auto)]
 
-pub mod change;
+mod change;
 pub mod heap;
 pub mod lookup;
 pub mod names;
@@ -21,5 +21,5 @@ pub mod properties;
 pub mod slots;
 pub mod start;
 pub mod stored;
-pub mod weight;
+mod weight;
 pub mod world;

@@ -16,7 +16,7 @@ use js_heap::value::{Addr, Value};
 use std::alloc::{AllocError, Global};
 
 /// The place of a name; the length where there is none.
-pub fn slot_place(slots: &[Slot], name: NameId) -> usize
+fn slot_place(slots: &[Slot], name: NameId) -> usize
     ensures { result ≡ slot_place slots.now name.number }
 {
     for i in 0..slots.len() {
@@ -48,13 +48,6 @@ pub fn bind(slots: &mut Slots, name: NameId, value: Value)
 {
     let at = slot_place(slots.slice(), name);
     slots.set(at, value);
-}
-
-/// A copy of names.
-pub fn copy_of_slots(alloc: Global, slots: &[Slot]) -> Result<Vec<Slot>, AllocError>
-    ensures { IfOk result (λ copy. copy.items ≡ slots.now) }
-{
-    Vec::from_slice(alloc, slots)
 }
 
 /// What a scope says of a name.
@@ -94,7 +87,7 @@ fn look_in(slots: &[Slot], at: Addr, outer: Option<Addr>, name: NameId) -> Looke
 }
 
 /// Looks for a name in the scope at an address.
-pub fn look(cell: Option<&Stored>, at: Addr, name: NameId) -> Looked
+pub(crate) fn look(cell: Option<&Stored>, at: Addr, name: NameId) -> Looked
     ensures place { (names : List (List ℕ)) → Differ names → IsPlaced result at (cell_at names (option_copied cell.entry)) (name_of names name.number) }
     ensures value { (names : List (List ℕ)) → Differ names → (further : AnyAddr → Option Found) → kept_found (found_in at (cell_at names (option_copied cell.entry)) (name_of names name.number) further) ≡ looked_on result (λ a. kept_found (further a)) }
 {

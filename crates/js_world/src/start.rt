@@ -332,7 +332,7 @@ fn add_holders(alloc: Global, cells: &mut Vec<Stored>) -> Result<(), AllocError>
 }
 
 /// Adds the built-in cells.
-pub fn add_built_ins(
+pub(crate) fn add_built_ins(
     alloc: Global,
     names: &Names,
     cells: &mut Vec<Stored>,
