@@ -22,8 +22,10 @@ use Rattle.js_code.specs.Trees.{constant_at, kid_at, kids_between, terms, tree, 
 use Rattle.js_code.specs.Codes.{code_of_parts, code_of_node, code_of_entry, code_of_number}
 use Rattle.js_compile.specs.Grown.{IsEntryAt, IsPlacedAt, IsPlacedNode, HasPlaces}
 use Rattle.js_compile.specs.Index.{number_at, node_of, body_node, function_node_by, function_node, number_with, code_found, IsFilled}
-use Rattle.js_compile.proofs.TreeLemmas.{kids-some, kids-end, literal-tree, node-at}
+use Rattle.js_code.proofs.TreeLemmas.{kids-some, kids-end, literal-tree, node-at}
 use Rattle.js_compile.proofs.IndexLemmas.{first_first, kid_some, found_in_node, found_before}
+use Rattle.js_world.proofs.WeightLemmas.{true_lt}
+use Rattle.js_world.proofs.GrowLemmas.{false_le}
 
 -- ---- nodes in which nothing is found
 
@@ -98,12 +100,6 @@ put_if ts t f true true m k q later none same some put e =
     let s = some refl in
     ap (λ n. code_of_number ts t (Some n)) (put refl) ∙ e ∙ ap (code_of_parts f) s.2 ∙ sym (ap (λ l. first_code (code_if true f l) (code_of_number ts t (Some k))) s.2)
 
-at_end : (a b : ℕ) → nat_lt a b ≡ false → b ≤ a
-at_end a b e = grind arith
-
-below_end : (a b : ℕ) → nat_lt a b ≡ true → a < b
-below_end a b e = grind arith
-
 number_same : (b : Bool) (at m x : ℕ) (index : List ℕ) → b ≡ false → number_with (if b then Some at else None) m index x ≡ number_at index x
 number_same b at m x index e = ap (λ c. number_with (if c then Some at else None) m index x) e
 
@@ -111,11 +107,11 @@ number_put : (b : Bool) (at m x : ℕ) (index : List ℕ) → b ≡ true → num
 number_put b at m x index e = ap (λ c. number_with (if c then Some at else None) m index x) e
 
 later_none : (ts : List (List ℕ)) (t : NodeTable) (a b : ℕ) → nat_lt a b ≡ false → trees ts t a b ≡ end
-later_none ts t a b e = ap (terms (tree ts t)) (kids-end t a b (at_end a b e))
+later_none ts t a b e = ap (terms (tree ts t)) (kids-end t a b (false_le a b e))
 
 later_some : (ts : List (List ℕ)) (t : NodeTable) (a b : ℕ) → b ≤ length t.kids.items → nat_lt a b ≡ true → (body : Term) × (functions : Terms) × (trees ts t a b ≡ more body functions)
 later_some ts t a b h e =
-    let l = below_end a b e in
+    let l = true_lt a b e in
     (tree ts t (kid_at t a), terms (tree ts t) (kids_between t (a + 1) b), ap (terms (tree ts t)) (kids-some t a b (kid_at t a) l (kid_some t a (omega arith))))
 
 entry_code : (ts : List (List ℕ)) (t : NodeTable) (n : ℕ) (node : Node) (e : FunctionEntry) → slice_get t.nodes.items n ≡ Some node → slice_get t.functions.items node.info ≡ Some e → e.at ≡ n → code_of_number ts t (Some (node.info + 1)) ≡ code_of_parts (function_of ts e) (trees ts t node.mid node.end)

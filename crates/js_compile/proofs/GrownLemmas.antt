@@ -19,7 +19,8 @@ use Rattle.js_code.specs.Forms.{form_of}
 use Rattle.js_code.specs.Trees.{constant_at, kids_between, terms, node_term, tree_within, EachBelow, IsNode, IsNodeAt, IsTable}
 use Rattle.js_compile.specs.Added.{node_behind, IsNodeAdded}
 use Rattle.js_compile.specs.Grown.{IsEntryAt, IsPlacedAt, IsPlacedNode, HasPlaces, Begins, Extends, Keeps, Grows, HasForm, HasTree, HaveTrees}
-use Rattle.js_compile.proofs.NameLemmas.{goes_on_same, goes_on_twice}
+use Rattle.js_compile.proofs.NameLemmas.{goes_on_same}
+use Rattle.js_world.proofs.StartLemmas.{goes-then}
 
 -- ---- lists that go on
 
@@ -102,7 +103,7 @@ pub grows_same : (ts : List (List ℕ)) (t : NodeTable) → Grows ts t ts t
 grows_same ts t = record { names = goes_on_same ts; table = keeps_same t }
 
 pub grows_twice : (ts us vs : List (List ℕ)) (t u v : NodeTable) → Grows ts t us u → Grows us u vs v → Grows ts t vs v
-grows_twice ts us vs t u v g h = record { names = goes_on_twice ts us vs g.names h.names; table = keeps_twice t u v g.table h.table }
+grows_twice ts us vs t u v g h = record { names = goes-then ts us vs g.names h.names; table = keeps_twice t u v g.table h.table }
 
 pub grows_then : (ts us : List (List ℕ)) (t u : NodeTable) → GoesOn ts us → Keeps t u → Grows ts t us u
 grows_then ts us t u g k = record { names = g; table = k }
@@ -298,7 +299,7 @@ pub trees_go_on : (ts us : List (List ℕ)) (t u : NodeTable) (ns : List ℕ) (x
 trees_go_on ts us t u ns xs g w h =
     let m = begins_length t.nodes.items u.nodes.items w.nodes in record {
       below = below_more (length t.nodes.items) (length u.nodes.items) ns m h.below;
-      are = λ vs v fuel l k e. h.are vs v fuel (omega arith) (goes_on_twice ts us vs g k) (extends_twice t u v w e);
+      are = λ vs v fuel l k e. h.are vs v fuel (omega arith) (goes-then ts us vs g k) (extends_twice t u v w e);
     }
 
 pub trees_stay : (ts us : List (List ℕ)) (t u : NodeTable) (ns : List ℕ) (xs : Terms) → Grows ts t us u → HaveTrees ts t ns xs → HaveTrees us u ns xs

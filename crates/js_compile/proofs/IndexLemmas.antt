@@ -8,7 +8,7 @@ use Rattle.js_code.specs.declared.table.NodeTable.{NodeTable}
 use Rattle.js_code.specs.Ops.{is_literal}
 use Rattle.js_code.specs.Forms.{form_of}
 use Rattle.js_code.specs.Trees.{kid_at, kids_between, terms, tree, trees, EachBelow, IsTable}
-use Rattle.js_compile.proofs.TreeLemmas.{kids-some, tree-at, node-at}
+use Rattle.js_code.proofs.TreeLemmas.{kids-some, tree-at, node-at}
 
 pub first_first : (a b c : Option FunctionCode) → first_code (first_code a b) c ≡ first_code a (first_code b c)
 first_first (Some x) b c = refl

@@ -6,7 +6,6 @@ pub mod KeepLemmas
 pub mod TermSteps
 pub mod ScriptLemmas
 pub mod PlainLaws
-pub mod TreeLemmas
 pub mod IndexLemmas
 pub mod PlaceLaws
 pub mod FillLemmas

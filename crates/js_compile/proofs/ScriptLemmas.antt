@@ -20,12 +20,12 @@ use Rattle.js_code.specs.Trees.{tree, IsNodeAt, IsTable, source_tree, source_tre
 use Rattle.js_compile.specs.Added.{IsNodeAdded}
 use Rattle.js_compile.specs.Grown.{IsPlacedNode, HasPlaces, Extends, HasTree, HaveTrees, Holds, HoldsAll}
 use Rattle.js_compile.specs.Scripts.{IsEmpty, Continues, IsSourceAdded, AddsSource, IsProgram, HasNodes}
-use Rattle.js_compile.proofs.NameLemmas.{goes_on_twice}
 use Rattle.js_compile.proofs.GrownLemmas.{extends_same, extends_twice, node_extends, node_keeps, node_tree, no_trees}
 use Rattle.js_compile.proofs.EntryLemmas.{has_bare}
+use Rattle.js_world.proofs.StartLemmas.{goes-then}
 
 pub continues_twice : (ts us vs : List (List ℕ)) (t u v : NodeTable) → Continues ts t us u → Continues us u vs v → Continues ts t vs v
-continues_twice ts us vs t u v g h = record { names = goes_on_twice ts us vs g.names h.names; entries = extends_twice t u v g.entries h.entries; table = λ k. h.table (g.table k); places = λ k. h.places (g.places k) }
+continues_twice ts us vs t u v g h = record { names = goes-then ts us vs g.names h.names; entries = extends_twice t u v g.entries h.entries; table = λ k. h.table (g.table k); places = λ k. h.places (g.places k) }
 
 -- ---- one more source
 
@@ -65,7 +65,7 @@ script_step ts us t u items i number root x o p g s k a n l is vs v h w =
     ap listed_view (take_more items i x l) ∙ listed_view-append (take i items) (get_or items i x ∷ []) ∙ ap (λ y. semantics.joined front (semantics.one (term_view y))) (sym is) in
     let m : number ≡ 1 + count front = omega (arith, n, count_listed (take i items), take_length i items (omega arith)) in
     ap (source_trees vs v) b.sources ∙ sources_push vs v t.sources.items b.entry
-    ∙ ap (λ ps. ps ++ source_tree vs v b.entry ∷ []) (p vs v (goes_on_twice ts us vs g.names h) (extends_twice t u v g.entries w))
+    ∙ ap (λ ps. ps ++ source_tree vs v b.entry ∷ []) (p vs v (goes-then ts us vs g.names h) (extends_twice t u v g.entries w))
     ∙ ap (λ c. let r : SourceTree = record { source = c; tree = tree vs v b.entry.root } in program_from 1 front ++ r ∷ []) b.source
     ∙ ap (λ c. let r : SourceTree = record { source = script_source number; tree = tree vs v c } in program_from 1 front ++ r ∷ []) b.node
     ∙ ap (λ c. let r : SourceTree = record { source = script_source number; tree = c } in program_from 1 front ++ r ∷ []) (tree_of us vs u v root (term_view x) j h w)

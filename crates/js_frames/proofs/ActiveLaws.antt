@@ -16,10 +16,11 @@ use Rattle.js_steps.specs.Gaps.{Gap, filled, plugged}
 use Rattle.js_steps.specs.Tasks.{Wide, gaps_of, task_form, redex_of}
 use Rattle.js_steps.specs.Points.{term_at, IsAt, IsLeaf, IsLeafAt}
 use Rattle.js_steps.proofs.FinishLemmas.{node-form}
-use Rattle.js_steps.proofs.TreeLemmas.{kids-end}
+use Rattle.js_code.proofs.TreeLemmas.{kids-end}
 use Rattle.js_frames.specs.Kinds.{plain, kind_of, active_kind, op_kind, enters_debugger}
 use Rattle.js_frames.proofs.Kinds.{is_debugging}
 use Rattle.js_frames.proofs.KindLaws.{form-kind, task-kind, debugger-kind, debugging-op}
+use Rattle.js_steps.proofs.StepLemmas.{leaf_is}
 
 -- ---- within gaps
 
@@ -76,11 +77,6 @@ node-at t n node e i =
     let P : Option Node → Type 0 = λ o. IsNodeAt t n o in
     subst P e (i.nodes n)
 
-leaf_at : (t : NodeTable) (n : ℕ) (node : Node) → slice_get t.nodes.items n ≡ Some node → IsLeafAt (slice_get t.nodes.items n) → IsLeaf node
-leaf_at t n node e l =
-    let P : Option Node → Type 0 = λ o. IsLeafAt o in
-    subst P e l
-
 -- ---- its kind
 
 pub row-kind : (ts : List (List ℕ)) (t : NodeTable) (ws us : List Wide) (w : Wide) (p : Point) → p ≡ points.Row → ws ≡ w ∷ us → active_kind (active (term_at ts t ws p)) ≡ op_kind t w.op w.info
@@ -93,7 +89,7 @@ row-kind ts t ws us w p q e =
 leaf_kind : (ts : List (List ℕ)) (t : NodeTable) (ws : List Wide) (n : ℕ) (node : Node) → Some node ≡ slice_get t.nodes.items n → IsTable t → IsLeafAt (slice_get t.nodes.items n) → active_kind (active (term_at ts t ws (points.Leaf n))) ≡ op_kind t node.op node.info
 leaf_kind ts t ws n node e i l =
     let k : IsNode t n node = node-at t n node (sym e) i in
-    ap active_kind (active-leaf ts t ws n node (sym e) (leaf_at t n node (sym e) l))
+    ap active_kind (active-leaf ts t ws n node (sym e) (leaf_is t n node (sym e) l))
     ∙ ap kind_of (sym (node-form ts t node.op node.info (addrs.Base 0) k.source k.turns))
     ∙ form-kind ts t node.op node.info (addrs.Base 0) None
 

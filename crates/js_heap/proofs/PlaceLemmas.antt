@@ -8,7 +8,7 @@ use Rattle.js_heap.specs.Keys.{same_units, stands_before, index_of_key, has_key,
 use Rattle.js_heap.specs.Cells.{bound}
 use Rattle.js_heap.specs.Places.{key_place, name_place, new_place}
 
-one_plus : (n : ℕ) → 1 + n ≡ suc n
+pub one_plus : (n : ℕ) → 1 + n ≡ suc n
 one_plus n = omega arith
 
 -- ---- a key's property
@@ -79,7 +79,7 @@ bound-past (b ∷ bs) n v h = bound_none (same_units b.name n) b bs n v h (bound
 
 -- ---- a property that is there
 
-lt_true : (m n : ℕ) → m < n → nat_lt m n ≡ true
+pub lt_true : (m n : ℕ) → m < n → nat_lt m n ≡ true
 lt_true m n h = grind arith
 
 has-true : (ps : List Property) (key : List ℕ) → key_place ps key < length ps → has_key ps key ≡ true

@@ -1,7 +1,6 @@
 -- What a step and a run make of a machine.
-use Rattle.std.proofs.Common.{◌≡◌, false, ℕ, List, [], Option, None, refl, ap, subst, ◌∙◌}
+use Rattle.std.proofs.Common.{◌≡◌, ℕ, List, Option, None, ap, subst, ◌∙◌}
 use Rattle.js_heap.specs.declared.value.Value.{Value}
-use Rattle.js_semantics.specs.Terms.{Term, done, standing, part, is_done}
 use Rattle.js_semantics.specs.State.{State}
 use Rattle.js_semantics.specs.Run.{over, run_of}
 use Rattle.js_code.specs.declared.table.NodeTable.{NodeTable}
@@ -12,7 +11,7 @@ use Rattle.js_steps.specs.Tasks.{Wide}
 use Rattle.js_steps.specs.Points.{term_at, IsAt}
 use Rattle.js_steps.specs.Running.{IsRunning}
 use Rattle.js_steps.specs.Stepping.{finish_of}
-use Rattle.js_steps.proofs.RunLemmas.{at-open, going}
+use Rattle.js_steps.proofs.RunLemmas.{at-open, going, open_runs, done_at}
 use Rattle.js_machine.specs.declared.end.End.{End}
 use Rattle.js_machine.specs.Machines.{StandsUntilEnd}
 
@@ -23,10 +22,6 @@ stands-now t ws p o e h = let P : Option End → Type 0 = StandsUntilEnd t ws p 
 
 -- ---- the end
 
-done_at : (ts : List (List ℕ)) (table : NodeTable) (v : Value) → term_at ts table [] (points.Done v) ≡ done v
-unfolding term_at
-done_at ts table v = refl
-
 -- all is reduced to a value
 pub done-over : (ts : List (List ℕ)) (table : NodeTable) (ws : List Wide) (p : Point) (v : Value) (s : State) → p ≡ points.Done v → IsAt table ws p → run_of (term_at ts table ws p) s ≡ over (finish_of (finishes.Ended v)) s
 done-over ts table ws p v s e at =
@@ -36,11 +31,6 @@ done-over ts table ws p v s e at =
     ∙ ap (λ x. run_of x s) (done_at ts table v)
 
 -- ---- no end yet
-
-open_runs : (t : Term) (s : State) → is_done t ≡ false → IsRunning (run_of t s)
-open_runs (done v) s h = absurd cc
-open_runs (standing v place) s h = tt
-open_runs (part f now later) s h = tt
 
 -- something is left to reduce
 pub left-running : (ts : List (List ℕ)) (table : NodeTable) (ws : List Wide) (p : Point) (s : State) → IsAt table ws p → ((v : Value) → p ≡ points.Done v → ⊥) → IsRunning (run_of (term_at ts table ws p) s)

@@ -19,6 +19,7 @@ use Rattle.js_machine.specs.Machines.{Machine, program_of, term_of, state_of, ru
 use Rattle.js_machine.specs.declared.machine.Started.{Started}
 use Rattle.js_machine.specs.Plain.{HasMadeSteps, HasRunWithin}
 use Rattle.js_machine.specs.Starts.{IsStarted}
+use Rattle.js_semantics.proofs.FollowLemmas.{steps-more}
 
 -- ---- runs
 
@@ -30,10 +31,6 @@ over_stays : (k : ℕ) (p : Program) (a : Addr) (r : Run) → IsOver r → steps
 over_stays zero p a r h = refl
 over_stays (suc k) p a (running t s) h = absurd h
 over_stays (suc k) p a (over f s) h = over_stays k p a (over f s) tt
-
-steps_more : (j k : ℕ) (p : Program) (a : Addr) (r : Run) → steps_in (j + k) p a r ≡ steps_in k p a (steps_in j p a r)
-steps_more zero k p a r = let e : zero + k ≡ k = omega arith in ap (λ n. steps_in n p a r) e
-steps_more (suc j) k p a r = let e : suc j + k ≡ suc (j + k) = omega arith in ap (λ n. steps_in n p a r) e ∙ steps_more j k p a (step_in p a r)
 
 left_more : (j k : ℕ) (p : Program) (a : Addr) (r : Run) → RunsFor j p a r → RunsFor k p a (steps_in j p a r) → RunsFor (j + k) p a r
 left_more zero k p a r h i = let P : ℕ → Type 0 = λ n. RunsFor n p a r in let e : k ≡ zero + k = omega arith in subst P e i
@@ -55,7 +52,7 @@ taken_over (suc k) j p (over f s) h o = absurd h.0
 
 -- ---- machines
 
-same_program : (m n : Machine) → HasSameCode m n → program_of n ≡ program_of m
+pub same_program : (m n : Machine) → HasSameCode m n → program_of n ≡ program_of m
 same_program m n h = rw (h.table, h.names) refl
 
 pub same-code : (m : Machine) → HasSameCode m m
@@ -72,7 +69,7 @@ made-more m n o v w x j k h c kept runs left = record {
   kept = kept;
   runs = λ taken.
       runs taken ∙ ap (λ p. steps_in k p script_scope (run_at n w taken)) (same_program m n h.code) ∙ ap (steps_in k (program_of m) script_scope) (h.runs taken)
-      ∙ sym (steps_more j k (program_of m) script_scope (run_at m v taken));
+      ∙ sym (steps-more j k (program_of m) script_scope (run_at m v taken));
   left = λ taken.
       let P : Program → Type 0 = λ p. RunsFor k p script_scope (run_at n w taken) in
       let Q : Run → Type 0 = RunsFor k (program_of m) script_scope in
@@ -101,7 +98,7 @@ made_over m n v w k left most h e o = record {
       let r : Run = run_at m v taken in
       let P : Run → Type 0 = IsOver in
       h.runs taken ∙ sym (over_stays left (program_of m) script_scope (steps_in k (program_of m) script_scope r) (subst P (h.runs taken) (o taken)))
-      ∙ sym (steps_more k left (program_of m) script_scope r) ∙ ap (λ i. steps_in i (program_of m) script_scope r) e;
+      ∙ sym (steps-more k left (program_of m) script_scope r) ∙ ap (λ i. steps_in i (program_of m) script_scope r) e;
   counted = λ taken.
       let r : Run = run_at m v taken in
       let P : Run → Type 0 = IsOver in

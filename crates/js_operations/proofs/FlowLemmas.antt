@@ -90,7 +90,7 @@ passes-err f v w (Err d) e h k = let P : ActionEnd → Type 0 = λ x. (s : State
 
 -- ---- results and texts that are given
 
-gives_by : (f : (Value → Action) → Action) (v w : World) (r : Result Value ActionEnd) → Yields f v r w → Gives (f give) v r w
+pub gives_by : (f : (Value → Action) → Action) (v w : World) (r : Result Value ActionEnd) → Yields f v r w → Gives (f give) v r w
 gives_by f v w (Ok u) h = λ s. h s give
 gives_by f v w (Err e) h = λ s. h s give
 

@@ -6,25 +6,11 @@ use Rattle.std.proofs.lemmas.List.{drop_all, take_all, length-drop}
 use Rattle.js_heap.specs.declared.value.Value.{Value}
 use Rattle.js_heap.specs.declared.value.Value.TheVariants as values
 use Rattle.js_heap.specs.World.{World}
-use Rattle.js_semantics.specs.BuiltIns.{argument, last_of, joined_part, joined_parts, with_part, begins_with, first_occurrence, indices_from, enumerable_keys}
+use Rattle.js_semantics.specs.BuiltIns.{last_of, joined_part, joined_parts, with_part, begins_with, first_occurrence, indices_from, enumerable_keys}
 use Rattle.std.specs.Prelude.{negsuc, decimal, slice_get, if◌then◌else◌}
 use Rattle.js_heap.specs.declared.cell.Property.{Property}
 use Rattle.js_operations.specs.Texts.{key_if}
 use Rattle.js_operations.proofs.Joining.{with_parts}
-
--- ---- arguments
-
-pub argument-at : (vs : List Value) (i : ℕ) (d : Value) → i < length vs → argument vs i ≡ get_or vs i d
-argument-at [] i d h = absurd (omega arith)
-argument-at (u ∷ vs) zero d h = refl
-argument-at (u ∷ vs) (suc i) d h = argument-at vs i d (omega arith)
-
-pub argument-past : (vs : List Value) (i : ℕ) → length vs ≤ i → argument vs i ≡ values.Undefined
-argument-past [] i h = refl
-argument-past (u ∷ vs) zero h = absurd (omega arith)
-argument-past (u ∷ vs) (suc i) h = argument-past vs i (omega arith)
-
-pub ruleset argument_rules = (argument-at, argument-past)
 
 -- ---- the last value
 

@@ -10,8 +10,7 @@ use crate::built_ins::{new_array, wrong_type};
 use crate::cells::{cut, make_text, put_element};
 use crate::errors::with_result;
 use crate::lists::{
-    Texts, argument, elements_at, first_same, is_array, joined_parts, last_of, slice_places,
-    values_between,
+    Texts, elements_at, first_same, is_array, joined_parts, last_of, slice_places, values_between,
 };
 use crate::seen::{Seen, units_at};
 use crate::shown::between;
@@ -21,6 +20,7 @@ use js_heap::cell::Values;
 use js_heap::value::{Addr, Value};
 use js_values::results::not_a_text;
 use js_world::names::Names;
+use js_world::slots::argument;
 use js_world::world::World;
 use std::alloc::{AllocError, Global};
 

@@ -14,6 +14,7 @@ use js_values::operators::text_of;
 use js_values::values::is_same;
 use js_world::names::Names;
 use js_world::properties::PropertyMap;
+use js_world::slots::argument;
 use js_world::stored::Stored;
 use js_world::world::World;
 use std::alloc::{AllocError, Global};
@@ -39,18 +40,6 @@ impl Texts {
         ensures { result.now ≡ self.now }
     {
         self.items.as_slice()
-    }
-}
-
-/// An argument; a missing one is undefined.
-#[tactic(auto, using(crate::proofs::ListLemmas::argument_rules))]
-pub fn argument(arguments: &[Value], index: usize) -> Value
-    ensures { result ≡ argument arguments.now index }
-{
-    if index < arguments.len() {
-        arguments[index]
-    } else {
-        Value::Undefined
     }
 }
 

@@ -8,13 +8,14 @@ use crate::action_end::ActionEnd;
 use crate::built_ins::wrong_type;
 use crate::cells::make_text;
 use crate::errors::with_result;
-use crate::lists::{argument, first_occurrence, slice_places, unit_of, units_between};
+use crate::lists::{first_occurrence, slice_places, unit_of, units_between};
 use crate::seen::units_at;
 use cdp_text::units::Units;
 use js_heap::built_in::BuiltIn;
 use js_heap::value::{Addr, Value};
 use js_values::results::not_safe;
 use js_world::names::Names;
+use js_world::slots::argument;
 use js_world::world::World;
 use std::alloc::Global;
 

@@ -21,6 +21,7 @@ use Rattle.js_steps.specs.declared.reduced.Reduced.TheVariants as reduced
 use Rattle.js_steps.specs.Tasks.{Wide}
 use Rattle.js_steps.specs.Answers.{reduced_move, reduced_term}
 use Rattle.js_rows.specs.Does.{Does, DoesIn, Replies, DoesWith, stopped, replied, replied_with}
+use Rattle.js_operations.proofs.FlowLemmas.{gives_by}
 
 -- ---- ends
 
@@ -48,16 +49,12 @@ given-replies ts a v (Err x) w h = λ t e s. stops-does ts t e a (with_world s v
 pub replies-by : (ts : List (List ℕ)) (a : Action) (v : World) (r : Result Value ActionEnd) (w : World) (q : Reduced) → Gives a v r w → q ≡ replied r → Replies ts a v q w
 replies-by ts a v r w q h e = let P : Reduced → Type 0 = λ x. Replies ts a v x w in subst P (sym e) (given-replies ts a v r w h)
 
-pub yields-gives : (f : (Value → Action) → Action) (v w : World) (r : Result Value ActionEnd) → Yields f v r w → Gives (f give) v r w
-yields-gives f v w (Ok u) h = λ s. h s give
-yields-gives f v w (Err e) h = λ s. h s give
-
 -- what was read, where it is a value
 pub read-reply : (ts : List (List ℕ)) (x : Computed) (v : Value) (w : World) → x ≡ a_value v → Replies ts (with_result x give) w (reduced.Gives v) w
 read-reply ts x v w h = λ t e s. gives-does ts t e (with_result x give) (with_world s w) v (with_world s w) (ap (λ y. performed (with_result y give) (with_world s w)) h)
 
 pub result-reply : (ts : List (List ℕ)) (x : Computed) (v : World) (r : Result Value ActionEnd) (w : World) (q : Reduced) → Yields (with_result x) v r w → q ≡ replied r → Replies ts (with_result x give) v q w
-result-reply ts x v r w q h e = replies-by ts (with_result x give) v r w q (yields-gives (with_result x) v w r h) e
+result-reply ts x v r w q h e = replies-by ts (with_result x give) v r w q (gives_by (with_result x) v w r h) e
 
 passed_replies : (ts : List (List ℕ)) (f : Action → Action) (u : Value) (v : World) (r : Result (Unit {0}) ActionEnd) (w : World) → Passes f v r w → Replies ts (f (give u)) v (replied_with r u) w
 passed_replies ts f u v (Ok x) w h = λ t e s. gives-does ts t e (f (give u)) (with_world s v) u (with_world s w) (h s (give u))

@@ -14,7 +14,7 @@ use Rattle.js_semantics.specs.declared.form.Source.{Source}
 use Rattle.js_semantics.specs.declared.form.Source.TheVariants.{Script as script_source, Kept as kept_source}
 use Rattle.js_semantics.specs.declared.form.Form.TheVariants.{Frame as frame}
 use Rattle.js_semantics.specs.Terms.{Term, done, part, one, end, settle}
-use Rattle.js_semantics.specs.State.{Frame, State, with_world, Move, goes, travels, has_effect, is_full, Action, go, set_here, push_frame, print, take_line, printed_values, moved_frames, with_here}
+use Rattle.js_semantics.specs.State.{State, with_world, Move, goes, travels, has_effect, is_full, Action, go, set_here, push_frame, print, take_line, printed_values, with_here}
 use Rattle.js_semantics.specs.Functions.{Program, FunctionCode, function_at, frame_limit, called_this, frame_entered, entered, too_deep, not_a_function, call_code, call_cell, call_value, call_row}
 use Rattle.js_code.specs.declared.table.NodeTable.{NodeTable}
 use Rattle.js_code.specs.Trees.{tree}
@@ -36,6 +36,7 @@ use Rattle.js_rows.specs.Codes.{code_at, placed_code}
 use Rattle.js_rows.specs.Calls.{entry_code, Called, called_of, called, call_scope, ActsOn, ActsIn, ActsOf, ActsAlways, ActsAnywhere, EntersFrame, entered_within}
 use Rattle.js_rows.specs.Does.{Does, stopped, replied}
 use Rattle.js_rows.proofs.AnswerLemmas.{stops-does, replies-by}
+use Rattle.js_semantics.proofs.DepthLemmas.{moved-length}
 
 -- ---- an action that comes to another
 
@@ -187,15 +188,11 @@ set_is : (w : World) (c d : Context) (taken : List (List ℕ)) (m : Mark) → Tu
 unfolding performed move_state
 set_is w c d taken m h = ap move_state (h w taken (go (done values.Undefined)))
 
-frames_kept : (fs : List Frame) (m : Mark) → length (moved_frames fs m) ≡ length fs
-frames_kept [] m = refl
-frames_kept (f ∷ fs) m = refl
-
 -- a call asks the world, and how many frames there are
 code_here : (s : State) (m : Mark) (c : Option FunctionCode) (source : Source) (a : Addr) (name : List ℕ) (outer : Option Addr) (made given : Value) (args : List Value) → call_code (with_here s m) c source a name outer made given args ≡ call_code s c source a name outer made given args
 code_here s m None source a name outer made given args = refl
 code_here s m (Some c) source a name None made given args = refl
-code_here s m (Some c) source a name (Some outer) made given args = ap (λ n. if nat_lt n frame_limit then entered c source a name outer (called_this c.form.is_arrow made given) args else too_deep) (frames_kept s.frames m)
+code_here s m (Some c) source a name (Some outer) made given args = ap (λ n. if nat_lt n frame_limit then entered c source a name outer (called_this c.form.is_arrow made given) args else too_deep) (moved-length s.frames m)
 
 cell_here : (p : Program) (s : State) (m : Mark) (a : Addr) (c : Option Cell) (given : Value) (args : List Value) → call_cell p (with_here s m) a c given args ≡ call_cell p s a c given args
 cell_here p s m a None given args = refl

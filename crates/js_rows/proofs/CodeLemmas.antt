@@ -1,8 +1,7 @@
 -- Lemmas on the code of functions.
-use Rattle.std.proofs.Common.{◌≡◌, ℕ, zero, suc, ◌+◌, ◌-◌, ◌<◌, true, List, [], ◌∷◌, length, take, drop, get_or, Option, Some, None, refl, sym, ap, ◌∙◌, arith}
+use Rattle.std.proofs.Common.{◌≡◌, ℕ, zero, suc, ◌+◌, ◌-◌, ◌<◌, true, List, [], ◌∷◌, length, drop, get_or, Option, Some, None, refl, sym, ap, ◌∙◌, arith}
 use Rattle.std.specs.Prelude.{slice_get}
 use Rattle.js_semantics.specs.declared.form.Source.{Source}
-use Rattle.js_semantics.specs.Terms.{more}
 use Rattle.js_semantics.specs.Functions.{same_source, function_at, function_in}
 use Rattle.js_code.specs.declared.node.Node.{Node}
 use Rattle.js_code.specs.declared.node.FunctionEntry.{FunctionEntry}
@@ -10,39 +9,17 @@ use Rattle.js_code.specs.declared.node.SourceEntry.{SourceEntry}
 use Rattle.js_code.specs.declared.table.NodeTable.{NodeTable}
 use Rattle.js_code.specs.Forms.{function_of}
 use Rattle.js_code.specs.Codes.{HasFunctions, code_of_parts, indexed_code}
-use Rattle.js_code.specs.Trees.{tree, trees, terms, kids_between, program_of, source_trees}
+use Rattle.js_code.specs.Trees.{tree, kids_between, program_of, source_trees}
 use Rattle.js_operations.proofs.ListLemmas.{cons_at}
 use Rattle.js_rows.specs.Codes.{placed_code, code_placed}
-use Rattle.js_rows.proofs.PartLemmas.{first-tree}
+use Rattle.js_rows.proofs.OverLemmas.{first-kept}
 
--- ---- the parts behind the first
-
-take_nil : (n : ℕ) → take {A = ℕ} n [] ≡ []
-take_nil zero = refl
-take_nil (suc n) = refl
-
-drop_take : (d : ℕ) (xs : List ℕ) → drop 1 (take d xs) ≡ take (d - 1) (drop 1 xs)
-drop_take zero xs = refl
-drop_take (suc d) [] = sym (take_nil (suc d - 1))
-drop_take (suc d) (x ∷ xs) = let e : d ≡ suc d - 1 = omega arith in ap (λ n. take n xs) e
-
-drop_drop : (m : ℕ) (xs : List ℕ) → drop 1 (drop m xs) ≡ drop (m + 1) xs
-drop_drop zero xs = refl
-drop_drop (suc m) [] = let e : suc (m + 1) ≡ suc m + 1 = omega arith in ap (λ n. drop {A = ℕ} n []) e
-drop_drop (suc m) (x ∷ xs) = let e : suc (m + 1) ≡ suc m + 1 = omega arith in drop_drop m xs ∙ ap (λ n. drop n (x ∷ xs)) e
-
-rest_kids : (ks : List ℕ) (m e : ℕ) → drop 1 (take (e - m) (drop m ks)) ≡ take (e - (m + 1)) (drop (m + 1) ks)
-rest_kids ks m e =
-    let f : e - m - 1 ≡ e - (m + 1) = omega arith in
-    drop_take (e - m) (drop m ks) ∙ ap (λ n. take n (drop 1 (drop m ks))) f ∙ ap (λ xs. take (e - (m + 1)) xs) (drop_drop m ks)
-
-parts_are : (ts : List (List ℕ)) (t : NodeTable) (m e k : ℕ) → Some k ≡ slice_get (kids_between t m e) 0 → trees ts t m e ≡ more (tree ts t k) (trees ts t (m + 1) e)
-parts_are ts t m e k h = first-tree ts t m e k h ∙ ap (λ xs. more (tree ts t k) (terms (tree ts t) xs)) (rest_kids t.kids.items m e)
+-- ---- the code of a node
 
 pub node-placed : (ts : List (List ℕ)) (t : NodeTable) (node : Node) (number k : ℕ) (o : Option FunctionEntry) → Some k ≡ slice_get (kids_between t node.mid node.end) 0 →
     placed_code ts t (record { number = number; body = k; first = node.mid + 1; end = node.end }) o ≡ code_placed ts t node o
 node-placed ts t node number k None h = refl
-node-placed ts t node number k (Some f) h = ap (λ xs. code_of_parts (function_of ts f) xs) (sym (parts_are ts t node.mid node.end k h))
+node-placed ts t node number k (Some f) h = ap (λ xs. code_of_parts (function_of ts f) xs) (sym (first-kept ts t node.mid node.end k h))
 
 -- ---- sources from a place on
 

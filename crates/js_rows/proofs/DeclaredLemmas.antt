@@ -151,7 +151,7 @@ if_skips false v t us scope k h = h
 
 -- ---- functions
 
-texts_length : (ts : List (List ℕ)) (ns : List NameId) → length (texts_of ts ns) ≡ length ns
+pub texts_length : (ts : List (List ℕ)) (ns : List NameId) → length (texts_of ts ns) ≡ length ns
 texts_length ts [] = refl
 texts_length ts (n ∷ ns) = ap (λ m. suc m) (texts_length ts ns)
 

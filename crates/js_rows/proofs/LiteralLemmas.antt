@@ -1,5 +1,5 @@
 -- Lemmas on rows of literals and of functions.
-use Rattle.std.proofs.Common.{◌≡◌, ℕ, suc, refl, sym, subst, ap, ◌∙◌, Bool, true, false, List, [], ◌∷◌, length, drop, Option, Some, None, Result, slice_get, if◌then◌else◌}
+use Rattle.std.proofs.Common.{◌≡◌, ℕ, refl, sym, subst, ap, ◌∙◌, Bool, true, false, List, [], length, drop, Option, Some, None, Result, slice_get, if◌then◌else◌}
 use Rattle.js_heap.specs.declared.value.Addr.{Addr}
 use Rattle.js_heap.specs.declared.value.Value.{Value}
 use Rattle.js_heap.specs.declared.value.Value.TheVariants as values
@@ -18,8 +18,6 @@ use Rattle.js_semantics.specs.State.{State, with_world, Action, go, give, make, 
 use Rattle.js_semantics.specs.BuiltIns.{last_of}
 use Rattle.js_semantics.specs.Functions.{function_cell, function_row, named_function, receiver_of}
 use Rattle.js_semantics.specs.Rows.{object_row, object_or_fail, properties_from}
-use Rattle.js_world.specs.declared.names.NameId.{NameId}
-use Rattle.js_world.specs.Cells.{texts_of}
 use Rattle.js_world.specs.Names.{name_of}
 use Rattle.js_operations.specs.declared.action_end.ActionEnd.{ActionEnd}
 use Rattle.js_operations.specs.Flow.{performed, Stops, Ends, Yields, Gives}
@@ -42,12 +40,9 @@ use Rattle.js_rows.specs.Over.{answered_by, function_made, method_made, IsLitera
 use Rattle.js_rows.proofs.AnswerLemmas.{replies-by, in-context}
 use Rattle.js_rows.proofs.PartLemmas.{first-tree, no-trees}
 use Rattle.js_rows.proofs.OverLemmas.{same-action, yields-does, give-does}
+use Rattle.js_rows.proofs.DeclaredLemmas.{texts_length}
 
 -- ---- functions
-
-texts_length : (ts : List (List ℕ)) (ns : List NameId) → length (texts_of ts ns) ≡ length ns
-texts_length ts [] = refl
-texts_length ts (n ∷ ns) = ap (λ x. suc x) (texts_length ts ns)
 
 pub cell-yields : (ts : List (List ℕ)) (f : FunctionEntry) (name : List ℕ) (scope : Addr) (receiver : Value) (n : ℕ) (v : World) (r : Result Addr ActionEnd) (w : World) → n ≡ length f.parameters.items →
     Yields (make (cells.Function f.code name n (Some scope) receiver)) v r w → Yields (make (function_cell (function_of ts f) name scope receiver)) v r w

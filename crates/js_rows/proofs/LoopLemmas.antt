@@ -1,6 +1,6 @@
 -- Lemmas on rows of loops.
-use Rattle.std.proofs.Common.{◌≡◌, ℕ, ◌+◌, refl, sym, subst, ap, ◌∙◌, Bool, true, false, List, [], ◌∷◌, Some, None, Result, slice_get, drop, if◌then◌else◌, arith}
-use Rattle.std.specs.Prelude.{nat_eq, codes}
+use Rattle.std.proofs.Common.{◌≡◌, ℕ, ◌+◌, refl, sym, subst, ap, ◌∙◌, Bool, true, false, List, [], ◌∷◌, Some, None, Result, slice_get, drop, if◌then◌else◌}
+use Rattle.std.specs.Prelude.{codes}
 use Rattle.js_heap.specs.declared.value.Addr.{Addr}
 use Rattle.js_heap.specs.declared.value.Value.{Value}
 use Rattle.js_heap.specs.declared.value.Value.TheVariants as values
@@ -38,6 +38,7 @@ use Rattle.js_rows.specs.Over.{IsTurn, answered_by, tested}
 use Rattle.js_rows.proofs.AnswerLemmas.{stops-does, in-context}
 use Rattle.js_rows.proofs.PartLemmas.{first-tree, no-trees}
 use Rattle.js_rows.proofs.OverLemmas.{same-action, same-answer, same-row, turns-does, yields-does, give-does}
+use Rattle.js_steps.proofs.StageLemmas.{own-scope}
 
 -- ---- tests
 
@@ -57,16 +58,6 @@ test-reply ts w b u vs q h i j t e =
 
 scope_none : (info : ℕ) (a : Addr) → info ≡ 0 → turn_scope info a ≡ None
 scope_none info a h = ap (λ n. turn_scope n a) h
-
-some_if : (b : Bool) (a : Addr) → b ≡ false → (if b then None else Some a) ≡ Some a
-some_if true a h = cc
-some_if false a h = refl
-
-isnt_zero : (n : ℕ) → (n ≡ 0 → ⊥) → nat_eq n 0 ≡ false
-isnt_zero n h = grind arith
-
-scope_some : (info : ℕ) (a : Addr) → (info ≡ 0 → ⊥) → turn_scope info a ≡ Some a
-scope_some info a h = some_if (nat_eq info 0) a (isnt_zero info h)
 
 pub first-none : (ts : List (List ℕ)) (info : ℕ) (a : Addr) (w : World) → info ≡ 0 → (t : NodeTable) (e : Wide) (vs : List Value) → DoesIn ts t e (loop_row w stages.First (turn_scope info a) vs (later_of ts t e)) w (reduced.Gives values.Undefined) w
 first-none ts info a w h t e vs =
@@ -90,14 +81,14 @@ pub first-copied : (ts : List (List ℕ)) (info : ℕ) (a : Addr) (v w : World) 
     (t : NodeTable) (e : Wide) (vs : List Value) → DoesIn ts t e (loop_row v stages.First (turn_scope info a) vs (later_of ts t e)) v q w
 first-copied ts info a v w r q h y j t e vs =
     let next : Addr → Action = λ b. go (at_test (Some b) (later_of ts t e)) in
-    same-action ts t e (loop_row v stages.First (turn_scope info a) vs (later_of ts t e)) (copied v a next) v w q (ap (λ x. loop_row v stages.First x vs (later_of ts t e)) (scope_some info a h))
+    same-action ts t e (loop_row v stages.First (turn_scope info a) vs (later_of ts t e)) (copied v a next) v w q (ap (λ x. loop_row v stages.First x vs (later_of ts t e)) (own-scope info a h))
     (yields-does ts t e (copied v a) next (λ b. reduced.Tests b) v r w q y j (λ b s. tests_does ts t e b s))
 
 pub body-copied : (ts : List (List ℕ)) (info : ℕ) (a : Addr) (v w : World) (r : Result Addr ActionEnd) (q : Reduced) → (info ≡ 0 → ⊥) → Yields (copied v a) v r w → q ≡ answered_by (λ b. reduced.Updates b) r →
     (t : NodeTable) (e : Wide) (vs : List Value) → DoesIn ts t e (loop_row v stages.Body (turn_scope info a) vs (later_of ts t e)) v q w
 body-copied ts info a v w r q h y j t e vs =
     let next : Addr → Action = λ b. go (at_update (Some b) (later_of ts t e)) in
-    same-action ts t e (loop_row v stages.Body (turn_scope info a) vs (later_of ts t e)) (copied v a next) v w q (ap (λ x. loop_row v stages.Body x vs (later_of ts t e)) (scope_some info a h))
+    same-action ts t e (loop_row v stages.Body (turn_scope info a) vs (later_of ts t e)) (copied v a next) v w q (ap (λ x. loop_row v stages.Body x vs (later_of ts t e)) (own-scope info a h))
     (yields-does ts t e (copied v a) next (λ b. reduced.Updates b) v r w q y j (λ b s. updates_does ts t e b s))
 
 -- ---- for

@@ -16,13 +16,13 @@ use crate::answers::replied;
 use js_heap::value::Value;
 use js_operations::action_end::ActionEnd;
 use js_operations::errors::with_result;
-use js_operations::lists::argument;
 use js_operations::seen::Seen;
 use js_operators::operator::{BinaryOperator, UnaryOperator};
 use js_steps::reduced::Reduced;
 use js_values::numbers::{shift_count, shifted_right, to_signed, to_unsigned};
 use js_values::operators::{binary_result, unary_result};
 use js_world::names::Names;
+use js_world::slots::argument;
 use js_world::world::World;
 use std::alloc::Global;
 

@@ -16,10 +16,11 @@ use crate::parts::part_at;
 use js_code::table::NodeTable;
 use js_heap::value::Value;
 use js_operations::context::Context;
-use js_operations::lists::{argument, last_of};
+use js_operations::lists::last_of;
 use js_semantics::form::Mark;
 use js_steps::reduced::Reduced;
 use js_steps::task::Redex;
+use js_world::slots::argument;
 
 /// `this` (ECMA-262, 13.2.1).
 #[inline(always)]

@@ -345,7 +345,7 @@ quiet-framed b (set_here m k) h = quiet-framed b k h
 quiet-framed b (push_frame f k) h = absurd h
 quiet-framed b (pop_frame k) h = absurd h
 
-moved-length : (fs : List Frame) (m : Mark) → length (moved_frames fs m) ≡ length fs
+pub moved-length : (fs : List Frame) (m : Mark) → length (moved_frames fs m) ≡ length fs
 moved-length [] m = refl
 moved-length (f ∷ fs) m = refl
 

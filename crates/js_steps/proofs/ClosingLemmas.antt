@@ -25,7 +25,7 @@ use Rattle.js_steps.specs.Points.{row_term, IsAtRow}
 use Rattle.js_steps.specs.Stacks.{has_extra, wide, values_of, extra_of, outer_of, without_values, changed, OwnsOnly}
 use Rattle.js_steps.specs.Parts.{IsNextPart}
 use Rattle.js_steps.specs.Settling.{closing_of, closed, next_turn_term, ended_term, settled_row, Through, Comes, restaged, IsInnermost, kept_trees, looped}
-use Rattle.js_steps.proofs.TreeLemmas.{kids-end}
+use Rattle.js_code.proofs.TreeLemmas.{kids-end}
 use Rattle.js_steps.proofs.SettleLemmas.{resettled-part, parts-within, within_parts, scopes-next, scope-next, outer-next, row-next}
 use Rattle.js_steps.proofs.FinishLemmas.{closes, turn-scope, ending-scope}
 use Rattle.js_steps.proofs.StageLemmas.{comes-through, comes-row, comes-part, comes-value, through-refl}

@@ -25,7 +25,7 @@ use Rattle.js_steps.specs.Points.{row_term, term_at, IsAtRow}
 use Rattle.js_steps.specs.Stacks.{begun, with_value}
 use Rattle.js_steps.specs.Parts.{IsOpen, IsNextPart}
 use Rattle.js_steps.specs.Settling.{closing_of, is_waiting, closed, proceeding, CanCome, ComesIn, settled_row, Through, Comes, IsTask, Inward, Enters, IsOnWay, IsOnWayOut, IsInnermost}
-use Rattle.js_steps.proofs.TreeLemmas.{tree-at, node-at, now-below, kids-end}
+use Rattle.js_code.proofs.TreeLemmas.{tree-at, node-at, now-below, kids-end}
 use Rattle.js_steps.proofs.SettledParts.{settled_parts}
 use Rattle.js_steps.proofs.SettleLemmas.{resettled-part, parts-within, parts-settled, within_parts, after_parts, value-settled, scopes-next, scope-next, outer-next, row-next}
 use Rattle.js_steps.proofs.FinishLemmas.{closes, node-form, node-scope}

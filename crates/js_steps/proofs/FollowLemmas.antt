@@ -9,7 +9,7 @@ use Rattle.js_semantics.specs.declared.form.Stage.TheVariants.{First as first}
 use Rattle.js_semantics.specs.Rows.{for_in, body_part}
 use Rattle.js_semantics.specs.Terms.{Term, Terms, done, part, end, more, one, joined, dones, is_done, all_done, finished, settled, settle, at_test, at_update, at_body}
 use Rattle.js_code.specs.Trees.{tree, trees, terms, IsTable}
-use Rattle.js_steps.proofs.TreeLemmas.{kids-some, kids-end, tree-at}
+use Rattle.js_code.proofs.TreeLemmas.{kids-some, kids-end, tree-at}
 use Rattle.js_steps.specs.Gaps.{plugged, resettled}
 use Rattle.js_steps.specs.Tasks.{Wide, form_in, gaps_of, task_form, later_of, with_list, kept_from, index_of, turn_scope, InScopes}
 use Rattle.js_heap.specs.declared.value.Value.{Value}
@@ -34,22 +34,19 @@ use Rattle.js_steps.proofs.GapLaws.{plugged-resettled}
 use Rattle.js_steps.proofs.ScopeLaws.{has_scope, scopes-same, scopes-own, scopes-plain}
 use Rattle.js_steps.specs.Stacks.{has_extra, OwnsOnly, begun, outer_of, values_of, extra_of, wide, with_value, without_values, changed, turned, turned_extra, owning}
 use Rattle.js_steps.specs.Answers.{in_scope, head_of, rest_of, own_scope, now_of, added, listed, assigning, operating, assigned, called, this_of_call, reduced_term}
+use Rattle.js_steps.proofs.StageLemmas.{outer_scopes}
 
 -- ---- scopes
 
-pub scopes-outer : (t : NodeTable) (root : Addr) (ws : List Wide) → InScopes t root ws → InScopes t root (outer_of ws)
-scopes-outer t root [] h = tt
-scopes-outer t root (w ∷ ws) h = h.1
-
 -- the innermost task is gone
 pub scopes-popped : (t : NodeTable) (root : Addr) (ws us : List Wide) → us ≡ outer_of ws → InScopes t root ws → InScopes t root us
-scopes-popped t root ws us e h = let Q : List Wide → Type 0 = InScopes t root in subst Q (sym e) (scopes-outer t root ws h)
+scopes-popped t root ws us e h = let Q : List Wide → Type 0 = InScopes t root in subst Q (sym e) (outer_scopes t root ws h)
 
 -- and one with a scope of its own is there in its place
 pub scopes-replaced : (t : NodeTable) (root : Addr) (w : Wide) (ws us xs : List Wide) → has_scope w.op w.info ≡ true → us ≡ outer_of ws → xs ≡ w ∷ us → InScopes t root ws → InScopes t root xs
 scopes-replaced t root w ws us xs o e g h =
     let Q : List Wide → Type 0 = InScopes t root in
-    subst Q (sym (g ∙ ap (λ ys. w ∷ ys) e)) (scopes-own t root w (outer_of ws) o (scopes-outer t root ws h))
+    subst Q (sym (g ∙ ap (λ ys. w ∷ ys) e)) (scopes-own t root w (outer_of ws) o (outer_scopes t root ws h))
 
 -- ---- forms around a part
 
@@ -305,12 +302,12 @@ constants-scopes t old us vs new mid last a u v n = λ root h.
     let Q : List Wide → Type 0 = InScopes t root in
     let ys : List Wide = begun ops.Scoped 0 0 0 0 a None ∷ outer_of old in
     subst Q (sym (n ∙ ap (λ xs. begun ops.LoopFirst 0 mid mid last a None ∷ xs) (v ∙ ap (λ xs. begun ops.Scoped 0 0 0 0 a None ∷ xs) u)))
-    (scopes-plain t root (begun ops.LoopFirst 0 mid mid last a None) ys refl refl (scopes-own t root (begun ops.Scoped 0 0 0 0 a None) (outer_of old) refl (scopes-outer t root old h)))
+    (scopes-plain t root (begun ops.LoopFirst 0 mid mid last a None) ys refl refl (scopes-own t root (begun ops.Scoped 0 0 0 0 a None) (outer_of old) refl (outer_scopes t root old h)))
 
 pub variables-scopes : (t : NodeTable) (old us new : List Wide) (mid last : ℕ) (a : Addr) → us ≡ outer_of old → new ≡ begun ops.LoopFirst 1 mid mid last a None ∷ us → (root : Addr) → InScopes t root old → InScopes t root new
 variables-scopes t old us new mid last a u n = λ root h.
     let Q : List Wide → Type 0 = InScopes t root in
-    subst Q (sym (n ∙ ap (λ xs. begun ops.LoopFirst 1 mid mid last a None ∷ xs) u)) (scopes-own t root (begun ops.LoopFirst 1 mid mid last a None) (outer_of old) refl (scopes-outer t root old h))
+    subst Q (sym (n ∙ ap (λ xs. begun ops.LoopFirst 1 mid mid last a None ∷ xs) u)) (scopes-own t root (begun ops.LoopFirst 1 mid mid last a None) (outer_of old) refl (outer_scopes t root old h))
 
 -- ---- a `for .. of`
 
@@ -477,7 +474,7 @@ turned-scopes t old mid task turn a l h s o = λ root k.
     let Q : List Wide → Type 0 = InScopes t root in
     let w : Wide = wide turn (values_of mid) None in
     let own : has_scope turn.op turn.info ≡ true = ap (λ y. has_scope turn.op y) s.1 ∙ ap (λ y. has_scope y 1) s.0 ∙ loop_has task.op l in
-    subst Q (sym h) (scopes-own t root w (outer_of mid) own (subst Q (sym o) (scopes-outer t root old k)))
+    subst Q (sym h) (scopes-own t root w (outer_of mid) own (subst Q (sym o) (outer_scopes t root old k)))
 
 pub turned-inner : (t : NodeTable) (mid new : List Wide) (from : List (List ℕ) → Term) (next : Next) (task turn : Task) (a : Addr) → IsInnermost turn None mid → IsTurned task turn a → Comes t mid new from next → (root : Addr) → ComesIn root new a next
 turned-inner t mid new from next task turn a h s c = λ root.

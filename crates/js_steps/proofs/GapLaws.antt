@@ -81,7 +81,7 @@ unfinished : (vs : List Value) (t : Term) (ts : Terms) → is_done t ≡ false �
 unfinished [] t ts h = rw h refl
 unfinished (v ∷ vs) t ts h = unfinished vs t ts h
 
-settled_filled : (g : Gap) (t : Term) → is_done t ≡ false → settled g.form (gap_parts g t) g.later ≡ filled g t
+pub settled_filled : (g : Gap) (t : Term) → is_done t ≡ false → settled g.form (gap_parts g t) g.later ≡ filled g t
 settled_filled g t h = ap (λ b. if b then finished g.form (gap_parts g t) g.later else filled g t) (unfinished g.before t g.after h)
 
 -- what isn't finished leaves the forms around it as they are

@@ -7,7 +7,7 @@ use Rattle.js_code.specs.Trees.{kids_between, terms, tree, trees, EachBelow}
 use Rattle.js_steps.specs.Tasks.{Wide}
 use Rattle.js_steps.specs.Stacks.{values_of, with_value, at_part}
 use Rattle.js_steps.specs.Parts.{IsOpen, mid_of, parts_of, IsTaken, IsNextPart}
-use Rattle.js_steps.proofs.TreeLemmas.{kids-some, kids-none, kids-end}
+use Rattle.js_code.proofs.TreeLemmas.{kids-some, kids-none, kids-end}
 
 -- ---- values and parts
 

@@ -27,15 +27,12 @@ use Rattle.js_steps.specs.Parts.{IsOpen}
 use Rattle.js_steps.specs.Running.{why_of, RunsTo, IsRunning, RunsFor, CountsAs, asks_at, HasPassed, IsAsked, passed_steps, IfGoes, HasRun}
 use Rattle.js_steps.specs.Stepping.{Tells, EndsSo, finish_of, IfGoesOn, StandsIn, IsGoing}
 use Rattle.js_steps.proofs.TreeLemmas.{open-tree}
+use Rattle.js_semantics.proofs.FollowLemmas.{steps-suc}
 
 -- ---- one step more
 
-steps_last : (k : ℕ) (p : Program) (a : Addr) (r : Run) → steps_in (suc k) p a r ≡ step_in p a (steps_in k p a r)
-steps_last zero p a r = refl
-steps_last (suc k) p a r = steps_last k p a (step_in p a r)
-
 one_more : (k : ℕ) (p : Program) (a : Addr) (r : Run) → steps_in (k + 1) p a r ≡ step_in p a (steps_in k p a r)
-one_more k p a r = rw add-one (steps_last k p a r)
+one_more k p a r = rw add-one (steps-suc k p a r)
 
 -- ---- where something is left to reduce, the run isn't over
 
@@ -60,7 +57,7 @@ step-of p a (done v) s h = cc
 step-of p a (standing v place) s h = refl
 step-of p a (part f now later) s h = refl
 
-open_runs : (t : Term) (s : State) → is_done t ≡ false → IsRunning (run_of t s)
+pub open_runs : (t : Term) (s : State) → is_done t ≡ false → IsRunning (run_of t s)
 open_runs (done v) s h = absurd cc
 open_runs (standing v place) s h = tt
 open_runs (part f now later) s h = tt
@@ -164,7 +161,7 @@ stop-stands t root ws p stepped why e h =
     let Q : Option Why → Type 0 = λ x. IfGoesBy x (StandsIn t root ws p) in
     subst Q e (goes_by stepped (StandsIn t root ws p) h)
 
-done_at : (ts : List (List ℕ)) (t : NodeTable) (v : Value) → term_at ts t [] (points.Done v) ≡ done v
+pub done_at : (ts : List (List ℕ)) (t : NodeTable) (v : Value) → term_at ts t [] (points.Done v) ≡ done v
 unfolding term_at
 done_at ts t v = refl
 

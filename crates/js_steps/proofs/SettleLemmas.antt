@@ -1,13 +1,13 @@
 -- From the parts of a task to what comes next.
-use Rattle.std.proofs.Common.{◌≡◌, ℕ, ◌<◌, true, false, ◌&&◌, List, [], ◌∷◌, ◌++◌, Option, None, Some, slice_get, refl, sym, ap, subst, ◌∙◌, arith, if◌then◌else◌}
+use Rattle.std.proofs.Common.{◌≡◌, ℕ, ◌<◌, true, List, [], ◌∷◌, ◌++◌, Option, None, Some, slice_get, refl, sym, ap, subst, ◌∙◌, arith, if◌then◌else◌}
 use Rattle.js_heap.specs.declared.value.Addr.{Addr}
 use Rattle.js_heap.specs.declared.value.Value.{Value}
 use Rattle.js_semantics.specs.declared.form.Form.{Form}
-use Rattle.js_semantics.specs.Terms.{Term, done, part, Terms, more, joined, dones, is_done, all_done, finished, settled}
+use Rattle.js_semantics.specs.Terms.{Term, done, part, Terms, dones, all_done, finished, settled}
 use Rattle.js_semantics.specs.Next.{scope_in}
 use Rattle.js_code.specs.declared.table.NodeTable.{NodeTable}
 use Rattle.js_code.specs.Trees.{tree, trees}
-use Rattle.js_steps.specs.Gaps.{Gap, gap_parts, filled, plugged, resettled}
+use Rattle.js_steps.specs.Gaps.{Gap, gap_parts, plugged, resettled}
 use Rattle.js_steps.specs.Tasks.{Wide, task_form, later_of, gap_of, gaps_of, scope_of, InScopes}
 use Rattle.js_steps.specs.Points.{row_term, IsAtRow}
 use Rattle.js_steps.specs.Stacks.{values_of, with_value, outer_of}
@@ -16,29 +16,19 @@ use Rattle.js_steps.specs.Settling.{settled_row}
 use Rattle.js_steps.proofs.SettledParts.{settled_parts}
 use Rattle.js_steps.proofs.TreeLemmas.{open-tree}
 use Rattle.js_steps.proofs.PartLemmas.{joined-value}
+use Rattle.js_steps.proofs.GapLaws.{plugged-resettled, settled_filled}
 
 -- ---- a part that is no value
-
-open_parts : (vs : List Value) (t : Term) (us : Terms) → is_done t ≡ false → all_done (joined (dones vs) (more t us)) ≡ false
-open_parts [] t us o = ap (λ b. b && all_done us) o
-open_parts (v ∷ vs) t us o = open_parts vs t us o
 
 all_values : (vs : List Value) → all_done (dones vs) ≡ true
 all_values [] = refl
 all_values (v ∷ vs) = all_values vs
 
-pub settled-open : (g : Gap) (t : Term) → is_done t ≡ false → settled g.form (gap_parts g t) g.later ≡ filled g t
-settled-open g t o = ap (λ b. if b then finished g.form (gap_parts g t) g.later else filled g t) (open_parts g.before t g.after o)
-
 pub settled-values : (f : Form) (vs : List Value) (later : Terms) → settled f (dones vs) later ≡ finished f (dones vs) later
 settled-values f vs later = ap (λ b. if b then finished f (dones vs) later else part f (dones vs) later) (all_values vs)
 
-pub resettled-open : (gs : List Gap) (t : Term) → is_done t ≡ false → resettled gs t ≡ plugged gs t
-resettled-open [] t o = refl
-resettled-open (g ∷ gs) t o = ap (resettled gs) (settled-open g t o) ∙ resettled-open gs (filled g t) refl
-
 pub resettled-part : (gs : List Gap) (f : Form) (now later : Terms) → resettled gs (part f now later) ≡ plugged gs (part f now later)
-resettled-part gs f now later = resettled-open gs (part f now later) refl
+resettled-part gs f now later = plugged-resettled gs (part f now later) refl
 
 -- ---- after the values of the literal parts
 
@@ -67,7 +57,7 @@ open_if t old new (Some n) i = i.part.form
 settled_by : (ts : List (List ℕ)) (t : NodeTable) (w : Wide) (ws : List Wide) (n : Option ℕ) → IsOpenIfSome t n → resettled (gaps_of ts t ws) (settled (task_form ts t w) (parts_with ts t (w ∷ ws) n) (later_of ts t w)) ≡ after_parts ts t (w ∷ ws) n
 settled_by ts t w ws None o = ap (resettled (gaps_of ts t ws)) (settled-values (task_form ts t w) w.values (later_of ts t w))
 settled_by ts t w ws (Some n) o =
-    ap (resettled (gaps_of ts t ws)) (settled-open (gap_of ts t w) (tree ts t n) (open-tree ts t n o))
+    ap (resettled (gaps_of ts t ws)) (settled_filled (gap_of ts t w) (tree ts t n) (open-tree ts t n o))
     ∙ resettled-part (gaps_of ts t ws) (task_form ts t w) (gap_parts (gap_of ts t w) (tree ts t n)) (later_of ts t w)
 
 within_by : (ts : List (List ℕ)) (t : NodeTable) (w : Wide) (ws : List Wide) (n : Option ℕ) → plugged (gaps_of ts t ws) (part (task_form ts t w) (parts_with ts t (w ∷ ws) n) (later_of ts t w)) ≡ within_parts ts t (w ∷ ws) n
@@ -97,7 +87,7 @@ parts-within ts t w ws new n i =
     ∙ within_by ts t u ws n
     ∙ ap (λ x. within_parts ts t x n) (sym i.same)
 
-value_form : (ts : List (List ℕ)) (t : NodeTable) (w : Wide) (vs : List Value) → task_form ts t (record w { values = vs }) ≡ task_form ts t w
+pub value_form : (ts : List (List ℕ)) (t : NodeTable) (w : Wide) (vs : List Value) → task_form ts t (record w { values = vs }) ≡ task_form ts t w
 unfolding task_form
 value_form ts t w vs = refl
 

@@ -24,8 +24,9 @@ use Rattle.js_steps.specs.Points.{row_term, IsAtRow}
 use Rattle.js_steps.specs.Stacks.{wide, values_of, with_value, outer_of}
 use Rattle.js_steps.specs.Parts.{IsOpen}
 use Rattle.js_steps.specs.Settling.{Through, Comes, IsOpenPart, restaged, IsInnermost, kept_trees, looped, staged}
-use Rattle.js_steps.proofs.TreeLemmas.{kids-some, kids-none, kids-end, open-tree}
-use Rattle.js_steps.proofs.SettleLemmas.{resettled-part, scopes-value, scope-value}
+use Rattle.js_code.proofs.TreeLemmas.{kids-some, kids-none, kids-end}
+use Rattle.js_steps.proofs.TreeLemmas.{open-tree}
+use Rattle.js_steps.proofs.SettleLemmas.{resettled-part, scopes-value, scope-value, value_form}
 use Rattle.js_steps.proofs.FinishLemmas.{loop-scope}
 
 -- ---- places of kept parts
@@ -59,7 +60,7 @@ comes-row t old new from h r e = record { term = e; stands = r; scoped = h.scope
 pub comes-part : (t : NodeTable) (old new : List Wide) (from : List (List ℕ) → Term) (n : ℕ) → Through t old new → IsOpen (slice_get t.nodes.items n) → ((ts : List (List ℕ)) → from ts ≡ plugged (gaps_of ts t new) (tree ts t n)) → Comes t old new from (nexts.Part n)
 comes-part t old new from n h o e = record { term = e; stands = record { form = o; inner = h.inner }; scoped = h.scoped }
 
-outer_scopes : (t : NodeTable) (root : Addr) (ws : List Wide) → InScopes t root ws → InScopes t root (outer_of ws)
+pub outer_scopes : (t : NodeTable) (root : Addr) (ws : List Wide) → InScopes t root ws → InScopes t root (outer_of ws)
 outer_scopes t root [] s = tt
 outer_scopes t root (w ∷ ws) s = s.1
 
@@ -81,10 +82,6 @@ pub through-refl : (t : NodeTable) (ws : List Wide) → Through t ws ws
 through-refl t ws = record { outer = refl; inner = λ root. refl; scoped = λ root s. s }
 
 -- ---- a kept part that is entered
-
-value_form : (ts : List (List ℕ)) (t : NodeTable) (w : Wide) (vs : List Value) → task_form ts t (record w { values = vs }) ≡ task_form ts t w
-unfolding task_form
-value_form ts t w vs = refl
 
 pub enter-value : (t : NodeTable) (old new : List Wide) (x : List (List ℕ) → Term) (v : Value) → IsAtRow old → values_of old ≡ [] → ((ts : List (List ℕ)) → x ts ≡ done v) → new ≡ with_value v old → Comes t old new (λ ts. staged ts t old (x ts)) nexts.Row
 enter-value t [] new x v r n e s = absurd r

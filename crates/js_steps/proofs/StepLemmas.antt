@@ -33,7 +33,7 @@ use Rattle.js_steps.specs.Stacks.{wide, outer_of, values_of, extra_of}
 use Rattle.js_steps.specs.Following.{innermost}
 use Rattle.js_steps.specs.Stepping.{Tells, TellsWithin, Steps, answer_of, Says, went_of}
 use Rattle.js_steps.proofs.GapLaws.{next-row-within, next-standing-within}
-use Rattle.js_steps.proofs.TreeLemmas.{kids-end, node-at}
+use Rattle.js_code.proofs.TreeLemmas.{kids-end, node-at}
 use Rattle.js_steps.proofs.FinishLemmas.{node-scope}
 use Rattle.js_steps.proofs.DescentLemmas.{node_task, node-tree}
 use Rattle.js_steps.proofs.ConcludeLemmas.{says, went-follows}
@@ -114,7 +114,7 @@ leaf_form : (ts : List (List ℕ)) (t : NodeTable) (node : Node) (inner : Addr) 
 unfolding task_form
 leaf_form ts t node inner = refl
 
-leaf_is : (t : NodeTable) (n : ℕ) (node : Node) → slice_get t.nodes.items n ≡ Some node → IsLeafAt (slice_get t.nodes.items n) → IsLeaf node
+pub leaf_is : (t : NodeTable) (n : ℕ) (node : Node) → slice_get t.nodes.items n ≡ Some node → IsLeafAt (slice_get t.nodes.items n) → IsLeaf node
 leaf_is t n node e h =
     let P : Option Node → Type 0 = IsLeafAt in
     subst P e h

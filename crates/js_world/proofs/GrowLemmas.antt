@@ -4,6 +4,8 @@ use Rattle.std.specs.Prelude.{slice_get, unwrap_or, nat_lt}
 use Rattle.js_heap.specs.Keys.{same_units}
 use Rattle.js_world.specs.Names.{spare, name_of, Differ, text_place, number_of}
 use Rattle.js_world.proofs.TableLemmas.{same-refl, same-only}
+use Rattle.js_heap.proofs.PlaceLemmas.{one_plus, lt_true}
+use Rattle.js_world.proofs.WeightLemmas.{true_lt}
 
 -- ---- texts that stay
 
@@ -17,9 +19,6 @@ unfolding name_of
 name-stays ts us n h = or_first ts us n (spare (ts ++ us) n) (spare ts n) h
 
 -- ---- texts that are added
-
-one_plus : (n : ℕ) → 1 + n ≡ suc n
-one_plus n = omega arith
 
 place_first_if : (t : Bool) (ts us : List (List ℕ)) (s : List ℕ) → (text_place ts s < length ts → text_place (ts ++ us) s ≡ text_place ts s) → (if t then 0 else 1 + text_place ts s) < suc (length ts) → (if t then 0 else 1 + text_place (ts ++ us) s) ≡ (if t then 0 else 1 + text_place ts s)
 place_first_if true ts us s k h = refl
@@ -112,16 +111,10 @@ differ-more ts t d e = differ_more ts t d (number-none ts t e)
 abbrev numbered : ℕ → ℕ → Option ℕ
 numbered m l = if nat_lt m l then Some m else None
 
-lt_true : (m n : ℕ) → m < n → nat_lt m n ≡ true
-lt_true m n h = grind arith
-
 lt_false : (m n : ℕ) → n ≤ m → nat_lt m n ≡ false
 lt_false m n h = grind arith
 
-true_lt : (m n : ℕ) → nat_lt m n ≡ true → m < n
-true_lt m n e = grind arith
-
-false_le : (m n : ℕ) → nat_lt m n ≡ false → n ≤ m
+pub false_le : (m n : ℕ) → nat_lt m n ≡ false → n ≤ m
 false_le m n e = grind arith
 
 numbered_in : (m l : ℕ) → m < l → numbered m l ≡ Some m

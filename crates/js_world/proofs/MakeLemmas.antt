@@ -1,6 +1,6 @@
 -- Making cells and changing them, in a heap.
 use Rattle.std.proofs.Common.{◌≡◌, ℕ, ◌+◌, ◌-◌, ◌^◌, ◌<◌, ◌≤◌, true, List, [], ◌∷◌, ◌++◌, length, Ok, refl, sym, subst, arith, length-append, min}
-use Rattle.std.specs.Prelude.{nat_le, nat_lt}
+use Rattle.std.specs.Prelude.{nat_le}
 use Rattle.js_heap.specs.declared.value.Addr.TheVariants.{Base}
 use Rattle.js_heap.specs.Cells.{weight}
 use Rattle.js_heap.specs.World.{fine, make_cell}
@@ -9,9 +9,7 @@ use Rattle.js_world.specs.Cells.{cell_of}
 use Rattle.js_world.specs.Heaps.{Heap, Fit, base_world, heap_world, MakesRoom, is_within}
 use Rattle.js_world.proofs.HeapLemmas.{cells-append, cells-length}
 use Rattle.js_world.proofs.WithinLemmas.{within-append, test-within}
-
-pub lt_true : (m n : ℕ) → m < n → nat_lt m n ≡ true
-lt_true m n h = grind arith
+use Rattle.js_heap.proofs.PlaceLemmas.{lt_true}
 
 pub le_true : (m n : ℕ) → m ≤ n → nat_le m n ≡ true
 le_true m n h = grind arith

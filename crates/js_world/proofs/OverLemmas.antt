@@ -16,10 +16,11 @@ use Rattle.js_world.specs.Calls.{HasPlace}
 use Rattle.js_world.specs.Heaps.{Heap, Fit, MakesRoom, value_in_cells}
 use Rattle.js_world.specs.Overlays.{Over, overlay_world, over_world, space_of}
 use Rattle.js_world.proofs.HeapLemmas.{cells-append, cells-length}
-use Rattle.js_world.proofs.MakeLemmas.{lt_true, le_true, units_same}
+use Rattle.js_world.proofs.MakeLemmas.{le_true, units_same}
 use Rattle.js_world.proofs.BindLemmas.{scope-written, scope-replaced}
 use Rattle.js_world.proofs.StayLemmas.{cells-stay}
 use Rattle.js_world.proofs.WithinLemmas.{cells-more}
+use Rattle.js_heap.proofs.PlaceLemmas.{lt_true}
 
 -- ---- making
 

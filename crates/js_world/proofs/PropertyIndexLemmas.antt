@@ -11,7 +11,8 @@ use Rattle.js_heap.specs.Keys.{same_units, has_key, is_shortest, index_within, i
 use Rattle.js_heap.specs.Places.{key_place, new_place}
 use Rattle.js_heap.proofs.PlaceLemmas.{has-place}
 use Rattle.js_world.specs.PropertyOrder.{AreIndicesOf, AreAbove, Ascend, IsSearched}
-use Rattle.js_world.proofs.PropertyKeyLemmas.{same-refl, units-same, zip-length}
+use Rattle.js_world.proofs.PropertyKeyLemmas.{zip-length}
+use Rattle.js_world.proofs.TableLemmas.{same-only, same-refl}
 
 -- ---- a key is the decimal text of its index
 
@@ -56,7 +57,7 @@ same-index a b i x ha hb = elim (cases_eq i x) as (λ _. same_units a b ≡ nat_
   where
     no_same : (t : Bool) → same_units a b ≡ t → (i ≡ x → ⊥) → t ≡ false
     no_same true f e =
-        let g = ap index_of_key (units-same a b f) in
+        let g = ap index_of_key (same-only a b f) in
         let k : i ≡ x = cc g in
         absurd (e k)
     no_same false f e = refl
@@ -65,7 +66,7 @@ other-key : (a b : List ℕ) (i : ℕ) → index_of_key a ≡ Some i → index_o
 other-key a b i ha hb = by (same_units a b) refl
   where
     by : (t : Bool) → same_units a b ≡ t → t ≡ false
-    by true f = let g = ap index_of_key (units-same a b f) in cc g
+    by true f = let g = ap index_of_key (same-only a b f) in cc g
     by false f = refl
 
 -- ---- places of indices

@@ -3,7 +3,7 @@ use Rattle.std.proofs.Common.{◌≡◌, ℕ, zero, suc, ◌+◌, ◌<◌, ◌�
 use Rattle.std.specs.Prelude.{slice_set, insert, remove, Vec, position, ◌&&◌, ◌||◌}
 use Rattle.std.specs.List.{AllZip, list_any, prefix_len}
 use Rattle.std.specs.Cmp.Lexicographic.{pointwise}
-use Rattle.std.proofs.lemmas.Bool.{eqb-true, eq-eqb, ne_eqb, ltb-false, cases_eq, and_parts}
+use Rattle.std.proofs.lemmas.Bool.{eq-eqb, ne_eqb, ltb-false, cases_eq}
 use Rattle.js_heap.specs.declared.value.Value.{Value}
 use Rattle.js_heap.specs.declared.cell.Property.{Property}
 use Rattle.js_heap.specs.Keys.{same_units, has_key}
@@ -27,20 +27,6 @@ same-sym [] [] = refl
 same-sym [] (v ∷ vs) = refl
 same-sym (u ∷ us) [] = refl
 same-sym (u ∷ us) (v ∷ vs) = both (nat_eq u v) (nat_eq v u) (same_units us vs) (same_units vs us) (eq_sym u v) (same-sym us vs)
-
-pub same-refl : (us : List ℕ) → same_units us us ≡ true
-same-refl [] = refl
-same-refl (u ∷ us) = both (nat_eq u u) true (same_units us us) true (eq-eqb u u refl) (same-refl us)
-
-pub units-same : (us vs : List ℕ) → same_units us vs ≡ true → us ≡ vs
-units-same [] [] h = refl
-units-same [] (v ∷ vs) h = cc
-units-same (u ∷ us) [] h = cc
-units-same (u ∷ us) (v ∷ vs) h =
-    let t = and_parts (nat_eq u v) (same_units us vs) h in
-    let e = eqb-true u v t.0 in
-    let f = units-same us vs t.1 in
-    cc
 
 -- ---- a list beside the properties
 

@@ -1,5 +1,5 @@
 -- Lemmas on the own properties of an object.
-use Rattle.std.proofs.Common.{◌≡◌, ℕ, suc, ◌+◌, ◌<◌, ◌≤◌, Bool, true, false, List, [], ◌∷◌, length, Option, Some, refl, ap, ◌∙◌, arith, if◌then◌else◌}
+use Rattle.std.proofs.Common.{◌≡◌, ℕ, ◌+◌, ◌<◌, ◌≤◌, Bool, true, false, List, [], ◌∷◌, length, Option, Some, refl, ap, ◌∙◌, if◌then◌else◌}
 use Rattle.std.specs.Prelude.{slice_get}
 use Rattle.std.proofs.lemmas.Bool.{lt-ltb, le-ltb}
 use Rattle.js_heap.specs.declared.value.Value.{Value}
@@ -7,10 +7,7 @@ use Rattle.js_heap.specs.declared.cell.Property.{Property}
 use Rattle.js_heap.specs.Keys.{property_at, same_units, has_key, with_value, placed, put_property, assigned}
 use Rattle.js_heap.specs.Places.{key_place}
 use Rattle.js_world.specs.PropertyOrder.{with_value_at}
-use Rattle.js_heap.proofs.PlaceLemmas.{has-place}
-
-one_plus : (n : ℕ) → 1 + n ≡ suc n
-one_plus n = omega arith
+use Rattle.js_heap.proofs.PlaceLemmas.{has-place, one_plus}
 
 put_if : (b : Bool) (ps : List Property) (key : List ℕ) (v : Value) → b ≡ false → (if b then with_value ps key v else placed ps (assigned key v)) ≡ placed ps (assigned key v)
 put_if true ps key v e = cc

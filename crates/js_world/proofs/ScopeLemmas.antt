@@ -16,9 +16,7 @@ use Rattle.js_heap.specs.Arguments.{argument, parameters_from}
 use Rattle.js_world.specs.Calls.{kept_found}
 use Rattle.js_world.specs.Places.{with_value_at}
 use Rattle.js_world.proofs.TableLemmas.{same-names}
-
-one_plus : (n : ℕ) → 1 + n ≡ suc n
-one_plus n = omega arith
+use Rattle.js_heap.proofs.PlaceLemmas.{one_plus}
 
 pub bindings-append : (ts : List (List ℕ)) (ss rs : List Slot) → bindings ts (ss ++ rs) ≡ bindings ts ss ++ bindings ts rs
 bindings-append ts [] rs = refl

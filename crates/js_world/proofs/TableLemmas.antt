@@ -13,7 +13,7 @@ nat_same m = grind arith
 nat_true : (m n : ℕ) → nat_eq m n ≡ true → m ≡ n
 nat_true m n e = grind arith
 
-and_both : (b c : Bool) → (b && c) ≡ true → (b ≡ true) × (c ≡ true)
+pub and_both : (b c : Bool) → (b && c) ≡ true → (b ≡ true) × (c ≡ true)
 and_both true c e = (refl, e)
 and_both false c e = absurd cc
 

@@ -9,6 +9,7 @@ use Rattle.js_heap.specs.Keys.{same_units, stands_before, index_of_key, property
 use Rattle.js_heap.specs.Cells.{properties_weight, bound}
 use Rattle.js_world.specs.Changes.{Moves, Exceeds}
 use Rattle.js_world.proofs.TableLemmas.{same-only}
+use Rattle.js_heap.proofs.PlaceLemmas.{lt_true}
 
 -- ---- whether there is one
 
@@ -29,10 +30,7 @@ and_not true true e f = refl
 and_not true false e f = absurd cc
 and_not false b e f = absurd cc
 
-lt_true : (m n : ℕ) → m < n → nat_lt m n ≡ true
-lt_true m n h = grind arith
-
-true_lt : (m n : ℕ) → nat_lt m n ≡ true → m < n
+pub true_lt : (m n : ℕ) → nat_lt m n ≡ true → m < n
 true_lt m n e = grind arith
 
 -- where there is room, or the key is there

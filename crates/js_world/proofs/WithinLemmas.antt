@@ -1,6 +1,6 @@
 -- Cells with only known names.
-use Rattle.std.proofs.Common.{◌≡◌, ℕ, zero, suc, ◌<◌, ◌≤◌, Bool, true, false, List, [], ◌∷◌, ◌++◌, length, get_or, refl, ap, subst, arith}
-use Rattle.std.specs.Prelude.{slice_set, nat_lt, ◌&&◌}
+use Rattle.std.proofs.Common.{◌≡◌, ℕ, zero, suc, ◌<◌, ◌≤◌, true, List, [], ◌∷◌, ◌++◌, length, get_or, refl, ap, subst, arith}
+use Rattle.std.specs.Prelude.{slice_set, nat_lt}
 use Rattle.js_heap.specs.declared.value.Value.{Value}
 use Rattle.js_world.specs.declared.stored.Slot.{Slot}
 use Rattle.js_world.specs.declared.stored.FunctionName.{FunctionName}
@@ -10,6 +10,8 @@ use Rattle.js_world.specs.declared.stored.Stored.TheVariants as stored
 use Rattle.js_world.specs.Cells.{SlotsWithin, NameWithin, Within, AllWithin}
 use Rattle.js_world.specs.Places.{with_value_at}
 use Rattle.js_world.specs.Heaps.{all_below, is_below, is_within, value_in_cell, value_in_cells}
+use Rattle.js_world.proofs.WeightLemmas.{true_lt}
+use Rattle.js_world.proofs.TableLemmas.{and_both}
 
 -- ---- scopes
 
@@ -75,13 +77,6 @@ cells-more m n [] l h = tt
 cells-more m n (c ∷ cs) l h = (cell_more m n c l h.0, cells-more m n cs l h.1)
 
 -- ---- tests
-
-and_both : (b c : Bool) → (b && c) ≡ true → (b ≡ true) × (c ≡ true)
-and_both true c e = (refl, e)
-and_both false c e = absurd cc
-
-true_lt : (m n : ℕ) → nat_lt m n ≡ true → m < n
-true_lt m n e = grind arith
 
 name_below : (x : FunctionName) (n : ℕ) → is_below x n ≡ true → NameWithin n x
 name_below function_names.Empty n e = tt

@@ -134,7 +134,7 @@ fn parameters_from(
 
 /// An argument; a missing one is undefined.
 #[tactic(auto, using(crate::proofs::ScopeLemmas::argument_rules))]
-fn argument(arguments: &[Value], index: usize) -> Value
+pub fn argument(arguments: &[Value], index: usize) -> Value
     ensures { result ≡ argument arguments.now index }
 {
     if index < arguments.len() {

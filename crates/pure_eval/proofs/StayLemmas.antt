@@ -17,7 +17,7 @@ use Rattle.js_code.specs.Forms.{form_of, function_of, script_form, for_form, for
 use Rattle.js_code.specs.Trees.{constant_at, kids_between, terms, node_term, tree_within, tree, EachBelow, IsNodeAt, IsTable, source_tree, source_trees}
 use Rattle.js_code.specs.Codes.{code_of_parts, code_of_node, code_of_entry, code_of_number, indexed_code}
 use Rattle.js_compile.specs.Grown.{Begins, Extends}
-use Rattle.js_compile.proofs.TreeLemmas.{now-below, later-below}
+use Rattle.js_code.proofs.TreeLemmas.{now-below, later-below}
 use Rattle.pure_eval.specs.Whole.{names_entry, AreClosed, ArePlaced, IsWithin}
 
 -- ---- lists that go on

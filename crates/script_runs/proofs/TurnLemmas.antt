@@ -13,7 +13,7 @@ use Rattle.js_world.specs.Heaps.{Heap, heap_world}
 use Rattle.js_steps.specs.declared.run.Why.{Why}
 use Rattle.js_steps.specs.declared.run.Why.TheVariants as whys
 use Rattle.js_machine.specs.Machines.{Machine, program_of, term_of, run_by, run_at, IsKept, end_of_run, HasSameCode}
-use Rattle.js_machine.proofs.PlainLemmas.{still-kept, same-code}
+use Rattle.js_machine.proofs.PlainLemmas.{still-kept, same-code, same_program}
 use Rattle.script_runs.specs.Printing.{printed_lines}
 use Rattle.script_runs.specs.Turns.{run_from, HasTurned, HasCome, Prints, IsCutFrom, IsLessFrom}
 use Rattle.script_runs.proofs.PrintingLemmas.{lines-append}
@@ -42,9 +42,6 @@ has_turned m n o v h k why texts code end kept run e is =
     subst P (sym is) (turned_there m n v (heap_world n.names h) k texts code (run (still-kept why n.ended end kept)) e)
 
 -- ---- one turn behind another
-
-same_program : (m n : Machine) → HasSameCode m n → program_of n ≡ program_of m
-same_program m n h = rw (h.table, h.names) refl
 
 pub come_nowhere : (m : Machine) (v : World) (before : Option (List ℕ)) → m.context.printed ≡ [] → HasCome m v m v before before
 come_nowhere m v before none = record {

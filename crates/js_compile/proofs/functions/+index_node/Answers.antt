@@ -1,7 +1,7 @@
 use Rattle.std.proofs.Common.{◌≡◌, ◌∙◌, ◌<◌, ◌-◌, sym, arith}
 use Rattle.std.proofs.lemmas.Result.{on_ok_weaker}
 use Rattle.js_code.specs.Trees.{kid_at}
-use Rattle.js_compile.proofs.TreeLemmas.{node-at}
+use Rattle.js_code.proofs.TreeLemmas.{node-at}
 use Rattle.js_compile.proofs.IndexLemmas.{kid_below}
 use Rattle.js_compile.proofs.FillLemmas.{filled_none, filled_literal, parts_none, parts_before, filled_node}
 use Rattle.js_compile.proofs.functions.+index_node.Goals as goal

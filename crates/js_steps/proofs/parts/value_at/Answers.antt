@@ -1,5 +1,5 @@
 use Rattle.std.proofs.Common.{sym}
-use Rattle.js_steps.proofs.TreeLemmas.{literal-tree, no-tree}
+use Rattle.js_code.proofs.TreeLemmas.{literal-tree, no-tree}
 use Rattle.js_steps.proofs.parts.value_at.Goals as goal
 
 pub returns-then-is_literal-clause-value : goal.returns-then-is_literal-clause-value

@@ -3,6 +3,7 @@ use Rattle.std.proofs.Common.{◌≡◌, ℕ, zero, suc, ◌+◌, ◌-◌, ◌<�
 use Rattle.std.proofs.lemmas.List.{drop-drop}
 use Rattle.std.proofs.Math.Seq.{take-nil}
 use Rattle.js_heap.specs.declared.value.Value.{Value}
+use Rattle.js_heap.specs.declared.value.Value.TheVariants as values
 use Rattle.js_semantics.specs.Terms.{Term, done, part, more}
 use Rattle.js_code.specs.declared.node.Node.{Node}
 use Rattle.js_code.specs.declared.table.NodeTable.{NodeTable}
@@ -17,12 +18,21 @@ drop_some [] at k h = cc
 drop_some (x ∷ ks) zero k h = cc
 drop_some (x ∷ ks) (suc at) k h = drop_some ks at k h
 
+drop_none : {X : Type 0} (ks : List X) (at : ℕ) → slice_get ks at ≡ None → drop at ks ≡ []
+drop_none [] zero h = refl
+drop_none [] (suc at) h = refl
+drop_none (x ∷ ks) zero h = cc
+drop_none (x ∷ ks) (suc at) h = drop_none ks at h
+
 pub kids-some : (t : NodeTable) (at mid k : ℕ) → at < mid → slice_get t.kids.items at ≡ Some k → kids_between t at mid ≡ k ∷ kids_between t (at + 1) mid
 kids-some t at mid k h e =
     let n : ℕ = mid - (at + 1) in
     let m : mid - at ≡ suc n = omega arith in
     let s : suc at ≡ at + 1 = omega arith in
     ap (λ x. take x (drop at t.kids.items)) m ∙ ap (λ xs. take (suc n) xs) (drop_some t.kids.items at k e) ∙ ap (λ x. k ∷ take n (drop x t.kids.items)) s
+
+pub kids-none : (t : NodeTable) (at mid : ℕ) → slice_get t.kids.items at ≡ None → kids_between t at mid ≡ []
+kids-none t at mid e = ap (λ xs. take (mid - at) xs) (drop_none t.kids.items at e) ∙ take-nil (mid - at)
 
 pub kids-end : (t : NodeTable) (at mid : ℕ) → mid ≤ at → kids_between t at mid ≡ []
 kids-end t at mid h =
@@ -40,6 +50,10 @@ unfolding tree
 literal-tree t n node v e l c ts =
     let P : Bool → Term = λ b. if b then done (constant_at t node.info) else part (form_of ts t node.op node.info) (terms (tree_within ts t n) (kids_between t node.first node.mid)) (terms (tree_within ts t n) (kids_between t node.mid node.end)) in
     ap (node_term ts t (tree_within ts t n)) e ∙ ap P l ∙ ap done (sym c)
+
+pub no-tree : (t : NodeTable) (n : ℕ) → slice_get t.nodes.items n ≡ None → (ts : List (List ℕ)) → tree ts t n ≡ done values.Undefined
+unfolding tree
+no-tree t n e ts = ap (node_term ts t (tree_within ts t n)) e
 
 -- ---- one level, where the parts of each node stand before it
 
