@@ -87,6 +87,7 @@ ended s ending moment x = if x.runtime then end_told s ending moment x else x
 
 -- ---- the texts of that
 
+-- what is said of how the run ended: nothing of an end by itself, its throw of one by a throw
 abbrev pub ending_texts : Situation → Ending → ℕ → Session → List (List ℕ)
 ending_texts s endings.Finished moment x = []
 ending_texts s (endings.Threw v place) moment x = (throw_told s v place moment x).made ∷ []

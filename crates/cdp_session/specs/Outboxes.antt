@@ -1,10 +1,11 @@
 -- The texts that wait for a client, and how many may.
 use Rattle.std.specs.Prelude.{◌≡◌, ℕ, ◌+◌, List, [], ◌∷◌, length, Bool, true, ◌&&◌, nat_le}
 
--- the greatest number of texts that wait for a client, and of their bytes
+-- the greatest number of texts that wait for a client
 abbrev pub most_texts : ℕ
 most_texts = 65536
 
+-- the greatest number of their bytes
 abbrev pub most_bytes : ℕ
 most_bytes = 67108864
 
