@@ -5,7 +5,8 @@ use Rattle.std.proofs.lemmas.List.Elements.{All-push}
 use Rattle.cdp_text.specs.declared.position.Place.{Place}
 use Rattle.js_tree.specs.declared.script.Script.{Script}
 use Rattle.stepping.specs.declared.arrival.Arrival.{Arrival}
-use Rattle.cdp_host.specs.Arrivals.{starts_of, IsShort}
+use Rattle.frames_scopes.specs.Places.{starts_of}
+use Rattle.cdp_host.specs.Arrivals.{IsShort}
 
 abbrev arrived : Option Place → ℕ → Bool → Option Bool → Arrival
 arrived place depth debugger raised = record { place = place; depth = depth; debugger = debugger; raised = raised }

@@ -2,7 +2,7 @@
 use Rattle.std.specs.Prelude.{ℕ, ◌^◌, ◌<◌, ◌-◌, List, length, Bool, false, nat_eq, slice_get, if◌then◌else◌, Option, Some, None}
 use Rattle.std.specs.Option.{option_map}
 use Rattle.cdp_text.specs.declared.position.Place.{Place}
-use Rattle.cdp_text.specs.Position.{position, line_starts}
+use Rattle.cdp_text.specs.Position.{position}
 use Rattle.js_tree.specs.declared.script.Script.{Script}
 use Rattle.js_semantics.specs.Terms.{Term}
 use Rattle.js_semantics.specs.declared.form.Source.{Source}
@@ -52,11 +52,7 @@ arrival_at scripts t frames = record {
 abbrev pub at_the_end : State → Arrival
 at_the_end s = record { place = None; depth = depth s; debugger = false; raised = None }
 
--- ---- what is kept of the scripts beside them
-
--- where the lines of a script begin
-abbrev pub starts_of : Script → List ℕ
-starts_of s = line_starts s.source
+-- ---- scripts whose lines are kept beside them
 
 -- a script whose positions are of 32 bits
 abbrev pub IsShort : Script → Type 0

@@ -22,7 +22,8 @@ use Rattle.stepping.specs.declared.arrival.Arrival.{Arrival}
 use Rattle.cdp_session.specs.declared.situation.Pause.{Pause}
 use Rattle.cdp_session.specs.Sessions.{Session}
 use Rattle.cdp_session.specs.Situations.{Standing}
-use Rattle.cdp_host.specs.Arrivals.{place_at, is_uncaught, starts_of, IsShort}
+use Rattle.frames_scopes.specs.Places.{starts_of}
+use Rattle.cdp_host.specs.Arrivals.{place_at, is_uncaught, IsShort}
 use Rattle.cdp_host.specs.Fallbacks.{Fallback, HasRoom}
 use Rattle.cdp_host.specs.Histories.{IsHistory, Meaning, whole}
 use Rattle.cdp_host.specs.Programs.{code_of, printed_of}

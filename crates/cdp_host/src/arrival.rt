@@ -4,7 +4,8 @@ ghost use Rattle.std.specs.Prelude.{◌≡◌, ◌-◌, ℕ, List, slice_get, op
 ghost use Rattle.js_code.specs.Trees.{IsTable};
 ghost use Rattle.js_frames.specs.Catchers.{standing_throw};
 ghost use Rattle.js_steps.specs.Points.{term_at, IsAt};
-ghost use Rattle.cdp_host.specs.Arrivals.{arrival_at, is_uncaught, place_at, place_in, place_of, script_in, starts_of, IsShort};
+ghost use Rattle.frames_scopes.specs.Places.{starts_of};
+ghost use Rattle.cdp_host.specs.Arrivals.{arrival_at, is_uncaught, place_at, place_in, place_of, script_in, IsShort};
 ghost use Rattle.cdp_host.specs.Hosts.{machine_arrival, AreLines};
 
 use cdp_text::line_table::LineTable;

@@ -32,7 +32,7 @@ use crate::seats::{
 };
 use crate::state::State;
 use crate::stops::{is_first, pause_behind, phase_of, stops_behind, waits, woken};
-use crate::telling::{Answered, answer, leave, place_of, take, tell_loss};
+use crate::telling::{Answered, answer, leave, seat_index, take, tell_loss};
 use breakpoints::script_spots::ScriptSpots;
 use cdp_session::asks::Asks;
 use cdp_session::session::Session;
@@ -208,7 +208,7 @@ impl Host {
     pub fn attached(&self, s: u64) -> bool
         ensures { result ≡ is_attached (seat_of s self.now.meaning.seats) }
     {
-        match place_of(self.seats.as_slice(), s) {
+        match seat_index(self.seats.as_slice(), s) {
             Some(index) => is_attached(&self.seats[index]),
             None => false,
         }
@@ -218,7 +218,7 @@ impl Host {
     pub fn fell(&self, s: u64) -> bool
         ensures { result ≡ fell (seat_of s self.now.meaning.seats) }
     {
-        match place_of(self.seats.as_slice(), s) {
+        match seat_index(self.seats.as_slice(), s) {
             Some(index) => fell(&self.seats[index]),
             None => false,
         }

@@ -1,7 +1,8 @@
 //! Where the lines of scripts begin.
 
 ghost use Rattle.std.specs.Prelude.{◌≡◌, IfOk};
-ghost use Rattle.cdp_host.specs.Arrivals.{starts_of, IsShort};
+ghost use Rattle.frames_scopes.specs.Places.{starts_of};
+ghost use Rattle.cdp_host.specs.Arrivals.{IsShort};
 ghost use Rattle.cdp_host.specs.Hosts.{AreLines};
 
 use cdp_text::line_table::LineTable;

@@ -29,7 +29,7 @@ pub(crate) enum Answered {
 }
 
 /// The place of the seat of the session of this number, if it has one.
-pub(crate) fn place_of(seats: &[Seat<Session>], s: u64) -> Option<usize>
+pub(crate) fn seat_index(seats: &[Seat<Session>], s: u64) -> Option<usize>
     ensures some { IfSome result (λ i. IsPlace s i seats.now) }
     ensures none { IfNone result (seat_of s seats.now ≡ Left) }
 {
@@ -77,7 +77,7 @@ pub(crate) fn answer<P: Program>(
     requires { HasSpots situation.now }
     ensures { (x : Kept) → seat_of s seats.old ≡ Attached x → AnswersIn result (answer_of (seen P.standing situation.now) x text.now) s seats.old seats.new }
 {
-    match place_of(seats, s) {
+    match seat_index(seats, s) {
         Some(index) => answer_seat(&mut seats[index], situation, text),
         None => Answered::Failed,
     }
@@ -99,7 +99,7 @@ pub(crate) fn take(alloc: Global, seats: &mut [Seat<Session>], s: u64) -> Vec<St
     ensures texts { (x : Kept) → seat_of s seats.old ≡ Attached x → map string_bytes result.items ≡ x.outbox }
     ensures seats { (x : Kept) → seat_of s seats.old ≡ Attached x → seats.new ≡ put s (Attached (emptied x)) seats.old }
 {
-    match place_of(seats, s) {
+    match seat_index(seats, s) {
         Some(index) => take_seat(alloc, &mut seats[index]),
         None => Vec::new(alloc),
     }
@@ -109,7 +109,7 @@ pub(crate) fn take(alloc: Global, seats: &mut [Seat<Session>], s: u64) -> Vec<St
 pub(crate) fn leave(seats: &mut [Seat<Session>], s: u64)
     ensures { seats.new ≡ put s Left seats.old }
 {
-    if let Some(index) = place_of(seats, s) {
+    if let Some(index) = seat_index(seats, s) {
         seats[index] = Seat::Left;
     }
 }
@@ -156,7 +156,7 @@ pub(crate) fn tell_loss(seats: &mut [Seat<Session>], s: u64) -> Option<SessionLo
     ensures told { result ≡ loss_told s (seat_of s seats.old) }
     ensures seats { seats.new ≡ put s (owner_told (seat_of s seats.old)) seats.old }
 {
-    match place_of(seats, s) {
+    match seat_index(seats, s) {
         Some(index) => tell_loss_of(s, &mut seats[index]),
         None => None,
     }

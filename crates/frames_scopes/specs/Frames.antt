@@ -15,7 +15,7 @@ use Rattle.js_semantics.specs.Terms.{Term}
 use Rattle.js_semantics.specs.State.{Frame, State, spot_of}
 use Rattle.js_semantics.specs.Frames.{at, frames}
 use Rattle.js_frames.specs.Sources.{spans_in}
-use Rattle.frames_scopes.specs.Places.{place_of}
+use Rattle.frames_scopes.specs.Places.{shown_place}
 use Rattle.call_frames.specs.Frames.{ShownFrame}
 use Rattle.frames_scopes.specs.Scopes.{shown_scopes}
 
@@ -43,7 +43,7 @@ function_name (Some f) = f.name
 
 -- the first token of a function's code in a script
 abbrev pub code_place : List Script → Code → Option Place
-code_place scripts (code.Script number node) = Some (place_of scripts (script_source number) (start node))
+code_place scripts (code.Script number node) = Some (shown_place scripts (script_source number) (start node))
 code_place scripts c = None
 
 -- that of a function, if there is one
@@ -62,7 +62,7 @@ arrived (Some m) f = record f { here = m }
 abbrev pub shown_frame : List Script → World → Frame → ShownFrame
 shown_frame scripts w f = record {
   name = function_name (function_of w f.function);
-  place = place_of scripts f.source f.here;
+  place = shown_place scripts f.source f.here;
   function_place = function_place scripts (function_of w f.function);
   receiver = f.receiver;
   scopes = shown_scopes w f.scope;

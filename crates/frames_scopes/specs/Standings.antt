@@ -7,7 +7,7 @@ use Rattle.js_code.specs.Trees.{IsTable}
 use Rattle.js_steps.specs.declared.task.Point.{Point}
 use Rattle.js_steps.specs.Tasks.{Wide, InScopes}
 use Rattle.js_steps.specs.Points.{IsAt}
-use Rattle.frames_scopes.specs.Places.{lines_of}
+use Rattle.frames_scopes.specs.Places.{starts_of}
 
 -- the tasks of a machine stand in its code, which is in order; the lines are those of the scripts, none of which is longer than
 -- lines and columns can count
@@ -15,5 +15,5 @@ pub record CanWalk (t : NodeTable) (root : Addr) (ws : List Wide) (p : Point) (s
   pub table : IsTable t
   pub stands : IsAt t ws p
   pub scoped : InScopes t root ws
-  pub lined : lines ≡ map lines_of scripts
+  pub lined : lines ≡ map starts_of scripts
   pub short : All (λ s. length s.source < 2 ^ 32) scripts

@@ -8,7 +8,7 @@ ghost use Rattle.js_semantics.specs.State.{top_spot};
 ghost use Rattle.js_frames.specs.Sources.{spans_in};
 ghost use Rattle.frames_scopes.specs.Cells.{function_seen};
 ghost use Rattle.frames_scopes.specs.Frames.{function_name, function_of, function_place, here_at, shown_frame, walk};
-ghost use Rattle.frames_scopes.specs.Places.{lines_of};
+ghost use Rattle.frames_scopes.specs.Places.{starts_of};
 ghost use Rattle.js_code.specs.Trees.{IsTable};
 ghost use Rattle.js_steps.specs.Points.{IsAt, term_at};
 ghost use Rattle.frames_scopes.specs.FrameViews.{frame_shown};
@@ -16,7 +16,7 @@ ghost use Rattle.frames_scopes.specs.Standings.{CanWalk};
 
 use crate::cells::{FunctionRef, function_at};
 use crate::name::Name;
-use crate::places::place_of;
+use crate::places::shown_place;
 use crate::scopes::Scopes;
 use crate::standing::Standing;
 use cdp_text::position::Place;
@@ -78,14 +78,14 @@ fn function_of<'m>(heap: &'m BaseHeap, function: Option<Addr>) -> Option<Functio
 
 /// Where a function begins, if it is in one of the scripts.
 fn function_place(standing: &Standing, function: Option<FunctionRef>) -> Option<Place>
-    requires lines { standing.now.lines.now ≡ map lines_of standing.now.scripts.now }
+    requires lines { standing.now.lines.now ≡ map starts_of standing.now.scripts.now }
     requires short { All (λ s. length s.source < 2 ^ 32) standing.now.scripts.now }
     ensures { (ts : List (List ℕ)) → result ≡ function_place standing.now.scripts.now (function_seen ts function.entry) }
 {
     let Code::Script { number, node } = function?.code else {
         return None;
     };
-    let place = place_of(
+    let place = shown_place(
         standing.scripts,
         standing.lines,
         Source::Script(number),
@@ -106,14 +106,14 @@ fn function_name<'m>(names: &'m Names, function: Option<FunctionRef<'m>>) -> Nam
 
 /// A frame as it is shown.
 fn view_of<'m>(standing: &Standing<'m>, frame: &Frame, here: Mark) -> FrameView<'m>
-    requires lines { standing.now.lines.now ≡ map lines_of standing.now.scripts.now }
+    requires lines { standing.now.lines.now ≡ map starts_of standing.now.scripts.now }
     requires short { All (λ s. length s.source < 2 ^ 32) standing.now.scripts.now }
     ensures { frame_shown result ≡ shown_frame standing.now.scripts.now (heap_world standing.now.names.now standing.now.heap.now) (record frame.now { here = here }) }
 {
     let function = function_of(standing.heap, frame.function());
     FrameView {
         name: function_name(standing.names, function),
-        place: place_of(standing.scripts, standing.lines, frame.source(), here),
+        place: shown_place(standing.scripts, standing.lines, frame.source(), here),
         function_place: function_place(standing, function),
         this: frame.receiver(),
         scopes: Scopes::of(standing.names, standing.heap, frame.scope()),

@@ -1,7 +1,7 @@
 //! The lines of scripts, found once.
 
 ghost use Rattle.std.specs.Prelude.{◌≡◌, map, IfOk};
-ghost use Rattle.frames_scopes.specs.Places.{lines_of};
+ghost use Rattle.frames_scopes.specs.Places.{starts_of};
 
 use cdp_text::line_table::LineTable;
 use js_tree::script::Script;
@@ -13,7 +13,7 @@ use std::alloc::{AllocError, Global};
 ///
 /// There is no memory for them.
 pub fn lines_of_scripts(alloc: Global, scripts: &[Script]) -> Result<Vec<LineTable>, AllocError>
-    ensures { IfOk result (λ lines. lines.items ≡ map lines_of scripts.now) }
+    ensures { IfOk result (λ lines. lines.items ≡ map starts_of scripts.now) }
 {
     let mut lines = Vec::with_capacity(alloc, scripts.len())?;
     for script in scripts {

@@ -4,7 +4,7 @@ ghost use Rattle.std.specs.Prelude.{◌≡◌, ◌^◌, ◌<◌, ◌≤◌, leng
 ghost use Rattle.std.specs.List.{Contains};
 ghost use Rattle.cdp_text.specs.Position.{line_starts};
 ghost use Rattle.js_semantics.specs.Frames.{offset_of};
-ghost use Rattle.frames_scopes.specs.Places.{lines_of, numbered, place_of, pos_in};
+ghost use Rattle.frames_scopes.specs.Places.{numbered, pos_in, shown_place, starts_of};
 
 use cdp_text::line_table::LineTable;
 use cdp_text::position::{Place, Pos};
@@ -40,7 +40,7 @@ fn numbered<'m>(
     lines: &'m [LineTable],
     number: u32,
 ) -> Option<(&'m Script, &'m LineTable)>
-    requires { lines.now ≡ map lines_of scripts.now }
+    requires { lines.now ≡ map starts_of scripts.now }
     ensures script { option_map (λ found. found.0.now) result ≡ numbered scripts.now number }
     ensures lines { IfSome result (λ found. found.1.now ≡ line_starts found.0.now.source) }
     ensures among { IfSome result (λ found. Contains scripts.now found.0.now) }
@@ -55,11 +55,16 @@ fn numbered<'m>(
     }
 }
 
-/// The place of a mark in a source, by the lines of the scripts.
-pub(crate) fn place_of(scripts: &[Script], lines: &[LineTable], source: Source, mark: Mark) -> Place
-    requires lines { lines.now ≡ map lines_of scripts.now }
+/// The place of a mark in a source, by the lines of the scripts; what isn't in a script is shown at the beginning of none.
+pub(crate) fn shown_place(
+    scripts: &[Script],
+    lines: &[LineTable],
+    source: Source,
+    mark: Mark,
+) -> Place
+    requires lines { lines.now ≡ map starts_of scripts.now }
     requires short { All (λ s. length s.source < 2 ^ 32) scripts.now }
-    ensures { result ≡ place_of scripts.now source mark }
+    ensures { result ≡ shown_place scripts.now source mark }
 {
     let Source::Script(number) = source else {
         return Place {

@@ -495,15 +495,15 @@ at-behind (suc i) seats below = in-behind i seats below
 -- ---- one entry
 
 -- what was handed out and made for a session: nothing, as long as it wasn't attached
-record Stands {C T Q X : Type 0} (P : Protocol C T Q X) (s : ℕ) (m : Meaning C Q X) (handed made : List (List ℕ)) : Type 0 where
+record KeepsTexts {C T Q X : Type 0} (P : Protocol C T Q X) (s : ℕ) (m : Meaning C Q X) (handed made : List (List ℕ)) : Type 0 where
   pub keeps : Keeps P handed (seat_of s m.seats) made
   pub none : length m.seats < s → (handed ≡ []) × (made ≡ [])
 
 -- an entry at which it doesn't come
 others-stand : {C T Q X : Type 0} → (P : Protocol C T Q X) (E : Texts P) → AreSent P E → (s : ℕ) (m k : Meaning C Q X)
     (handed made texts : List (List ℕ)) (seen : List Seen) → Follows P s m k texts seen → AllOther seen
-    → (length k.seats < s → length m.seats < s) → Stands P s m handed made
-    → Stands P s k (handed ++ texts) (made ++ made_of P E s (alone_at s m) seen)
+    → (length k.seats < s → length m.seats < s) → KeepsTexts P s m handed made
+    → KeepsTexts P s k (handed ++ texts) (made ++ made_of P E s (alone_at s m) seen)
 others-stand P E sent s m k handed made texts seen follow other same stands =
     let a = alone_at s m in
     let new = made_of P E s a seen in
@@ -531,8 +531,8 @@ below-same a b s is below = omega (arith, is, below)
 
 attach-stands : {C T Q X : Type 0} → (P : Protocol C T Q X) (E : Texts P) → AreSent P E → (s : ℕ) (m : Meaning C Q X)
     (handed made : List (List ℕ)) (b : Bool) → (length m.seats + 1 == s) ≡ b
-    → Follows P s m (apply P m Attach) [] (if b then Came ∷ [] else []) → Stands P s m handed made
-    → Stands P s (apply P m Attach) (handed ++ [])
+    → Follows P s m (apply P m Attach) [] (if b then Came ∷ [] else []) → KeepsTexts P s m handed made
+    → KeepsTexts P s (apply P m Attach) (handed ++ [])
     (made ++ made_of P E s (alone_at s m) (if b then Came ∷ [] else []))
 attach-stands P E sent s m handed made true is follow stands =
     let e : length m.seats + 1 ≡ s = eqb-true (length m.seats + 1) s is in
@@ -548,8 +548,8 @@ attach-stands P E sent s m handed made false is follow stands =
     others-stand P E sent s m (apply P m Attach) handed made [] [] follow tt (λ below. omega (arith, longer, below)) stands
 
 entry-stands : {C T Q X : Type 0} → (P : Protocol C T Q X) (E : Texts P) → AreSent P E → (s : ℕ) (m : Meaning C Q X)
-    (handed made : List (List ℕ)) (entry : Entry) → FitsEntry P m entry → Stands P s m handed made
-    → Stands P s (apply P m entry) (handed ++ handed_at P s m entry)
+    (handed made : List (List ℕ)) (entry : Entry) → FitsEntry P m entry → KeepsTexts P s m handed made
+    → KeepsTexts P s (apply P m entry) (handed ++ handed_at P s m entry)
     (made ++ made_of P E s (alone_at s m) (view_at P s m entry))
 entry-stands P E sent s m handed made Attach fits stands =
     attach-stands P E sent s m handed made (length m.seats + 1 == s) refl (follows P s m Attach fits) stands
@@ -575,7 +575,7 @@ entry-stands P E sent s m handed made Shut fits stands =
 -- ---- a whole history
 
 history-stands : {C T Q X : Type 0} → (P : Protocol C T Q X) (E : Texts P) → AreSent P E → (s : ℕ) (m : Meaning C Q X)
-    (handed made : List (List ℕ)) (history : List Entry) → FitsAll P m history → Stands P s m handed made
+    (handed made : List (List ℕ)) (history : List Entry) → FitsAll P m history → KeepsTexts P s m handed made
     → Keeps P (handed ++ handed_of P s m history) (seat_of s (fold (apply P) m history).seats)
     (made ++ made_of P E s (alone_at s m) (view P s m history))
 history-stands P E sent s m handed made [] fits stands =

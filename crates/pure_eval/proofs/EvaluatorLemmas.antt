@@ -48,7 +48,7 @@ use Rattle.pure_eval.specs.declared.work.Work.{Work}
 use Rattle.pure_eval.specs.declared.work.Work.TheVariants as works
 use Rattle.pure_eval.specs.Arguments.{arguments_of}
 use Rattle.pure_eval.specs.Calling.{called, worked, work_of}
-use Rattle.pure_eval.specs.Evaluators.{IsBelow, AreBelow, Stands, Runs, IsMadeOf, IsBehind, is_kept, RunsAfter}
+use Rattle.pure_eval.specs.Evaluators.{IsBelow, AreBelow, HoldsProgram, Runs, IsMadeOf, IsBehind, is_kept, RunsAfter}
 use Rattle.pure_eval.specs.Leaving.{Leaves}
 use Rattle.pure_eval.specs.Orders.{AreSameLiterals, ready_in_order}
 use Rattle.pure_eval.specs.Preparing.{IsReady}
@@ -105,14 +105,14 @@ same-program p q e source node = let P : Program → Type 0 = λ r. HasSameFunct
 same_through : (p q r : Program) → HasSameFunctions p q → HasSameFunctions q r → HasSameFunctions p r
 same_through p q r g h source node = g source node ∙ h source node
 
-pub stands-first : (ts : List (List ℕ)) (t : NodeTable) (xs : Terms) → IsWhole t → ((us : List (List ℕ)) → GoesOn ts us → program_of us t ≡ program_from 1 xs) → Stands ts t 0 (program_from 1 xs)
+pub stands-first : (ts : List (List ℕ)) (t : NodeTable) (xs : Terms) → IsWhole t → ((us : List (List ℕ)) → GoesOn ts us → program_of us t ≡ program_from 1 xs) → HoldsProgram ts t 0 (program_from 1 xs)
 stands-first ts t xs w h = record {
   whole = w;
   below = λ us g. let P : Program → Type 0 = λ p. AreBelow 0 p in subst P (sym (h us g)) (below_scripts 1 xs);
   same = λ us g. same-program (program_of us t) (program_from 1 xs) (h us g);
 }
 
-pub stands-added : (ts us : List (List ℕ)) (t u : NodeTable) (n m root : ℕ) (x : Term) (p : Program) → Stands ts t n p → n ≤ m → IsAdded ts t (Scratch m) x us u root → Stands us u (m + 1) (kept_tree_at (Scratch m) x ∷ p)
+pub stands-added : (ts us : List (List ℕ)) (t u : NodeTable) (n m root : ℕ) (x : Term) (p : Program) → HoldsProgram ts t n p → n ≤ m → IsAdded ts t (Scratch m) x us u root → HoldsProgram us u (m + 1) (kept_tree_at (Scratch m) x ∷ p)
 stands-added ts us t u n m root x p s l a =
     let before : (vs : List (List ℕ)) → GoesOn us vs → GoesOn ts vs = λ vs g. further-names ts us vs a.goes_on g in
     record {
@@ -124,7 +124,7 @@ stands-added ts us t u n m root x p s l a =
           (in-front (program_of vs t) p (kept_tree_at (Scratch m) x) (s.same vs (before vs g))));
     }
 
-pub stands-back : (ts us : List (List ℕ)) (t v : NodeTable) (n : ℕ) (p : Program) → Stands ts t n p → GoesOn ts us → IsBack t v → Stands us v n p
+pub stands-back : (ts us : List (List ℕ)) (t v : NodeTable) (n : ℕ) (p : Program) → HoldsProgram ts t n p → GoesOn ts us → IsBack t v → HoldsProgram us v n p
 stands-back ts us t v n p s g b = record {
   whole = b.whole;
   below = λ vs h. let P : Program → Type 0 = λ q. AreBelow n q in subst P (sym (b.program vs)) (s.below vs (further-names ts us vs g h));
@@ -173,14 +173,14 @@ pub behind-is : (at : Addr) (h : Heap) (from n : ℕ) → at ≡ next_of h → I
 behind-is at h from n e b = let P : Addr → Type 0 = λ a. IsBehind a from n in subst P e b
 
 -- the source that was added is the one that the definition has in front
-pub stands-with : (ts us : List (List ℕ)) (t u : NodeTable) (n next root : ℕ) (x : Term) (p : Program) (h : Heap) (at : Addr) (e : Made) (order ls : List (List ℕ)) → Stands ts t n p → at ≡ next_of h → IsBehind at n next → IsAdded ts t at x us u root → IsMadeOf (next_kept (space_of ts h)) e order ls x → Stands us u next (with_source p (space_of ts h) e)
+pub stands-with : (ts us : List (List ℕ)) (t u : NodeTable) (n next root : ℕ) (x : Term) (p : Program) (h : Heap) (at : Addr) (e : Made) (order ls : List (List ℕ)) → HoldsProgram ts t n p → at ≡ next_of h → IsBehind at n next → IsAdded ts t at x us u root → IsMadeOf (next_kept (space_of ts h)) e order ls x → HoldsProgram us u next (with_source p (space_of ts h) e)
 stands-with ts us t u n next root x p h at e order ls s i l a m =
     let b = behind-is at h n next i l in
     let P : Addr → Type 0 = λ c. IsAdded ts t c x us u root in
-    let Q : SourceTree → Type 0 = λ y. Stands us u (length h.cells + 1) (y ∷ p) in
-    let R : ℕ → Type 0 = λ k. Stands us u k (with_source p (space_of ts h) e) in
-    let k : Stands us u (length h.cells + 1) (kept_tree_at (Scratch (length h.cells)) x ∷ p) = stands-added ts us t u n (length h.cells) root x p s b.0 (subst P i a) in
-    let o : Stands us u (length h.cells + 1) (with_source p (space_of ts h) e) = subst Q (source_same (Scratch (length h.cells)) (next_kept (space_of ts h)) x (kept_tree (next_kept (space_of ts h)) e) (sym (next-same ts h)) m.term_is) k in
+    let Q : SourceTree → Type 0 = λ y. HoldsProgram us u (length h.cells + 1) (y ∷ p) in
+    let R : ℕ → Type 0 = λ k. HoldsProgram us u k (with_source p (space_of ts h) e) in
+    let k : HoldsProgram us u (length h.cells + 1) (kept_tree_at (Scratch (length h.cells)) x ∷ p) = stands-added ts us t u n (length h.cells) root x p s b.0 (subst P i a) in
+    let o : HoldsProgram us u (length h.cells + 1) (with_source p (space_of ts h) e) = subst Q (source_same (Scratch (length h.cells)) (next_kept (space_of ts h)) x (kept_tree (next_kept (space_of ts h)) e) (sym (next-same ts h)) m.term_is) k in
     subst R (sym b.1) o
 
 called_same : (p q : Program) (receiver : Value) (as_given : List Argument) (w : World) (t : Term) → HasSameFunctions p q → called p receiver as_given w t ≡ called q receiver as_given w t
@@ -191,13 +191,13 @@ worked_same : (p q : Program) (work : Work) (w : World) (t : Term) → HasSameFu
 worked_same p q (works.Expression scope receiver) w t h = evaluated_same p q scope receiver w t h
 worked_same p q (works.Call receiver arguments) w t h = called_same p q receiver (arguments_of arguments.now) w t h
 
-evaluator_answers : (ts us : List (List ℕ)) (t u : NodeTable) (n root : ℕ) (x : Term) (p : Program) (w : World) (y z : ScratchSpace) (at : Addr) (work : Work) (e : Made) (source : List ℕ) (order ls : List (List ℕ)) (r : Evaluated) → IsAdded ts t at x us u root → Stands us u n (with_source p y e) → IsMadeOf (next_kept y) e order ls x → (AreSameLiterals order ls → Leaves (answered (ready_in_order w y source order ls (settle (tree us u root))) (worked (program_of us u) work)) r y z) → Leaves (work_of p w y source order e work) r y z
+evaluator_answers : (ts us : List (List ℕ)) (t u : NodeTable) (n root : ℕ) (x : Term) (p : Program) (w : World) (y z : ScratchSpace) (at : Addr) (work : Work) (e : Made) (source : List ℕ) (order ls : List (List ℕ)) (r : Evaluated) → IsAdded ts t at x us u root → HoldsProgram us u n (with_source p y e) → IsMadeOf (next_kept y) e order ls x → (AreSameLiterals order ls → Leaves (answered (ready_in_order w y source order ls (settle (tree us u root))) (worked (program_of us u) work)) r y z) → Leaves (work_of p w y source order e work) r y z
 evaluator_answers ts us t u n root x p w y z at work e source order ls r a s m h =
     let f : settle (tree us u root) ≡ kept_tree (next_kept y) e = ap settle (a.tree us (same-names us)) ∙ m.stays ∙ m.term_is in
     evaluate_by w y z source order ls (settle (tree us u root)) e r (worked (program_of us u) work) (worked (with_source p y e) work)
     (λ v o. worked_same (program_of us u) (with_source p y e) work v o (s.same us (same-names us))) f m.literals_are (h m.outcome)
 
-pub evaluator-leaves : (ts us ns : List (List ℕ)) (t u : NodeTable) (n next root : ℕ) (x : Term) (p : Program) (w : World) (h k : Heap) (at : Addr) (work : Work) (e : Made) (source : List ℕ) (order ls : List (List ℕ)) (r : Evaluated) → Stands ts t n p → at ≡ next_of h → IsBehind at n next → IsAdded ts t at x us u root → IsMadeOf (next_kept (space_of ts h)) e order ls x → (AreSameLiterals order ls → Leaves (answered (ready_in_order w (space_of ts h) source order ls (settle (tree us u root))) (worked (program_of us u) work)) r (space_of ts h) (space_of us k)) → ns ≡ us → Leaves (work_of p w (space_of ts h) source order e work) r (space_of ts h) (space_of ns k)
+pub evaluator-leaves : (ts us ns : List (List ℕ)) (t u : NodeTable) (n next root : ℕ) (x : Term) (p : Program) (w : World) (h k : Heap) (at : Addr) (work : Work) (e : Made) (source : List ℕ) (order ls : List (List ℕ)) (r : Evaluated) → HoldsProgram ts t n p → at ≡ next_of h → IsBehind at n next → IsAdded ts t at x us u root → IsMadeOf (next_kept (space_of ts h)) e order ls x → (AreSameLiterals order ls → Leaves (answered (ready_in_order w (space_of ts h) source order ls (settle (tree us u root))) (worked (program_of us u) work)) r (space_of ts h) (space_of us k)) → ns ≡ us → Leaves (work_of p w (space_of ts h) source order e work) r (space_of ts h) (space_of ns k)
 evaluator-leaves ts us ns t u n next root x p w h k at work e source order ls r s i l a m f g =
     let P : List (List ℕ) → Type 0 = λ vs. Leaves (work_of p w (space_of ts h) source order e work) r (space_of ts h) (space_of vs k) in
     subst P (sym g) (evaluator_answers ts us t u next root x p w (space_of ts h) (space_of us k) at work e source order ls r a (stands-with ts us t u n next root x p h at e order ls s i l a m) m f)
@@ -226,14 +226,14 @@ runs_by (ends.Full what) f p q h k = k refl
 runs_by ends.Spent f p q h k = k refl
 runs_by ends.Memory f p q h k = tt
 
-pub stands-same : (ts us : List (List ℕ)) (t u : NodeTable) (n m : ℕ) (p : Program) → us ≡ ts → u ≡ t → m ≡ n → Stands ts t n p → Stands us u m p
+pub stands-same : (ts us : List (List ℕ)) (t u : NodeTable) (n m : ℕ) (p : Program) → us ≡ ts → u ≡ t → m ≡ n → HoldsProgram ts t n p → HoldsProgram us u m p
 stands-same ts us t u n m p e f g h =
-    let P : List (List ℕ) → Type 0 = λ vs. Stands vs t n p in
-    let Q : NodeTable → Type 0 = λ v. Stands us v n p in
-    let R : ℕ → Type 0 = λ k. Stands us u k p in
+    let P : List (List ℕ) → Type 0 = λ vs. HoldsProgram vs t n p in
+    let Q : NodeTable → Type 0 = λ v. HoldsProgram us v n p in
+    let R : ℕ → Type 0 = λ k. HoldsProgram us u k p in
     subst R (sym g) (subst Q (sym f) (subst P (sym e) h))
 
-pub runs-after : (ts us : List (List ℕ)) (t u : NodeTable) (n m root : ℕ) (x : Term) (p q : Program) (at : Addr) (mark : TableMark) (next : ℕ) (end : Evaluated) (f : Evaluator) → m ≡ n → Stands ts t n p → IsAdded ts t at x us u root → Stands us u next q → IsMarkOf t mark → f.names ≡ us → (is_kept end ≡ true → (f.table ≡ u) × (f.next ≡ next)) → (is_kept end ≡ false → (f.next ≡ m) × ((v : NodeTable) (es : List SourceEntry) → IsWhole v → IsMarkOf v mark → GoesOnWith v u es → IsBack v f.table)) → RunsAfter end f p q
+pub runs-after : (ts us : List (List ℕ)) (t u : NodeTable) (n m root : ℕ) (x : Term) (p q : Program) (at : Addr) (mark : TableMark) (next : ℕ) (end : Evaluated) (f : Evaluator) → m ≡ n → HoldsProgram ts t n p → IsAdded ts t at x us u root → HoldsProgram us u next q → IsMarkOf t mark → f.names ≡ us → (is_kept end ≡ true → (f.table ≡ u) × (f.next ≡ next)) → (is_kept end ≡ false → (f.next ≡ m) × ((v : NodeTable) (es : List SourceEntry) → IsWhole v → IsMarkOf v mark → GoesOnWith v u es → IsBack v f.table)) → RunsAfter end f p q
 runs-after ts us t u n m root x p q at mark next end f l s a k d e h i =
     runs_by end f p q (λ o. stands-same us f.names u f.table next f.next q e (h o).0 (h o).1 k)
     (λ o. let b = i o in stands-same us f.names f.table f.table n f.next p e refl (b.0 ∙ l) (stands-back ts us t f.table n p s a.goes_on (b.1 t (a.entry ∷ []) s.whole d a.table)))

@@ -17,7 +17,7 @@ use Rattle.pure_eval.specs.declared.evaluator.EvaluatorMark.{EvaluatorMark}
 use Rattle.pure_eval.specs.Whole.{IsWhole}
 use Rattle.pure_eval.specs.Adding.{GoesOnWith, kept_tree_at}
 use Rattle.pure_eval.specs.Cutting.{IsMarkOf, IsBack}
-use Rattle.pure_eval.specs.Evaluators.{Stands, Runs, is_kept}
+use Rattle.pure_eval.specs.Evaluators.{HoldsProgram, Runs, is_kept}
 use Rattle.pure_eval.specs.Returning.{WentOn, WentOnAfter, IsMarked, IsAgain, CameFrom, CameAfter, HasAdded, IsCode, IsCodeOf, CodeAfter}
 use Rattle.pure_eval.proofs.EvaluatorLemmas.{same-names, further-names, same-program, stands-back, stands-same, stands-added, behind-is}
 
@@ -126,7 +126,7 @@ code_kept old mid new base scratch x a c h n t y =
     let p : Program = program_of old.names old.table in
     let s : SourceTree = kept_tree_at (next_of scratch) x in
     let b = behind-is (next_of scratch) scratch old.next a.next refl h.behind in
-    let stands : Stands mid.names mid.table (length scratch.cells + 1) (s ∷ p) = stands-added old.names mid.names old.table mid.table old.next (length scratch.cells) a.node x p c.runs b.0 h.source in
+    let stands : HoldsProgram mid.names mid.table (length scratch.cells + 1) (s ∷ p) = stands-added old.names mid.names old.table mid.table old.next (length scratch.cells) a.node x p c.runs b.0 h.source in
     let P : List (List ℕ) → Type 0 = λ ts. (us : List (List ℕ)) → GoesOn ts us → program_of us mid.table ≡ p ++ s ∷ [] in
     let Q : NodeTable → Type 0 = λ u. (us : List (List ℕ)) → GoesOn new.names us → program_of us u ≡ p ++ s ∷ [] in
     let program : P mid.names = λ us g. h.source.program us g ∙ ap (λ q. q ++ s ∷ []) (c.steady us (further-names old.names mid.names us h.source.goes_on g)) in

@@ -31,14 +31,14 @@ AreBelow n [] = Unit {0}
 AreBelow n (t ∷ ts) = IsBelow n t.source × AreBelow n ts
 
 -- a table in which the functions of a program are found, however the names go on; what it keeps stands below a number
-pub record Stands (names : List (List ℕ)) (t : NodeTable) (n : ℕ) (p : Program) : Type 0 where
+pub record HoldsProgram (names : List (List ℕ)) (t : NodeTable) (n : ℕ) (p : Program) : Type 0 where
   pub whole : IsWhole t
   pub below : (us : List (List ℕ)) → GoesOn names us → AreBelow n (program_of us t)
   pub same : (us : List (List ℕ)) → GoesOn names us → HasSameFunctions (program_of us t) p
 
 -- an evaluator has the code of a program
 abbrev pub Runs : Evaluator → Program → Type 0
-Runs e p = Stands e.names e.table e.next p
+Runs e p = HoldsProgram e.names e.table e.next p
 
 -- a term that is made of a source that is kept at an address, its literals in the source's order and in its own
 pub record IsMadeOf (at : Addr) (e : Made) (order of_term : List (List ℕ)) (t : Term) : Type 0 where

@@ -55,16 +55,16 @@ abbrev pub is_function_cell : Option Cell → Bool
 is_function_cell (Some (cells.Function code name len scope receiver)) = true
 is_function_cell cell = false
 
--- whether a value is a function
-abbrev pub is_function : World → Value → Bool
-is_function w (values.Object a) = is_function_cell (read_cell w a)
-is_function w v = false
+-- whether a value can be called, which functions can (ECMA-262, 7.2.3)
+abbrev pub is_callable : World → Value → Bool
+is_callable w (values.Object a) = is_function_cell (read_cell w a)
+is_callable w v = false
 
 -- ---- parts of an object, where a value is given so
 
 -- an element of a list: a function is null there
 abbrev pub element_of : World → Value → Json → List Json
-element_of w v j = (if is_function w v then null else j) ∷ []
+element_of w v j = (if is_callable w v then null else j) ∷ []
 
 -- what is given for an element
 abbrev pub element_given : World → (Value → Given Json) → Value → Given (List Json)
@@ -73,7 +73,7 @@ element_given w way v = mapped (element_of w v) (way v)
 -- undefined and functions are left out of an object
 abbrev pub is_left_out : World → Value → Bool
 is_left_out w values.Undefined = true
-is_left_out w v = is_function w v
+is_left_out w v = is_callable w v
 
 -- a member of this key
 abbrev pub member_of : List ℕ → Json → List Pair

@@ -78,9 +78,9 @@ fn is_function_cell(cell: Option<&Stored>) -> bool
 impl<'w, W: World, S: FunctionSources> Describer<'w, W, S> {
     // ---- parts
 
-    /// Whether a value is a function.
-    fn is_function(&self, value: Value) -> bool
-        ensures { result ≡ given.is_function (W.world self.now.names.now self.now.world.now) value }
+    /// Whether a value can be called, which functions can.
+    fn is_callable(&self, value: Value) -> bool
+        ensures { result ≡ given.is_callable (W.world self.now.names.now self.now.world.now) value }
     {
         match value {
             Value::Object(a) => is_function_cell(self.world.find(a)),
@@ -94,7 +94,7 @@ impl<'w, W: World, S: FunctionSources> Describer<'w, W, S> {
     {
         match value {
             Value::Undefined => true,
-            _ => self.is_function(value),
+            _ => self.is_callable(value),
         }
     }
 
@@ -102,7 +102,7 @@ impl<'w, W: World, S: FunctionSources> Describer<'w, W, S> {
     fn element_of(&self, value: Value, json: Json) -> Json
         ensures { json_view result ∷ [] ≡ given.element_of (W.world self.now.names.now self.now.world.now) value (json_view json) }
     {
-        if self.is_function(value) {
+        if self.is_callable(value) {
             null()
         } else {
             json

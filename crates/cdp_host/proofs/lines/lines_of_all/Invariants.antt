@@ -1,5 +1,6 @@
 use Rattle.std.proofs.Common.{◌≡◌, map, take, All}
-use Rattle.cdp_host.specs.Arrivals.{starts_of, IsShort}
+use Rattle.frames_scopes.specs.Places.{starts_of}
+use Rattle.cdp_host.specs.Arrivals.{IsShort}
 use Rattle.cdp_host.proofs.lines.lines_of_all.Given as goal
 
 abbrev pub invariant-loop-script : goal.invariant-loop-script

@@ -1,5 +1,5 @@
 use Rattle.cdp_host.proofs.PlacedLemmas.{placed, unplaced}
-use Rattle.cdp_host.proofs.telling.place_of.Goals as goal
+use Rattle.cdp_host.proofs.telling.seat_index.Goals as goal
 
 pub returns-then-index-seats-clause-some : goal.returns-then-index-seats-clause-some
 returns-then-index-seats-clause-some c =
