@@ -1,6 +1,6 @@
 -- Calls that change one seat, or add one.
 use Rattle.std.proofs.Common.{◌≡◌, ℕ, ◌+◌, List, [], ◌∷◌, ◌++◌, length, take as first, Bool, true, false, refl, ap, sym, subst, ◌∙◌}
-use Rattle.isolation.specs.Histories.{Attach, Entry, Take, apply, take, waiting}
+use Rattle.isolation.specs.Histories.{Attach, Entry, Take, apply, take}
 use Rattle.isolation.specs.Meanings.{with_seats}
 use Rattle.isolation.specs.Runs.{AllFit}
 use Rattle.isolation.specs.Seats.{is_attached, put, seat_of, some}
@@ -146,12 +146,6 @@ pub take-leaves : (h old : HostState) (s : ℕ) (news : List (Seat Session)) →
 take-leaves h old s news same held are =
     let it = whose (seat_of s h.meaning.seats) (subst (λ o. is_attached (seat_of s o.meaning.seats) ≡ true) (sym same) held) in
     subst (λ o. Leaves o (Take s) (seated h news)) same (take-here h s news it.0 it.1 (are it.0 it.1))
-
-pub take-texts : (h old : HostState) (s : ℕ) (texts : List (List ℕ)) → h ≡ old → is_attached (seat_of s old.meaning.seats) ≡ true
-    → ((x : Session) → seat_of s h.meaning.seats ≡ Attached x → texts ≡ x.outbox) → texts ≡ waiting (protocol old.scripts) (seat_of s old.meaning.seats)
-take-texts h old s texts same held are =
-    let it = whose (seat_of s h.meaning.seats) (subst (λ o. is_attached (seat_of s o.meaning.seats) ≡ true) (sym same) held) in
-    are it.0 it.1 ∙ ap (waiting (protocol h.scripts)) (sym it.1) ∙ ap (λ o. waiting (protocol o.scripts) (seat_of s o.meaning.seats)) same
 
 pub take-stands : (h old new : HostState) (s : ℕ) → h ≡ old → (h.broken ≡ true → NoneAttached h.meaning.seats) → is_attached (seat_of s old.meaning.seats) ≡ true
     → Leaves old (Take s) new → CarriesOn old (Take s) new

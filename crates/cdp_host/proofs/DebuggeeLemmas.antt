@@ -8,7 +8,7 @@ use Rattle.js_semantics.specs.Terms.{Term, done, standing, part}
 use Rattle.js_semantics.specs.State.{State}
 use Rattle.js_semantics.specs.Frames.{thrown}
 use Rattle.js_semantics.specs.Run as runs
-use Rattle.js_semantics.specs.Run.{Run, running, over, run_of}
+use Rattle.js_semantics.specs.Run.{Run, over, run_of}
 use Rattle.js_semantics.proofs.FollowLemmas.{run_of-state}
 use Rattle.js_world.specs.Heaps.{Heap, heap_world}
 use Rattle.js_operations.specs.Contexts as contexts

@@ -44,11 +44,6 @@ pub unplaced : {X : Type 0} → (s i : ℕ) (seats : List (Seat X)) → i ≡ s 
 unplaced zero i seats is far = refl
 unplaced (suc n) i seats is far = none-in n seats (omega (arith, is, far))
 
--- nor is the number 0
-pub unnumbered : {X : Type 0} → (s : ℕ) (seats : List (Seat X)) → s < 1 → seat_of s seats ≡ Left
-unnumbered zero seats none = refl
-unnumbered (suc n) seats none = absurd (omega (arith, none))
-
 -- ---- the seat that was there
 
 put-in-self : {X : Type 0} → (i : ℕ) (seats : List (Seat X)) → put_in i (seat_in i seats) seats ≡ seats

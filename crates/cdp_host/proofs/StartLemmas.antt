@@ -55,5 +55,3 @@ start-sound scripts input lines spots s is located found held room made =
 pub code-begun : (scripts : List Script) (terms placed : Terms) (w : Workspace) → terms ≡ terms_of_scripts scripts → placed ≡ placed_scripts terms → w ≡ begun (program_from 1 placed) → w ≡ begun (code_of scripts)
 unfolding code_of
 code-begun scripts terms placed w made put is = is ∙ ap (λ ts. begun (program_from 1 ts)) (put ∙ ap placed_scripts made)
-
-pub ruleset starts = (start-means, start-sound)

@@ -9,7 +9,7 @@ use Rattle.cdp_session.specs.Stops.{stop_texts, stopped}
 use Rattle.cdp_session.specs.declared.ending.Ending.{Ending}
 use Rattle.cdp_session.specs.declared.ending.Ending.TheVariants as endings
 use Rattle.cdp_session.proofs.OutboxSizes.{unfit-as}
-use Rattle.cdp_host.specs.Steps.{Step, end_texts, end_told, names, print_texts, print_told, session_behind, step_texts, told}
+use Rattle.cdp_host.specs.Steps.{Step, end_texts, end_told, names, print_texts, print_told, session_behind, told}
 
 -- ---- what a session asks for
 
@@ -96,18 +96,6 @@ pub stopped-outbox : (s : Situation) (number moment : ℕ) (step : Step) (x : Se
     → (session_behind s number moment step x).outbox ≡ (told s moment step x).outbox ++ (if b then stop_texts s number step.arrival (told s moment step x) else [])
 stopped-outbox s number moment step x true is = rw is refl
 stopped-outbox s number moment step x false is = rw is (sym (append-nil (told s moment step x).outbox))
-
--- the texts of a step come behind those that wait
-pub step-outbox : (s : Situation) (number moment : ℕ) (step : Step) (x : Session) → (session_behind s number moment step x).outbox ≡ x.outbox ++ step_texts s number moment step x
-step-outbox s number moment step x =
-    let y : Session = print_told s step.values moment x in
-    let first : List (List ℕ) = print_texts s step.values moment x in
-    let second : List (List ℕ) = end_texts s step.ending moment y in
-    let third : List (List ℕ) = if names step x then stop_texts s number step.arrival (told s moment step x) else [] in
-    stopped-outbox s number moment step x (names step x) refl
-    ∙ ap (λ xs. xs ++ third) (told-outbox s moment step x ∙ ap (λ xs. xs ++ second) (print-outbox s step.values moment x))
-    ∙ append_assoc (x.outbox ++ first) second third
-    ∙ append_assoc x.outbox first (second ++ third)
 
 -- ---- what doesn't fit
 

@@ -1,5 +1,5 @@
 -- Where a step leaves a program, in the words of the rules by which it is stopped.
-use Rattle.std.specs.Prelude.{ℕ, ◌^◌, ◌<◌, ◌-◌, List, length, Bool, false, nat_eq, slice_get, if◌then◌else◌, Option, Some, None}
+use Rattle.std.specs.Prelude.{◌^◌, ◌<◌, ◌-◌, List, length, Bool, false, nat_eq, slice_get, if◌then◌else◌, Option, Some, None}
 use Rattle.std.specs.Option.{option_map}
 use Rattle.cdp_text.specs.declared.position.Place.{Place}
 use Rattle.cdp_text.specs.Position.{position}

@@ -1,5 +1,5 @@
 -- What a step of the program tells, and what it does to a session.
-use Rattle.std.specs.Prelude.{ℕ, Bool, List, [], ◌++◌, not, ◌&&◌, ◌||◌, is_some, if◌then◌else◌, Option, Some, None}
+use Rattle.std.specs.Prelude.{ℕ, Bool, List, [], not, ◌&&◌, ◌||◌, is_some, if◌then◌else◌, Option, Some, None}
 use Rattle.js_tree.specs.declared.script.Script.{Script}
 use Rattle.js_heap.specs.declared.value.Value.{Value}
 use Rattle.js_semantics.specs.Run.{Run}
@@ -8,7 +8,7 @@ use Rattle.cdp_session.specs.Consoles.{printed, printed_texts}
 use Rattle.cdp_session.specs.Endings.{ended, ended_texts}
 use Rattle.cdp_session.specs.Sessions.{Session}
 use Rattle.cdp_session.specs.Situations.{Situation, Standing}
-use Rattle.cdp_session.specs.Stops.{cause_of, stopped, stop_texts}
+use Rattle.cdp_session.specs.Stops.{cause_of, stopped}
 use Rattle.cdp_session.specs.declared.ending.Ending.{Ending}
 use Rattle.cdp_host.specs.Programs.{arrival_of, next, prints_next}
 use Rattle.cdp_host.specs.Standings.{ending_of, standing_of}
@@ -78,9 +78,3 @@ print_texts s (Some values) moment x = printed_texts s values moment x
 abbrev pub end_texts : Situation → Option Ending → ℕ → Session → List (List ℕ)
 end_texts s None moment x = []
 end_texts s (Some ending) moment x = ended_texts s ending moment x
-
--- of values that were printed, of the end, and of the stop, in this order
-abbrev pub step_texts : Situation → ℕ → ℕ → Step → Session → List (List ℕ)
-step_texts s number moment step x =
-    print_texts s step.values moment x
-    ++ (end_texts s step.ending moment (print_told s step.values moment x) ++ (if names step x then stop_texts s number step.arrival (told s moment step x) else []))

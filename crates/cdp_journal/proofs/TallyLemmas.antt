@@ -39,9 +39,6 @@ both-nothing : (t : Tally) → both t (tally_of []) ≡ t
 both-nothing t =
     same-tally (both t (tally_of [])) t (append-nil t.printed) (omega arith) (omega arith) (omega arith) (omega arith)
 
-nothing-both : (t : Tally) → both (tally_of []) t ≡ t
-nothing-both t = same-tally (both (tally_of []) t) t refl (omega arith) (omega arith) (omega arith) (omega arith)
-
 both-assoc : (s t u : Tally) → both (both s t) u ≡ both s (both t u)
 both-assoc s t u =
     same-tally (both (both s t) u) (both s (both t u))
@@ -102,9 +99,6 @@ tally-append xs ys =
     (length-each (codes "to 2 ") xs ys)
 
 -- ---- a loop over lines
-
-pub tally-start : (lines : List (List ℕ)) → both (tally_of []) (tally_of lines) ≡ tally_of lines
-tally-start lines = nothing-both (tally_of lines)
 
 pub tally-next : (tally whole : Tally) (line : List ℕ) (lines others : List (List ℕ)) → others ≡ line ∷ lines
     → both tally (tally_of others) ≡ whole

@@ -1,5 +1,5 @@
 -- Lists that are read one by one: what is behind those that were read decides what all come to.
-use Rattle.std.proofs.Common.{◌≡◌, ℕ, ◌+◌, ◌<◌, ◌≤◌, List, [], ◌∷◌, ◌++◌, length, drop, get_or, map, Option, Some, None, option_map, string_bytes, String, Global, refl, sym, ap, ◌∙◌, arith}
+use Rattle.std.proofs.Common.{◌≡◌, ℕ, ◌+◌, ◌<◌, ◌≤◌, List, [], ◌∷◌, ◌++◌, length, drop, get_or, map, Option, Some, None, option_map, string_bytes, String, Global, refl, sym, ap, ◌∙◌}
 use Rattle.std.proofs.lemmas.List.{map-append, drop_all, drop_more}
 use Rattle.cdp_text.specs.Units.{utf16_of}
 use Rattle.serde_json.specs.View.{view, items_view, members_view}
@@ -52,11 +52,6 @@ items_more vs i v old new j lt is pushed =
     ∙ more json.item (map json_view old) (json_view j) (safe_items_of (items_view (drop (i + 1) vs)))
     ∙ ap (λ js. option_map (with_items js) (safe_items_of (items_view (drop (i + 1) vs)))) (sym (ap (map json_view) pushed ∙ map-append json_view old (j ∷ []))))
 
-pub items_none : (vs : List Value) (i : ℕ) (v : Value) (old : List Json) → i < length vs → None ≡ safe_value_of (view (get_or vs i v)) → None ≡ items_behind old (drop i vs)
-items_none vs i v old lt is =
-    sym (ap (items_behind old) (drop_more vs i v lt)
-    ∙ ap (λ o. option_map (with_items (map json_view old)) (both json.item o (safe_items_of (items_view (drop (i + 1) vs))))) (sym is))
-
 pub items_all : (vs : List Value) (i : ℕ) (done : List Json) → length vs ≤ i → Some (items_of (map json_view done)) ≡ items_behind done (drop i vs)
 items_all vs i done le = sym (ap (items_behind done) (drop_all i vs le) ∙ ap Some (all_items (map json_view done)))
 
@@ -94,9 +89,6 @@ members_more e left old new m j is named pushed =
     ∙ ap (λ p. option_map (with_members (map member_view old ++ p ∷ [])) (safe_members_of (members_view left))) (sym named)
     ∙ ap (λ ps. option_map (with_members ps) (safe_members_of (members_view left))) (sym (ap (map member_view) pushed ∙ map-append member_view old (m ∷ []))))
 
-pub members_none : (e : Entry) (left : List Entry) (old : List Member) → None ≡ safe_value_of (view e.1) → None ≡ members_behind old (e ∷ left)
-members_none e left old is = ap (λ o. option_map (with_members (map member_view old)) (both (json.member (utf16_of (string_bytes e.0))) o (safe_members_of (members_view left)))) is
-
 pub members_all : (done : List Member) → Some (members_of (map member_view done)) ≡ members_behind done []
 members_all done = sym (ap Some (all_members (map member_view done)))
 
@@ -120,11 +112,6 @@ arguments_more vs i v old new a lt is pushed =
     ∙ ap (λ o. option_map (with_arguments (map argument_view old)) (both ◌∷◌ o (arguments_from (items_view (drop (i + 1) vs))))) (sym is)
     ∙ more ◌∷◌ (map argument_view old) (argument_view a) (arguments_from (items_view (drop (i + 1) vs)))
     ∙ ap (λ xs. option_map (with_arguments xs) (arguments_from (items_view (drop (i + 1) vs)))) (sym (ap (map argument_view) pushed ∙ map-append argument_view old (a ∷ []))))
-
-pub arguments_none : (vs : List Value) (i : ℕ) (v : Value) (old : List Argument) → i < length vs → None ≡ argument_of (view (get_or vs i v)) → None ≡ arguments_behind old (drop i vs)
-arguments_none vs i v old lt is =
-    sym (ap (arguments_behind old) (drop_more vs i v lt)
-    ∙ ap (λ o. option_map (with_arguments (map argument_view old)) (both ◌∷◌ o (arguments_from (items_view (drop (i + 1) vs))))) (sym is))
 
 pub arguments_all : (vs : List Value) (i : ℕ) (done : List Argument) → length vs ≤ i → Some (map argument_view done) ≡ arguments_behind done (drop i vs)
 arguments_all vs i done le = sym (ap (arguments_behind done) (drop_all i vs le) ∙ ap Some (all_arguments (map argument_view done)))

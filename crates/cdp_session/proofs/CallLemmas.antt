@@ -15,7 +15,6 @@ use Rattle.js_semantics.specs.Evaluation.{Argument, evaluate_call, evaluate_func
 use Rattle.js_semantics.specs.Literals.{source_literals}
 use Rattle.js_semantics.specs.Makers.{Made as Source}
 use Rattle.js_semantics.specs.Sources.{expression_source}
-use Rattle.cdp_json.specs.Arguments as asked
 use Rattle.cdp_json.specs.ArgumentViews.{argument_view}
 use Rattle.cdp_json.specs.SafeValues.{both}
 use Rattle.cdp_json.specs.declared.arguments.Argument.{Argument as Asked}
@@ -62,13 +61,6 @@ behind-next x done new left a p is pushed =
 pub behind-more : (x : Session) (all : List Asked) (i : ℕ) (a : Asked) (done new : List Passed) (p : Passed) → i < length all → Some (passed.argument_of p) ≡ argument_of x (argument_view (get_or all i a)) → new ≡ done ++ p ∷ []
     → behind x new (drop (i + 1) all) ≡ behind x done (drop i all)
 behind-more x all i a done new p lt is pushed = behind-next x done new (drop (i + 1) all) (get_or all i a) p is pushed ∙ sym (ap (behind x done) (drop_more all i a lt))
-
--- one that isn't there
-none-next : (x : Session) (done : List Passed) (left : List Asked) (a : Asked) → None ≡ argument_of x (argument_view a) → None ≡ behind x done (a ∷ left)
-none-next x done left a is = ap (λ o. option_map (λ r. passed.arguments_of done ++ r) (both ◌∷◌ o (arguments_of x (map argument_view left)))) is
-
-pub behind-none : (x : Session) (all : List Asked) (i : ℕ) (a : Asked) (done : List Passed) → i < length all → None ≡ argument_of x (argument_view (get_or all i a)) → None ≡ behind x done (drop i all)
-behind-none x all i a done lt is = none-next x done (drop (i + 1) all) (get_or all i a) is ∙ sym (ap (behind x done) (drop_more all i a lt))
 
 -- where none is left, those that were read are all
 pub behind-all : (x : Session) (all : List Asked) (i : ℕ) (done : List Passed) → length all ≤ i → Some (passed.arguments_of done) ≡ behind x done (drop i all)

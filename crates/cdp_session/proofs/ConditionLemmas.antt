@@ -1,5 +1,5 @@
 -- What the evaluation of a condition comes to, and what it leaves.
-use Rattle.std.proofs.Common.{◌≡◌, ℕ, List, [], ◌∷◌, ◌++◌, Bool, true, false, cond, filter, length, map, ap, sym, subst, ◌∙◌, append_assoc, Option, Some, None}
+use Rattle.std.proofs.Common.{◌≡◌, ℕ, List, ◌++◌, Bool, false, filter, length, map, ap, sym, subst, ◌∙◌, Option, Some, None}
 use Rattle.js_heap.specs.World.{World}
 use Rattle.js_heap.specs.declared.value.Addr.{Addr}
 use Rattle.js_heap.specs.declared.value.Value.{Value}
@@ -21,7 +21,7 @@ use Rattle.pure_eval.specs.Preparing.{IsPrepared}
 use Rattle.pure_eval.specs.Workspaces.{Opened, Workspace, opened, EvaluatesTo}
 use Rattle.pure_eval.specs.declared.evaluated.Evaluated.{Evaluated}
 use Rattle.pure_eval.specs.declared.prepared.Prepared.{Prepared}
-use Rattle.cdp_session.specs.Conditions.{IsParsed, IsParsedTo, comes_true, condition_holds, expression_holds, holds, is_met, lacks_memory, top_scope, top_this, tree_holds}
+use Rattle.cdp_session.specs.Conditions.{IsParsed, IsParsedTo, comes_true, expression_holds, holds, is_met, lacks_memory, top_scope, top_this, tree_holds}
 use Rattle.cdp_session.specs.Evaluations.{is_memory}
 use Rattle.cdp_session.specs.Situations.{Standing}
 use Rattle.cdp_session.proofs.EvaluationLemmas.{evaluated-from, stays}
@@ -88,22 +88,3 @@ forgets s w scope this ex at p end o n is place ready says some =
 pub record Collects (s : Standing) (w now : Workspace) (all ids : List (List ℕ)) (left : List Breakpoint) : Type 0 where
   pub collected : ids ++ map id_of (filter (is_met s w) left) ≡ all
   pub kept : now ≡ w
-
--- one breakpoint more that is met, and one that isn't
-pub collects-met : (s : Standing) (w now new : Workspace) (all ids : List (List ℕ)) (b : Breakpoint) (left : List Breakpoint) (met : Bool) → Collects s w now all ids (b ∷ left)
-    → met ≡ condition_holds s now b.condition → met ≡ true → new ≡ now → Collects s w new all (ids ++ b.id ∷ []) left
-collects-met s w now new all ids b left met was is by same =
-    let here : is_met s w b ≡ true = ap (λ k. condition_holds s k b.condition) (sym was.kept) ∙ sym is ∙ by in
-    record {
-      collected = append_assoc ids (b.id ∷ []) _ ∙ ap (λ t. ids ++ map id_of (cond t (b ∷ filter (is_met s w) left) (filter (is_met s w) left))) (sym here) ∙ was.collected;
-      kept = same ∙ was.kept;
-    }
-
-pub collects-unmet : (s : Standing) (w now new : Workspace) (all ids : List (List ℕ)) (b : Breakpoint) (left : List Breakpoint) (met : Bool) → Collects s w now all ids (b ∷ left)
-    → met ≡ condition_holds s now b.condition → met ≡ false → new ≡ now → Collects s w new all ids left
-collects-unmet s w now new all ids b left met was is by same =
-    let here : is_met s w b ≡ false = ap (λ k. condition_holds s k b.condition) (sym was.kept) ∙ sym is ∙ by in
-    record {
-      collected = ap (λ t. ids ++ map id_of (cond t (b ∷ filter (is_met s w) left) (filter (is_met s w) left))) (sym here) ∙ was.collected;
-      kept = same ∙ was.kept;
-    }

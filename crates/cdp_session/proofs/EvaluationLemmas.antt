@@ -1,5 +1,5 @@
 -- What an evaluation over an opened workspace leaves, in the words of the session that opened it.
-use Rattle.std.proofs.Common.{◌≡◌, List, ℕ, true, false, refl, ap, sym, subst, ◌∙◌, Option, Some, None, Result, Err, if◌then◌else◌}
+use Rattle.std.proofs.Common.{◌≡◌, List, ℕ, false, refl, ap, sym, subst, ◌∙◌, Some, None, Result, Err}
 use Rattle.js_heap.specs.World.{World}
 use Rattle.js_heap.specs.declared.value.Addr.{Addr}
 use Rattle.js_heap.specs.declared.value.Value.{Value}

@@ -4,7 +4,7 @@ use Rattle.std.proofs.lemmas.List.{map-append}
 use Rattle.std.proofs.lemmas.Option.{same_Some}
 use Rattle.std.specs.Option.{option_and_then}
 use Rattle.cdp_edge.specs.Outside.{GainsLess, GainsPrefix, gains}
-use Rattle.isolation.specs.Histories.{Entry, Attach, Tell, Take, Detach, Ran, Shut, waiting}
+use Rattle.isolation.specs.Histories.{Entry, Attach, Tell, Take, Ran, waiting}
 use Rattle.isolation.specs.Meanings.{after_run, after_steps, longest, with_seats}
 use Rattle.isolation.specs.Seats.{is_attached, seat_of, without}
 use Rattle.isolation.specs.Standing.{StandsAs, fallen_in, fell}
@@ -63,11 +63,6 @@ there-gone host s works gone stays scripts input wait history stood =
 
 -- ---- a line that may stand there only where this holds
 
-refused_by : (scripts : List Script) (input : List (List ℕ)) (wait : Bool) (history : List Entry) (b : Bool) (entry : Entry) (new : HostState) → b ≡ false
-    → Acts scripts input wait history (if b then Some entry else None) None new
-refused_by scripts input wait history true entry new is = cc
-refused_by scripts input wait history false entry new is = refl
-
 done_by : (scripts : List Script) (input : List (List ℕ)) (wait : Bool) (history : List Entry) (b : Bool) (entry : Entry) (texts : Option (List (List ℕ))) (new : HostState) → b ≡ true
     → texts ≡ Some (map output_text (output_at scripts (whole scripts input wait history) entry)) → StandsBehind scripts input wait history entry new
     → Acts scripts input wait history (if b then Some entry else None) texts new
@@ -91,24 +86,6 @@ attach-done old new s texts works number leaves carries texts_are scripts input 
       ap (λ xs. Some xs) (texts_are ∙ ap (λ n. output_text (Attached n) ∷ []) (number ∙ ap (λ n. n + 1) many)),
       stands-behind scripts input wait history old new Attach works leaves carries stood,
     )
-
-pub tell-refused : (host : HostState) (s : ℕ) (text : List ℕ) (there : Bool) → there ≡ false → IsMeant host s there
-    → (scripts : List Script) (input : List (List ℕ)) (wait : Bool) (history : List Entry) → Stands scripts input wait host history
-    → Acts scripts input wait history (entry_at scripts (whole scripts input wait history) (lines.Tell s text)) None host
-tell-refused host s text there none meant scripts input wait history stood =
-    refused_by scripts input wait history (is_there (whole scripts input wait history) s) (Tell s text) host (sym (meant scripts input wait history stood) ∙ none)
-
-pub take-refused : (host : HostState) (s : ℕ) (there : Bool) → there ≡ false → IsMeant host s there
-    → (scripts : List Script) (input : List (List ℕ)) (wait : Bool) (history : List Entry) → Stands scripts input wait host history
-    → Acts scripts input wait history (entry_at scripts (whole scripts input wait history) (lines.Take s)) None host
-take-refused host s there none meant scripts input wait history stood =
-    refused_by scripts input wait history (is_there (whole scripts input wait history) s) (Take s) host (sym (meant scripts input wait history stood) ∙ none)
-
-pub detach-refused : (host : HostState) (s : ℕ) (there : Bool) → there ≡ false → IsMeant host s there
-    → (scripts : List Script) (input : List (List ℕ)) (wait : Bool) (history : List Entry) → Stands scripts input wait host history
-    → Acts scripts input wait history (entry_at scripts (whole scripts input wait history) (lines.Detach s)) None host
-detach-refused host s there none meant scripts input wait history stood =
-    refused_by scripts input wait history (is_there (whole scripts input wait history) s) (Detach s) host (sym (meant scripts input wait history stood) ∙ none)
 
 -- whether the texts of an answer of a host's session fit
 abbrev pub AnswersFit : HostState → ℕ → List ℕ → Bool → Type 0
@@ -171,21 +148,6 @@ take-done old new s handed texts works held leaves carries handed_are texts_are 
     done_by scripts input wait history (is_there m s) (Take s) (Some texts) new (sym (there-held old s works held scripts input wait history stood))
     (ap (λ xs. Some xs) (texts_are ∙ ap (λ xs. map output_text (map (To s) xs)) waits))
     (stands-behind scripts input wait history old new (Take s) works leaves carries stood)
-
-pub detach-done : (old new : HostState) (s : ℕ) (texts : List (List ℕ)) → old.broken ≡ false → is_attached (seat_of s old.meaning.seats) ≡ true
-    → Leaves old (Detach s) new → CarriesOn old (Detach s) new → texts ≡ []
-    → (scripts : List Script) (input : List (List ℕ)) (wait : Bool) (history : List Entry) → Stands scripts input wait old history
-    → Acts scripts input wait history (entry_at scripts (whole scripts input wait history) (lines.Detach s)) (Some texts) new
-detach-done old new s texts works held leaves carries none scripts input wait history stood =
-    done_by scripts input wait history (is_there (whole scripts input wait history) s) (Detach s) (Some texts) new (sym (there-held old s works held scripts input wait history stood))
-    (ap (λ xs. Some xs) none)
-    (stands-behind scripts input wait history old new (Detach s) works leaves carries stood)
-
-pub shut-done : (old new : HostState) (texts : List (List ℕ)) → old.broken ≡ false → Leaves old Shut new → CarriesOn old Shut new → texts ≡ []
-    → (scripts : List Script) (input : List (List ℕ)) (wait : Bool) (history : List Entry) → Stands scripts input wait old history
-    → Acts scripts input wait history (entry_at scripts (whole scripts input wait history) lines.Shut) (Some texts) new
-shut-done old new texts works leaves carries none scripts input wait history stood =
-    (ap (λ xs. Some xs) none, stands-behind scripts input wait history old new Shut works leaves carries stood)
 
 -- ---- a run
 

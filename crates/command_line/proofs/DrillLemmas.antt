@@ -1,17 +1,11 @@
 -- What each end of a drill says of its script, its journal and its summary.
-use Rattle.std.proofs.Common.{◌≡◌, ◌⊎◌, ℕ, List, [], ◌∷◌, Bool, false, Option, Some, None, refl, sym, subst, inl, inr, append-nil}
+use Rattle.std.proofs.Common.{◌≡◌, ℕ, List, [], ◌∷◌, false, Option, Some, None, refl, sym, subst, inl, append-nil}
 use Rattle.std.proofs.lemmas.Option.{same_Some}
-use Rattle.cdp_edge.specs.Outside.{Rose, gains, GainsLess, GainsPrefix}
-use Rattle.std.specs.Borrow.{Bor}
-use Rattle.cdp_journal.specs.Drills.{drill_journal, drill_source}
+use Rattle.cdp_edge.specs.Outside.{gains, GainsLess, GainsPrefix}
+use Rattle.cdp_journal.specs.Drills.{drill_journal}
 use Rattle.cdp_journal.specs.Summaries.{summary}
 use Rattle.js_tree.specs.declared.script.Script.{Script}
-use Rattle.script_files.specs.Refusals.{IsRefused}
-use Rattle.script_files.specs.Scripts.{FailsAs}
-use Rattle.script_files.specs.declared.fault.FileFault.{FileFault}
-use Rattle.script_files.specs.declared.fault.FileFault.TheVariants as faults
-use Rattle.command_line.specs.DrillCauses.{BecauseDrill, BecauseJournalOf, BecauseScript, DrillsInPart, DrillsShort, DrillsWhole, IsDrilled, IsDrillScript, script_name}
-use Rattle.command_line.specs.RunCauses.{outcome_of}
+use Rattle.command_line.specs.DrillCauses.{BecauseDrill, BecauseJournalOf, DrillsInPart, DrillsShort, DrillsWhole, IsDrilled, IsDrillScript}
 use Rattle.command_line.specs.Replays.{IsReplay, WritesReplay}
 use Rattle.command_line.specs.declared.outcome.Outcome.{Outcome}
 use Rattle.command_line.specs.declared.outcome.Outcome.TheVariants as ends
@@ -32,24 +26,6 @@ drilled n script scripts input journal before now line one none is began written
     subst (λ (s : List Script). IsReplay s [] false (drill_journal n) line now) one empty
 
 -- ---- causes
-
--- why its script wasn't read, of bytes that weren't taken as a script
-pub unread-by : (name : Bor (List ℕ)) (fault : FileFault) (n : ℕ) (bytes : List ℕ) → name.now ≡ script_name → bytes ≡ drill_source n
-    → FailsAs fault [] bytes → BecauseScript (outcome_of name fault) n
-unread-by name (faults.Refused r) n bytes is same h = (is, subst (λ (b : List ℕ). IsRefused [] b r) same h)
-unread-by name faults.CannotRead n bytes is same h = absurd h
-unread-by name faults.Memory n bytes is same h = tt
-
--- why a drill ended so whose script wasn't read
-pub unread-script : (end : Outcome) (n was : ℕ) (old : Option (List ℕ)) → BecauseScript end n → BecauseDrill end n was was old old
-unread-script ends.Done n was old h = absurd h
-unread-script (ends.Threw text) n was old h = absurd h
-unread-script ends.OutOfMemory n was old h = (refl, inl refl)
-unread-script ends.Usage n was old h = absurd h
-unread-script (ends.Refused name r) n was old h = (refl, refl, h.0, h.1)
-unread-script (ends.CannotRead name) n was old h = absurd h
-unread-script ends.CannotWrite n was old h = absurd h
-unread-script (ends.LineRefused line) n was old h = absurd h
 
 -- why it ended so whose journal wasn't replayed to its end
 pub unplayed : (end : Outcome) (n was : ℕ) (old : Option (List ℕ)) (script : Script) → IsDrillScript n script → BecauseJournalOf end n script

@@ -7,7 +7,7 @@ use Rattle.js_tree.specs.declared.script.Script.{Script}
 use Rattle.script_files.specs.declared.fault.Refusal.{Refusal}
 use Rattle.command_line.specs.Files.{HoldsReplay, HoldsSources, IsReachedBy, IsReachedIn, IsRefusedBehind, IsRefusedIn}
 use Rattle.command_line.specs.Replays.{WritesLess, WritesPart, WritesReplay}
-use Rattle.command_line.specs.ReplayCauses.{ReplaysWhole, ReplaysInPart, ReplaysShort, BecauseJournal, BecauseReplay, outcome_of_replay}
+use Rattle.command_line.specs.ReplayCauses.{ReplaysWhole, ReplaysInPart, ReplaysShort, BecauseReplay, outcome_of_replay}
 use Rattle.command_line.specs.RunCauses.{BecauseSources}
 use Rattle.command_line.specs.Status.{GivenReplay, status_of}
 use Rattle.command_line.specs.Words.{Command, Replay, Request}
@@ -24,19 +24,6 @@ pub ruleset untouched = (gains-nil, GainsPrefix-refl, Told-GainsPrefix)
 told_both : (told : Option (List Named)) (P Q R : List Named → Type 0) → ((files : List Named) → P files → Q files → R files) → Told told P → Told told Q → Told told R
 told_both None P Q R f p q = tt
 told_both (Some files) P Q R f p q = f files p q
-
--- why a replay ended so whose journal wasn't read
-pub unread-journal : (end : Outcome) (request : Request) (told : Option (List Named)) (before after : Faults) (was : ℕ) (old : Option (List ℕ)) → BecauseJournal end request.journal before after
-    → BecauseReplay end request told before after was was old old
-unread-journal ends.Done request told before after was old h = absurd h
-unread-journal (ends.Threw text) request told before after was old h = absurd h
-unread-journal ends.OutOfMemory request told before after was old h = (h, refl, told_always told (λ files. (old ≡ old) ⊎ ReplaysInPart files request old old) (λ files. inl refl))
-unread-journal ends.Usage request told before after was old h = absurd h
-unread-journal (ends.Refused name r) request told before after was old h = absurd h
-unread-journal (ends.CannotRead name) request told before after was old h =
-    (h.0, refl, inl h.1, told_always told (λ files. IsReachedBy files request name.now) (λ files. inl h.1))
-unread-journal ends.CannotWrite request told before after was old h = absurd h
-unread-journal (ends.LineRefused n) request told before after was old h = absurd h
 
 abbrev HasJournal : Option (List Named) → Request → List ℕ → Type 0
 HasJournal told request journal = Told told (λ files. content_of request.journal files ≡ Some journal)

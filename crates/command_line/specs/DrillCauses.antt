@@ -1,10 +1,9 @@
 -- How a drill ends, and why.
-use Rattle.std.specs.Prelude.{◌≡◌, ◌⊎◌, ℕ, List, [], ◌∷◌, Bool, false, codes, Option, Some, None}
+use Rattle.std.specs.Prelude.{◌≡◌, ◌⊎◌, ℕ, List, [], ◌∷◌, false, codes, Option, Some, None}
 use Rattle.cdp_edge.specs.Outside.{Rose, gains, GainsPrefix, GainsLess}
 use Rattle.cdp_journal.specs.Drills.{drill_journal, drill_source}
 use Rattle.cdp_journal.specs.Summaries.{summary}
 use Rattle.js_tree.specs.declared.script.Script.{Script}
-use Rattle.script_files.specs.declared.fault.Refusal.{Refusal}
 use Rattle.script_files.specs.Refusals.{IsRefused}
 use Rattle.script_files.specs.Scripts.{IsScriptOf}
 use Rattle.command_line.specs.Replays.{IsReplay}

@@ -1,5 +1,5 @@
 -- What the lines of a replay's output tell of its history.
-use Rattle.std.specs.Prelude.{◌+◌, ℕ, zero, suc, List, [], ◌∷◌, ◌++◌, Bool, true, false, codes, decimal, if◌then◌else◌}
+use Rattle.std.specs.Prelude.{◌+◌, ℕ, zero, suc, List, [], ◌∷◌, ◌++◌, Bool, false, codes, decimal, if◌then◌else◌}
 use Rattle.isolation.specs.Alone.{unborn}
 use Rattle.isolation.specs.Histories.{Entry, Attach, Tell, Take, Detach, Ran, Shut, steps_of, waiting}
 use Rattle.isolation.specs.Meanings.{after_steps, is_named, is_paused, waits}

@@ -107,9 +107,3 @@ none-left left (Some v) e k = cc
 
 pub one-less : {A : Type 0} (xs : List A) (x : A) (ys : List A) → xs ≡ x ∷ ys → length ys < length xs
 one-less xs x ys e = let l : length xs ≡ suc (length ys) = ap length e in omega arith
-
--- ---- where a frame stands
-
-pub here-below : (m : Option Mark) (d : ℕ) (f : Frame) → 0 < d → here_at m d f ≡ f.here
-here-below m zero f h = absurd (omega arith)
-here-below m (suc d) f h = refl

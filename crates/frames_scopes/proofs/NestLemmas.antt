@@ -37,9 +37,6 @@ live-below P [] i h = absurd h
 live-below P (d ∷ cs) zero h = omega arith
 live-below P (d ∷ cs) (suc i) h = let k : i < length cs = live-below P cs i h in omega arith
 
-none-within : (a : Addr) → IsWithinOlder a None
-none-within a = tt
-
 -- ---- making
 
 new-base : (w : World) (o : Addr) → w.scratch ≡ [] → SoundScope w (Some o) → IsOlder o (Base (length w.base))

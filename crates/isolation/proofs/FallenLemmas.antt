@@ -1,5 +1,5 @@
 -- Sessions that fell: their numbers, and the seats of a host without them.
-use Rattle.std.proofs.Common.{◌≡◌, ◌<◌, ℕ, zero, suc, ◌+◌, List, [], ◌∷◌, length, Bool, true, false, ◌==◌, ◌||◌, if◌then◌else◌, refl, ap, sym, ◌∙◌, arith}
+use Rattle.std.proofs.Common.{◌≡◌, ◌<◌, ℕ, zero, suc, ◌+◌, List, [], ◌∷◌, Bool, true, false, ◌==◌, ◌||◌, if◌then◌else◌, refl, ap, sym, ◌∙◌, arith}
 use Rattle.std.proofs.lemmas.Bool.{or_parts}
 use Rattle.std.proofs.lemmas.Bool.Decides.{nat_tests}
 use Rattle.isolation.specs.Seats.{fallen, is_listed, put, put_in, seat_in, seat_of, some, waits_for_report, without, without_from}
@@ -67,10 +67,6 @@ mids-from s (old ∷ olds) (new ∷ news) = mids-step s old olds news (fell new)
 -- seats without those that fell elsewhere, however many are there
 pub mids-less : {X : Type 0} → (olds news : List (Seat X)) → mids olds news ≡ without (fallen_in news) olds
 mids-less olds news = mids-from 1 olds news
-
--- where as many are there
-pub mids-without : {X : Type 0} → (olds news : List (Seat X)) → length olds ≡ length news → mids olds news ≡ without (fallen_in news) olds
-mids-without olds news same = mids-less olds news
 
 pub mid-self : {X : Type 0} → (seat : Seat X) → mid seat seat ≡ seat
 mid-self (Attached x) = refl

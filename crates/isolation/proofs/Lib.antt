@@ -4,7 +4,6 @@ pub mod StopLemmas
 pub mod FallenLemmas
 pub mod RoomLemmas
 pub mod StepLemmas
-pub mod WatchLemmas
 pub mod MadeLemmas
 pub mod StandingLemmas
 pub mod PassLoops

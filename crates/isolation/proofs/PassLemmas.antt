@@ -49,12 +49,6 @@ behind-passed P number moment t (old ∷ olds) (new ∷ news) (flag ∷ flags) o
 
 -- ---- a step that the program stops at
 
-mid-fell : {X : Type 0} → (old new : Seat X) → fell new ≡ true → mid old new ≡ fallen old
-mid-fell old new is = rw is refl
-
-mid-stands : {X : Type 0} → (old new : Seat X) → fell new ≡ false → mid old new ≡ old
-mid-stands old new is = rw is refl
-
 fallen-twice : {X : Type 0} → (seat : Seat X) → fallen (fallen seat) ≡ fallen seat
 fallen-twice (Attached x) = refl
 fallen-twice (Lost loss is_reported is_told) = refl

@@ -1,55 +1,7 @@
 -- What one more turn of a loop over the seats gives, and what the last one leaves.
-use Rattle.std.proofs.Common.{◌≡◌, ◌<◌, ◌≤◌, ℕ, zero, suc, ◌+◌, List, [], ◌∷◌, ◌++◌, length, Bool, true, false, ◌||◌, slice_set, slice_index_or, refl, ap, subst, arith}
-use Rattle.isolation.specs.Passes.{GoesOver, GoesAlong, GoesOn, Over, OverAll, any_set}
+use Rattle.std.proofs.Common.{◌≡◌, ◌<◌, ◌≤◌, ℕ, zero, suc, ◌+◌, List, [], ◌∷◌, length, Bool, slice_set, slice_index_or, refl, ap, subst, arith}
+use Rattle.isolation.specs.Passes.{GoesAlong, GoesOn, Over, OverAll}
 use Rattle.isolation.specs.declared.seat.Seat.{Seat}
-
--- ---- one seat after another, each with a new flag
-
-over-first : {X : Type 0} → (R : Seat X → Seat X → Bool → Type 0) (olds news : List (Seat X)) (flags : List Bool) (d new : Seat X) (flag : Bool)
-    → news ≡ olds → flags ≡ [] → 0 < length news → R (slice_index_or news 0 d) new flag
-    → GoesOver R (suc zero) olds (slice_set news 0 new) (flags ++ flag ∷ [])
-over-first R olds [] flags d new flag same none small r = absurd (omega (arith, small))
-over-first R [] (here ∷ news) flags d new flag same none small r = absurd cc
-over-first R (old ∷ olds) (here ∷ news) (other ∷ flags) d new flag same none small r = absurd cc
-over-first R (old ∷ olds) (here ∷ news) [] d new flag same none small r =
-    let e : here ≡ old = cc in
-    let rest : news ≡ olds = cc in
-    (subst (λ seat. R seat new flag) e r, (rest, refl))
-
-over-step : {X : Type 0} → (R : Seat X → Seat X → Bool → Type 0) (i : ℕ) (olds news : List (Seat X)) (flags : List Bool)
-    → (d new : Seat X) (flag : Bool)
-    → GoesOver R i olds news flags → i < length news → R (slice_index_or news i d) new flag
-    → GoesOver R (suc i) olds (slice_set news i new) (flags ++ flag ∷ [])
-over-step R zero olds news flags d new flag goes small r = over-first R olds news flags d new flag goes.0 goes.1 small r
-over-step R (suc i) [] news flags d new flag goes small r = absurd goes
-over-step R (suc i) (old ∷ olds) [] flags d new flag goes small r = absurd goes
-over-step R (suc i) (old ∷ olds) (here ∷ news) [] d new flag goes small r = absurd goes
-over-step R (suc i) (old ∷ olds) (here ∷ news) (other ∷ flags) d new flag goes small r =
-    (goes.0, over-step R i olds news flags d new flag goes.1 (omega (arith, small)) r)
-
-pub over-next : {X : Type 0} → (R : Seat X → Seat X → Bool → Type 0) (i : ℕ) (olds news : List (Seat X)) (flags : List Bool)
-    → (d new : Seat X) (flag : Bool)
-    → GoesOver R i olds news flags → i < length news → R (slice_index_or news i d) new flag
-    → GoesOver R (i + 1) olds (slice_set news i new) (flags ++ flag ∷ [])
-over-next R i olds news flags d new flag goes small r =
-    let e : suc i ≡ i + 1 = omega arith in
-    subst (λ k. GoesOver R k olds (slice_set news i new) (flags ++ flag ∷ [])) e (over-step R i olds news flags d new flag goes small r)
-
-over-end : {X : Type 0} → (R : Seat X → Seat X → Bool → Type 0) (olds news : List (Seat X)) (flags : List Bool)
-    → news ≡ olds → flags ≡ [] → length news ≤ 0 → Over R olds news flags
-over-end R [] [] [] same none small = tt
-over-end R [] [] (flag ∷ flags) same none small = absurd cc
-over-end R (old ∷ olds) [] flags same none small = absurd cc
-over-end R olds (here ∷ news) flags same none small = absurd (omega (arith, small))
-
-pub over-done : {X : Type 0} → (R : Seat X → Seat X → Bool → Type 0) (i : ℕ) (olds news : List (Seat X)) (flags : List Bool)
-    → GoesOver R i olds news flags → length news ≤ i → Over R olds news flags
-over-done R zero olds news flags goes small = over-end R olds news flags goes.0 goes.1 small
-over-done R (suc i) [] news flags goes small = absurd goes
-over-done R (suc i) (old ∷ olds) [] flags goes small = absurd goes
-over-done R (suc i) (old ∷ olds) (here ∷ news) [] goes small = absurd goes
-over-done R (suc i) (old ∷ olds) (here ∷ news) (flag ∷ flags) goes small =
-    (goes.0, over-done R i olds news flags goes.1 (omega (arith, small)))
 
 -- ---- one seat after another, whose flags are there
 
@@ -113,10 +65,6 @@ along-set R i olds news flags d new flag goes small few r =
     let is : suc i ≡ i + 1 = omega arith in
     subst (λ k. GoesAlong R k olds (slice_set news i new) (slice_set flags i flag)) is (set-step R i olds news flags d new flag goes small few r)
 
--- before the first turn
-pub along-flags : {X : Type 0} → (R : Seat X → Seat X → Bool → Type 0) (olds : List (Seat X)) (flags : List Bool) → GoesAlong R zero olds olds flags
-along-flags R olds flags = refl
-
 along-end : {X : Type 0} → (R : Seat X → Seat X → Bool → Type 0) (olds news : List (Seat X)) (flags : List Bool)
     → news ≡ olds → length news ≤ 0 → length flags ≡ length news → Over R olds news flags
 along-end R [] [] [] same small many = tt
@@ -169,61 +117,10 @@ on-done R (suc i) [] news goes small = absurd goes
 on-done R (suc i) (old ∷ olds) [] goes small = absurd goes
 on-done R (suc i) (old ∷ olds) (here ∷ news) goes small = (goes.0, on-done R i olds news goes.1 (omega (arith, small)))
 
--- ---- flags
-
-or-one : (b : Bool) → (b || false) ≡ b
-or-one true = refl
-or-one false = refl
-
-any-step : (first rest flag : Bool) (whole : Bool) → whole ≡ (rest || flag) → (first || whole) ≡ ((first || rest) || flag)
-any-step true rest flag whole is = refl
-any-step false rest flag whole is = is
-
--- one of them is set where one before the last is, or the last
-pub any-more : (flags : List Bool) (flag : Bool) → any_set (flags ++ flag ∷ []) ≡ (any_set flags || flag)
-any-more [] flag = or-one flag
-any-more (first ∷ flags) flag = any-step first (any_set flags) flag (any_set (flags ++ flag ∷ [])) (any-more flags flag)
-
 -- ---- lengths
-
-pub over-lengths : {X : Type 0} → (R : Seat X → Seat X → Bool → Type 0) (olds news : List (Seat X)) (flags : List Bool)
-    → Over R olds news flags → (length news ≡ length olds) × (length flags ≡ length olds)
-over-lengths R [] [] [] over = (refl, refl)
-over-lengths R [] [] (flag ∷ flags) over = absurd over
-over-lengths R [] (new ∷ news) flags over = absurd over
-over-lengths R (old ∷ olds) [] flags over = absurd over
-over-lengths R (old ∷ olds) (new ∷ news) [] over = absurd over
-over-lengths R (old ∷ olds) (new ∷ news) (flag ∷ flags) over =
-    let rest = over-lengths R olds news flags over.1 in
-    (ap suc rest.0, ap suc rest.1)
 
 pub over-all-length : {X : Type 0} → (R : Seat X → Seat X → Type 0) (olds news : List (Seat X)) → OverAll R olds news → length news ≡ length olds
 over-all-length R [] [] over = refl
 over-all-length R [] (new ∷ news) over = absurd over
 over-all-length R (old ∷ olds) [] over = absurd over
 over-all-length R (old ∷ olds) (new ∷ news) over = ap suc (over-all-length R olds news over.1)
-
-pub goes-over-lengths : {X : Type 0} → (R : Seat X → Seat X → Bool → Type 0) (i : ℕ) (olds news : List (Seat X)) (flags : List Bool)
-    → GoesOver R i olds news flags → (length news ≡ length olds) × (length flags ≡ i)
-goes-over-lengths R zero olds news flags goes = (ap length goes.0, ap length goes.1)
-goes-over-lengths R (suc i) [] news flags goes = absurd goes
-goes-over-lengths R (suc i) (old ∷ olds) [] flags goes = absurd goes
-goes-over-lengths R (suc i) (old ∷ olds) (new ∷ news) [] goes = absurd goes
-goes-over-lengths R (suc i) (old ∷ olds) (new ∷ news) (flag ∷ flags) goes =
-    let rest = goes-over-lengths R i olds news flags goes.1 in
-    (ap suc rest.0, ap suc rest.1)
-
-pub goes-along-length : {X : Type 0} → (R : Seat X → Seat X → Bool → Type 0) (i : ℕ) (olds news : List (Seat X)) (flags : List Bool)
-    → GoesAlong R i olds news flags → length news ≡ length olds
-goes-along-length R zero olds news flags goes = ap length goes
-goes-along-length R (suc i) [] news flags goes = absurd goes
-goes-along-length R (suc i) (old ∷ olds) [] flags goes = absurd goes
-goes-along-length R (suc i) (old ∷ olds) (new ∷ news) [] goes = absurd goes
-goes-along-length R (suc i) (old ∷ olds) (new ∷ news) (flag ∷ flags) goes = ap suc (goes-along-length R i olds news flags goes.1)
-
-pub goes-on-length : {X : Type 0} → (R : Seat X → Seat X → Type 0) (i : ℕ) (olds news : List (Seat X))
-    → GoesOn R i olds news → length news ≡ length olds
-goes-on-length R zero olds news goes = ap length goes
-goes-on-length R (suc i) [] news goes = absurd goes
-goes-on-length R (suc i) (old ∷ olds) [] goes = absurd goes
-goes-on-length R (suc i) (old ∷ olds) (new ∷ news) goes = ap suc (goes-on-length R i olds news goes.1)

@@ -35,15 +35,7 @@ pub record HearsOn {C T Q X : Type 0} (P : Protocol C T Q X) (old new : Seat X) 
 
 -- ---- one seat after another
 
--- the relation holds of the first seats, so many, with their flags; the others are as they were and have none
-abbrev pub GoesOver : {X : Type 0} → (Seat X → Seat X → Bool → Type 0) → ℕ → List (Seat X) → List (Seat X) → List Bool → Type 0
-GoesOver R zero olds news flags = (news ≡ olds) × (flags ≡ [])
-GoesOver R (suc i) [] news flags = ⊥
-GoesOver R (suc i) (old ∷ olds) [] flags = ⊥
-GoesOver R (suc i) (old ∷ olds) (new ∷ news) [] = ⊥
-GoesOver R (suc i) (old ∷ olds) (new ∷ news) (flag ∷ flags) = R old new flag × GoesOver R i olds news flags
-
--- the same where the flags are there from the beginning
+-- the relation holds of the first seats, so many, with their flags, which are there from the beginning; the others are as they were
 abbrev pub GoesAlong : {X : Type 0} → (Seat X → Seat X → Bool → Type 0) → ℕ → List (Seat X) → List (Seat X) → List Bool → Type 0
 GoesAlong R zero olds news flags = news ≡ olds
 GoesAlong R (suc i) [] news flags = ⊥

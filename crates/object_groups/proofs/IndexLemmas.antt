@@ -10,7 +10,7 @@ use Rattle.std.specs.Set.{remove_key}
 use Rattle.std.specs.BTreeMap.{is_at}
 use Rattle.std.specs.BTreeSet.{insert_key}
 use Rattle.std.proofs.lemmas.Bool.Decides.{nat_tests}
-use Rattle.std.proofs.lemmas.List.{map-append, length-map}
+use Rattle.std.proofs.lemmas.List.{map-append}
 use Rattle.std.proofs.lemmas.List.Elements.{filter-append}
 use Rattle.object_groups.specs.declared.handle.Handle.{Handle}
 use Rattle.object_groups.specs.declared.groups.Groups.{Groups}
@@ -33,10 +33,6 @@ insert-last n (h ∷ hs) b =
 -- the numbers of a group, with one that is in it or isn't
 with-last : (q : List ℕ) (hs : List Handle) (h : Handle) → group_numbers q (hs ++ h ∷ []) ≡ group_numbers q hs ++ map number_of (cond (is_in q h) (h ∷ []) [])
 with-last q hs h = ap (map number_of) (filter-append (is_in q) hs (h ∷ [])) ∙ map-append number_of (filter (is_in q) hs) (filter (is_in q) (h ∷ []))
-
-pub ungrouped-more : (hs : List Handle) (h : Handle) (groups : Groups) → h.group ≡ None → AreGroupsOf hs groups → AreGroupsOf (hs ++ h ∷ []) groups
-ungrouped-more hs h groups none are q =
-    are q ∙ sym (with-last q hs h ∙ ap (λ o. group_numbers q hs ++ map number_of (cond (is_named q o) (h ∷ []) [])) none ∙ append-nil (group_numbers q hs))
 
 pub grouped-more : (hs : List Handle) (h : Handle) (g : List ℕ) (old new : Groups) → h.group ≡ Some g → AllBelow h.number hs → AreGroupsOf hs old
     → ((q : List ℕ) → numbers_in q new ≡ (if bytes_eq g q then insert_key nat_cmp (numbers_in q old) h.number else numbers_in q old)) → AreGroupsOf (hs ++ h ∷ []) new
@@ -187,10 +183,6 @@ added-index hs h made old new i e few are = record {
   few = omega (arith, few);
   grouped = are;
 }
-
--- as many numbers as handles
-pub group-length : (g : List ℕ) (hs : List Handle) → length (group_numbers g hs) ≡ length (filter (is_in g) hs)
-group-length g hs = length-map (filter (is_in g) hs) number_of
 
 pub length-less : (n : ℕ) (hs new : List Handle) (h : Handle) → IsAscending hs → Some h ≡ find (has_number n) hs → new ≡ filter (has_another_number n) hs → length new + 1 ≡ length hs
 length-less n hs new h a f e = ap (λ xs. length xs + 1) e ∙ sym (ap (λ b. length (filter (has_another_number n) hs) + cond b 1 0) (something-found n hs h f)) ∙ length-without n hs a

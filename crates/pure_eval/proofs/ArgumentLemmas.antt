@@ -11,7 +11,7 @@ use Rattle.js_heap.specs.declared.cell.Property.{Property}
 use Rattle.js_heap.specs.Keys.{put_property}
 use Rattle.js_heap.specs.World.{World, Tried, fine, effect, full}
 use Rattle.js_heap.specs.Worlds.{Keeps}
-use Rattle.js_heap.proofs.KeepLemmas.{keeps-same, keeps-trans}
+use Rattle.js_heap.proofs.KeepLemmas.{keeps-trans}
 use Rattle.js_semantics.specs.Evaluation.{Json, after_try, make_json, make_jsons, make_members, make_argument, make_arguments}
 use Rattle.js_world.specs.declared.world.Refused.{Refused}
 use Rattle.js_world.specs.declared.world.Refused.TheVariants.{Effect, Full, Memory}
@@ -64,11 +64,6 @@ refused-first t k Memory u h = tt
 abbrev pub behind_values : List Value → List Value → World → Tried (List Value)
 behind_values before xs z = fine (before ++ xs) z
 
-all_behind : (t : Tried (List Value)) → after_try t (behind_values []) ≡ t
-all_behind (fine xs z) = refl
-all_behind effect = refl
-all_behind (full what) = refl
-
 one_behind : (t : Tried (List Value)) (before : List Value) (y : Value) → after_try (after_try t (λ xs z. fine (y ∷ xs) z)) (behind_values before) ≡ after_try t (behind_values (before ++ y ∷ []))
 one_behind (fine xs z) before y = ap (λ ys. fine ys z) (sym (append_assoc before (y ∷ []) xs))
 one_behind effect before y = refl
@@ -79,9 +74,6 @@ one_behind (full what) before y = refl
 pub record ElementsMade (w : World) (js : List JsonCode) (i : ℕ) (before : List Value) (v : World) : Type 0 where
   pub rest : after_try (make_jsons v (jsons_of (items_view (drop i js)))) (behind_values before) ≡ make_jsons w (jsons_of (items_view js))
   pub keeps : Keeps w v
-
-pub elements-first : (w : World) (js : List JsonCode) → ElementsMade w js 0 [] w
-elements-first w js = record { rest = all_behind (make_jsons w (jsons_of (items_view js))); keeps = keeps-same w }
 
 elements_here : (w v : World) (js : List JsonCode) (i : ℕ) (x : JsonCode) (before : List Value) → ElementsMade w js i before v → i < length js → x ≡ get_or js i x → after_try (make_jsons v (jsons_of (items_view (x ∷ drop (i + 1) js)))) (behind_values before) ≡ make_jsons w (jsons_of (items_view js))
 elements_here w v js i x before m h e = ap (λ ys. after_try (make_jsons v (jsons_of (items_view ys))) (behind_values before)) (sym (cons-at js i x h e)) ∙ m.rest
@@ -96,14 +88,6 @@ elements-next w v u js i x y before after m h e made k pushed =
       keeps = keeps-trans w v u m.keeps k;
     }
 
-pub elements-refused : (w v u : World) (js : List JsonCode) (ls : Items) (i : ℕ) (x : JsonCode) (before : List Value) (e : Refused) → ElementsMade w js i before v → i < length js → x ≡ get_or js i x → items_view js ≡ ls → (let r : Result Value Refused = Err e in Tries (make_json v (json_of (json_view x))) r u) → let s : Result (List Value) Refused = Err e in Tries (make_jsons w (jsons_of ls)) s u
-elements-refused w v u js ls i x before e m h g seen refused =
-    let s : Result (List Value) Refused = Err e in
-    let P : Tried (List Value) → Type 0 = λ t. Tries t s u in
-    let k : P (make_jsons v (jsons_of (items_view (x ∷ drop (i + 1) js)))) =
-    refused-first (make_json v (json_of (json_view x))) (λ a z. after_try (make_jsons z (jsons_of (items_view (drop (i + 1) js)))) (λ xs q. fine (a ∷ xs) q)) e u refused in
-    subst P (elements_here w v js i x before m h g ∙ ap (λ is. make_jsons w (jsons_of is)) seen) (refused-first (make_jsons v (jsons_of (items_view (x ∷ drop (i + 1) js)))) (behind_values before) e u k)
-
 pub elements-all : (w v : World) (js : List JsonCode) (ls : Items) (i : ℕ) (before : List Value) → ElementsMade w js i before v → length js ≤ i → items_view js ≡ ls → make_jsons w (jsons_of ls) ≡ fine before v
 elements-all w v js ls i before m h seen =
     sym (ap (λ is. make_jsons w (jsons_of is)) seen) ∙ sym m.rest
@@ -114,9 +98,6 @@ elements-all w v js ls i before m h seen =
 pub record MembersMade (w : World) (ms : List Member) (i : ℕ) (ps : List Property) (v : World) : Type 0 where
   pub rest : make_members v ps (members_of (members_view (drop i ms))) ≡ make_members w [] (members_of (members_view ms))
   pub keeps : Keeps w v
-
-pub members-first : (w : World) (ms : List Member) → MembersMade w ms 0 [] w
-members-first w ms = record { rest = refl; keeps = keeps-same w }
 
 -- the first member, by its key and its value
 abbrev member_made : World → List Property → List ℕ × AnyJson → AnyMembers → Tried (List Property)
@@ -151,9 +132,6 @@ pub record ArgumentsMade (w : World) (as_given : List Argument) (i : ℕ) (befor
   pub rest : after_try (make_arguments v (arguments_of (drop i as_given))) (behind_values before) ≡ make_arguments w (arguments_of as_given)
   pub keeps : Keeps w v
 
-pub arguments-first : (w : World) (as_given : List Argument) → ArgumentsMade w as_given 0 [] w
-arguments-first w as_given = record { rest = all_behind (make_arguments w (arguments_of as_given)); keeps = keeps-same w }
-
 arguments_here : (w v : World) (as_given : List Argument) (i : ℕ) (x : Argument) (before : List Value) → ArgumentsMade w as_given i before v → i < length as_given → x ≡ get_or as_given i x → after_try (make_arguments v (arguments_of (x ∷ drop (i + 1) as_given))) (behind_values before) ≡ make_arguments w (arguments_of as_given)
 arguments_here w v as_given i x before m h e = ap (λ ys. after_try (make_arguments v (arguments_of ys)) (behind_values before)) (sym (cons-at as_given i x h e)) ∙ m.rest
 
@@ -166,14 +144,6 @@ arguments-next w v u as_given i x y before after m h e made k pushed =
       rest = ap (λ vs. after_try t (behind_values vs)) pushed ∙ sym (one_behind t before y) ∙ ap (λ o. after_try o (behind_values before)) (sym first) ∙ arguments_here w v as_given i x before m h e;
       keeps = keeps-trans w v u m.keeps k;
     }
-
-pub arguments-refused : (w v u : World) (as_given : List Argument) (i : ℕ) (x : Argument) (before : List Value) (e : Refused) → ArgumentsMade w as_given i before v → i < length as_given → x ≡ get_or as_given i x → (let r : Result Value Refused = Err e in Tries (make_argument v (argument_of x)) r u) → let s : Result (List Value) Refused = Err e in Tries (make_arguments w (arguments_of as_given)) s u
-arguments-refused w v u as_given i x before e m h g refused =
-    let s : Result (List Value) Refused = Err e in
-    let P : Tried (List Value) → Type 0 = λ t. Tries t s u in
-    let k : P (make_arguments v (arguments_of (x ∷ drop (i + 1) as_given))) =
-    refused-first (make_argument v (argument_of x)) (λ a z. after_try (make_arguments z (arguments_of (drop (i + 1) as_given))) (λ xs q. fine (a ∷ xs) q)) e u refused in
-    subst P (arguments_here w v as_given i x before m h g) (refused-first (make_arguments v (arguments_of (x ∷ drop (i + 1) as_given))) (behind_values before) e u k)
 
 pub arguments-all : (w v : World) (as_given : List Argument) (i : ℕ) (before : List Value) → ArgumentsMade w as_given i before v → length as_given ≤ i → make_arguments w (arguments_of as_given) ≡ fine before v
 arguments-all w v as_given i before m h =

@@ -241,9 +241,6 @@ none_pushed (w ∷ ws) =
     let F : List Value → List Wide = λ vs. record w { values = vs } ∷ ws in
     ap F (append-nil w.values)
 
-pub values-first : (vs : List Value) (ws : List Wide) → with_values (drop 0 vs) ws ≡ with_values vs ws
-values-first vs ws = refl
-
 get_same : (xs : List Value) (i : ℕ) (d e : Value) → i < length xs → get_or xs i d ≡ get_or xs i e
 get_same [] i d e h = absurd (omega arith)
 get_same (x ∷ xs) zero d e h = refl

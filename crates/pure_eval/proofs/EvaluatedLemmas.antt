@@ -1,5 +1,5 @@
 -- The steps of an evaluation, one run after another.
-use Rattle.std.proofs.Common.{◌≡◌, ℕ, zero, suc, ◌+◌, ◌-◌, ◌<◌, ◌≤◌, false, List, [], Option, None, Some, refl, sym, ap, subst, ◌∙◌, arith, zero-add}
+use Rattle.std.proofs.Common.{◌≡◌, ℕ, zero, suc, ◌+◌, ◌-◌, ◌≤◌, false, List, [], Option, None, Some, refl, sym, ap, subst, ◌∙◌, arith, zero-add}
 use Rattle.js_heap.specs.declared.value.Addr.{Addr}
 use Rattle.js_heap.specs.declared.value.Value.{Value}
 use Rattle.js_heap.specs.World.{World}
@@ -20,7 +20,7 @@ use Rattle.js_steps.specs.declared.task.Point.TheVariants as points
 use Rattle.js_steps.specs.Gaps.{resettled}
 use Rattle.js_steps.specs.Tasks.{Wide, gaps_of}
 use Rattle.js_steps.specs.Points.{term_at, IsAt}
-use Rattle.js_steps.specs.Running.{RunsTo, CountsAs, IfGoes}
+use Rattle.js_steps.specs.Running.{RunsTo, IfGoes}
 use Rattle.js_steps.specs.Stepping.{finish_of, StandsIn}
 use Rattle.js_steps.proofs.RunLemmas.{at-open}
 use Rattle.pure_eval.specs.declared.evaluated.Evaluated.{Evaluated}
@@ -146,17 +146,6 @@ stands-on whys.Asked P e h = h
 stands-on whys.Spent P e h = h
 stands-on whys.Raised P e h = h
 stands-on (whys.Printed vs) P e h = h
-
--- a step is made each time
-pub some-step : (why : Why) (j left : ℕ) → end_of why ≡ None → CountsAs why j left → 0 < left → 0 < j
-some-step (whys.Over f) j left e h l = absurd cc
-some-step whys.Effect j left e h l = h
-some-step (whys.Full what) j left e h l = h
-some-step whys.Memory j left e h l = h
-some-step whys.Asked j left e h l = h
-some-step whys.Spent j left e h l = omega (arith, h, l)
-some-step whys.Raised j left e h l = h
-some-step (whys.Printed vs) j left e h l = h
 
 -- ---- all steps are made
 

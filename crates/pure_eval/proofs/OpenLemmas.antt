@@ -1,7 +1,6 @@
 -- Evaluations over an opened workspace.
-use Rattle.std.proofs.Common.{◌≡◌, ℕ, zero, suc, ◌≤◌, false, List, [], ◌∷◌, ◌++◌, Option, Some, None, length, take, refl, sym, ap, subst, ◌∙◌, arith}
+use Rattle.std.proofs.Common.{◌≡◌, ℕ, zero, suc, ◌≤◌, false, List, [], ◌∷◌, ◌++◌, length, take, refl, sym, ap, subst, ◌∙◌, arith}
 use Rattle.std.proofs.Math.Seq.{take-length}
-use Rattle.std.specs.Prelude.{slice_get}
 use Rattle.js_heap.specs.declared.value.Addr.{Addr}
 use Rattle.js_heap.specs.declared.value.Addr.TheVariants.{Scratch}
 use Rattle.js_heap.specs.declared.cell.Cell.{Cell}
@@ -18,10 +17,7 @@ use Rattle.js_terms.specs.Views.{term_view}
 use Rattle.js_tree.specs.declared.tree.Expr.{Expr}
 use Rattle.js_world.specs.Heaps.{Heap, heap_world}
 use Rattle.js_world.specs.Overlays.{Marked, Over, over_world, space_of, space_after, space_at, next_of}
-use Rattle.js_code.specs.declared.node.Node.{Node}
-use Rattle.js_code.specs.declared.table.NodeTable.{NodeTable}
-use Rattle.js_code.specs.Trees.{IsTable, IsNodeAt, program_of, source_trees}
-use Rattle.js_compile.specs.Grown.{HasPlaces, IsPlacedNode}
+use Rattle.js_code.specs.Trees.{program_of}
 use Rattle.pure_eval.specs.declared.evaluated.Evaluated.{Evaluated}
 use Rattle.pure_eval.specs.declared.evaluated.Evaluated.TheVariants as ends
 use Rattle.pure_eval.specs.declared.evaluator.Evaluator.{Evaluator}
@@ -30,53 +26,15 @@ use Rattle.pure_eval.specs.declared.prepared.Prepared.{Prepared}
 use Rattle.pure_eval.specs.declared.work.Work.{Work}
 use Rattle.pure_eval.specs.Adding.{kept_tree_at}
 use Rattle.pure_eval.specs.Calling.{work_of}
-use Rattle.pure_eval.specs.Evaluators.{AreBelow, Runs}
+use Rattle.pure_eval.specs.Evaluators.{Runs}
 use Rattle.pure_eval.specs.Leaving.{Leaves}
 use Rattle.pure_eval.specs.Preparing.{IsReady}
-use Rattle.pure_eval.specs.Returning.{WentOn, WentOnAfter, IsCode, IsCodeOf, CodeAfter}
-use Rattle.pure_eval.specs.Whole.{IsWhole}
+use Rattle.pure_eval.specs.Returning.{WentOn, WentOnAfter, IsCode, CodeAfter}
 use Rattle.pure_eval.specs.Working.{IsWorking, IsOpen, is_given_up}
 use Rattle.pure_eval.specs.Workspaces.{Opened, opened_of, source_kept, EvaluatesTo}
-use Rattle.pure_eval.proofs.EvaluatorLemmas.{next-same, world-further, same-program, work-keeps}
-use Rattle.pure_eval.proofs.ReturnLemmas.{went-through, code-of}
+use Rattle.pure_eval.proofs.EvaluatorLemmas.{next-same, world-further, work-keeps}
+use Rattle.pure_eval.proofs.ReturnLemmas.{went-through}
 use Rattle.pure_eval.proofs.WorkspaceLemmas.{space_over, made_open, program-first}
-
--- ---- no sources
-
-none_there : {A : Type 0} → (xs : List A) (n : ℕ) → xs ≡ [] → slice_get xs n ≡ None
-none_there [] zero e = refl
-none_there [] (suc n) e = refl
-none_there (x ∷ xs) n e = absurd cc
-
-not_there : {A : Type 0} → (xs : List A) (n : ℕ) (x : A) → xs ≡ [] → slice_get xs n ≡ Some x → ⊥
-not_there xs n x e f = let g : slice_get xs n ≡ None = none_there xs n e in absurd cc
-
-nodes_none : (t : NodeTable) → t.nodes.items ≡ [] → IsTable t
-nodes_none t e = record { nodes = λ n. let P : Option Node → Type 0 = λ o. IsNodeAt t n o in subst P (sym (none_there t.nodes.items n e)) tt }
-
-places_none : (t : NodeTable) → t.nodes.items ≡ [] → HasPlaces t
-places_none t e = record { nodes = λ n. let P : Option Node → Type 0 = λ o. IsPlacedNode t n o in subst P (sym (none_there t.nodes.items n e)) tt }
-
-whole_none : (t : NodeTable) → t.nodes.items ≡ [] → t.functions.items ≡ [] → t.sources.items ≡ [] → IsWhole t
-whole_none t nodes functions sources = record {
-  table = nodes_none t nodes;
-  places = places_none t nodes;
-  functions = record { finds = λ ts i e there node. absurd (not_there t.sources.items i e sources there) };
-  closed = λ n node from there. absurd (not_there t.nodes.items n node nodes there);
-  placed = λ i e from there. absurd (not_there t.functions.items i e functions there);
-  sources = λ i e there. absurd (not_there t.sources.items i e sources there);
-}
-
-pub no-sources : (e : Evaluator) → e.table.nodes.items ≡ [] → e.table.functions.items ≡ [] → e.table.sources.items ≡ [] → IsCodeOf e []
-no-sources e nodes functions sources =
-    let none : (us : List (List ℕ)) → program_of us e.table ≡ [] = λ us. ap (source_trees us e.table) sources in
-    let P : Program → Type 0 = λ p. AreBelow e.next p in
-    let runs : Runs e [] = record {
-      whole = whole_none e.table nodes functions sources;
-      below = λ us g. subst P (sym (none us)) tt;
-      same = λ us g. same-program (program_of us e.table) [] (none us);
-    } in
-    code-of e [] [] runs (λ us g. none us)
 
 -- ---- what holds behind an evaluation
 

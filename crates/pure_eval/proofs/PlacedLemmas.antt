@@ -7,12 +7,12 @@ use Rattle.js_heap.specs.declared.value.Addr.{Addr}
 use Rattle.js_heap.specs.declared.value.Addr.TheVariants.{Base, Scratch}
 use Rattle.js_heap.specs.declared.cell.Cell.TheVariants as cells
 use Rattle.js_heap.specs.declared.change.Counted.TheVariants as counted
-use Rattle.js_heap.specs.World.{Room, World, Tried, fine, effect, full, read_cell}
+use Rattle.js_heap.specs.World.{Room, World, Tried, fine, read_cell}
 use Rattle.js_heap.specs.Worlds.{KindStays, OthersStay, Keeps, AfterFine}
 use Rattle.js_heap.specs.ScratchSpaces.{ScratchSpace, copied_world}
 use Rattle.js_heap.proofs.KeepLemmas.{stays-same, stays-append, keeps-same, keeps-trans, fine_if}
 use Rattle.js_semantics.specs.Terms.{Term}
-use Rattle.js_semantics.specs.Evaluation.{Answer, after_try, keep_source, make_literals, answered}
+use Rattle.js_semantics.specs.Evaluation.{Answer, after_try, keep_source, answered}
 use Rattle.js_world.specs.declared.world.Refused.{Refused}
 use Rattle.js_world.specs.declared.world.Refused.TheVariants.{Effect, Full, Memory}
 use Rattle.js_world.specs.Calls.{Tries}
@@ -45,26 +45,6 @@ kept-keeps w v u us a e h =
     let P : Tried Addr → Type 0 = λ t. AfterFine t (λ b z. Keeps w z) in
     let k : P (fine a v) = subst P e (keeping w us) in
     keeps-trans w v u k h
-
-pub placed-ok : (w v u : World) (us : List ℕ) (xs : List (List ℕ)) (a : Addr) (r : Result (Unit {0}) Refused) → keep_source w us ≡ fine a v → Tries (make_literals v xs) r u → Tries (placed w us xs) r u
-placed-ok w v u us xs a r e h =
-    let P : Tried (Unit {0}) → Type 0 = λ t. Tries t r u in
-    let k : placed w us xs ≡ make_literals v xs = ap (λ t. after_try t (λ b z. make_literals z xs)) e in
-    subst P (sym k) h
-
-pub placed-err : (w v u : World) (us : List ℕ) (xs : List (List ℕ)) (r : Result Addr Refused) (e : Refused) → r ≡ Err e → Tries (keep_source w us) r v → let s : Result (Unit {0}) Refused = Err e in Tries (placed w us xs) s u
-placed-err w v u us xs r Effect q h =
-    let P : Result Addr Refused → Type 0 = λ y. Tries (keep_source w us) y v in
-    let k : keep_source w us ≡ effect = (let k' : P (Err Effect) = subst P q h in k') in
-    ap (λ t. after_try t (λ b z. make_literals z xs)) k
-placed-err w v u us xs r (Full what) q h =
-    let P : Result Addr Refused → Type 0 = λ y. Tries (keep_source w us) y v in
-    let k : keep_source w us ≡ full what = (let k' : P (Err (Full what)) = subst P q h in k') in
-    ap (λ t. after_try t (λ b z. make_literals z xs)) k
-placed-err w v u us xs r Memory q h = tt
-
-pub keeps-still : (w v : World) → v ≡ w → Keeps w v
-keeps-still w v e = let P : World → Type 0 = λ u. Keeps w u in subst P (sym e) (keeps-same w)
 
 -- ---- the world before the first step
 

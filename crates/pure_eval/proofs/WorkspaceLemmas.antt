@@ -138,9 +138,6 @@ forgotten-is e new n start m base h g o k count next i cut names over was =
     ((code-again i.before new i.before_working.code a).program ∙ sym (program-first i.before e m.table.sources i.before_working.code i.goes_on i.marked.table.sources)) refl
     (was new.names ∙ ap (λ x. space_at x k) (over new.names ∙ ap (λ ts. space_after (over_world ts o)) names))
 
-pub kept-is : (e : Evaluator) (n : ℕ) (m : EvaluatorMark) (base h : Heap) (o : Over) (k : Marked) → ((ts : List (List ℕ)) → space_of ts h ≡ space_after (over_world ts o)) → workspace_of e n h ≡ (opened_of e n m base o k).behind
-kept-is e n m base h o k over = ap (made (program_of e.names e.table) n) (over e.names)
-
 -- ---- names that go on behind others
 
 abbrev get_at : List (List ℕ) → ℕ → List ℕ

@@ -30,12 +30,6 @@ stopped view (Err faults.TooLong) faults.TooLong deep met left whole d m part up
 stopped view (Err faults.TooLong) faults.Memory deep met left whole d m part up is says = cc
 stopped view (Err faults.Memory) e deep met left whole d m part up is says = tt
 
--- memory was wanted
-pub wanted-memory : {A B : Type 0} (view : A → B) (r : Result A ByValueFault) (deep met left : ℕ) (whole : Given B) → IsErrAnd r (λ k. k ≡ faults.Memory) → Answers view r deep met left whole
-wanted-memory view (Ok a) deep met left whole is = absurd is
-wanted-memory view (Err faults.TooLong) deep met left whole is = cc
-wanted-memory view (Err faults.Memory) deep met left whole is = tt
-
 -- no value may be met
 pub not-met : {A B : Type 0} (view : A → B) (r : Result A ByValueFault) (e : ByValueFault) (deep met left : ℕ) (whole : Given B) → 0 < whole.met → (e ≡ faults.TooLong) × (met ≡ 0) → IsErrAnd r (λ k. k ≡ e)
     → Answers view r deep met left whole
@@ -55,9 +49,6 @@ pub record Goes {B : Type 0} (deep met left : ℕ) (done : List B) (rest whole :
   pub counted : met + rest.met ≡ left + whole.met
   pub within : rest.depth ≤ deep → whole.depth ≤ deep
   pub deepest : rest.depth ≤ whole.depth
-
-pub begins : {B : Type 0} (deep met : ℕ) (whole : Given (List B)) → Goes deep met met [] whole whole
-begins deep met whole = record { is = refl; counted = refl; within = λ h. h; deepest = omega arith }
 
 front-is : {B : Type 0} (done new front rest whole : List B) → new ≡ done ++ front → done ++ (front ++ rest) ≡ whole → new ++ rest ≡ whole
 front-is done new front rest whole put is = ap (λ xs. xs ++ rest) put ∙ (append_assoc done front rest ∙ is)
@@ -283,11 +274,6 @@ value-stops view (Err faults.Memory) e pairs o is says = tt
 pub stops-so : {A : Type 0} (view : A → json.Json) (e : ByValueFault) (o : Option json.Json) → Gives view (Err e) o → e ≡ faults.TooLong → o ≡ None
 stops-so view faults.TooLong o says is = says
 stops-so view faults.Memory o says is = cc
-
-pub value-memory : {A : Type 0} (view : A → json.Json) (r : Result A ByValueFault) (o : Option json.Json) → IsErrAnd r (λ k. k ≡ faults.Memory) → Gives view r o
-value-memory view (Ok a) o is = absurd is
-value-memory view (Err faults.TooLong) o is = cc
-value-memory view (Err faults.Memory) o is = tt
 
 pub value-put : (pairs old new : List Pair) (j made : json.Json) (o : Option json.Json) → o ≡ Some j → old ≡ pairs → new ≡ old ++ (codes "value", j) ∷ [] → made ≡ object_of new → with_value pairs o ≡ Some made
 value-put pairs old new j made o given before after put =

@@ -6,4 +6,3 @@ pub mod LevelLemmas
 pub mod MakingLemmas
 pub mod MemberLemmas
 pub mod PreviewLemmas
-pub mod ScopeNameLemmas

@@ -1,5 +1,5 @@
 -- The first of what a preview lists.
-use Rattle.std.proofs.Common.{◌≡◌, ◌≢◌, ℕ, zero, suc, ◌+◌, ◌<◌, ◌≤◌, List, [], ◌∷◌, ◌++◌, length, take, drop, get_or, decimal, Bool, true, false, ◌&&◌, nat_eq, nat_lt, if◌then◌else◌, Some, refl, sym, ap, ap₂, ◌∙◌, arith, add-one, append_assoc}
+use Rattle.std.proofs.Common.{◌≡◌, ◌≢◌, ℕ, zero, suc, ◌+◌, ◌<◌, ◌≤◌, List, [], ◌∷◌, ◌++◌, length, take, drop, decimal, Bool, true, false, ◌&&◌, nat_eq, nat_lt, if◌then◌else◌, Some, refl, sym, ap, ap₂, ◌∙◌, arith, add-one, append_assoc}
 use Rattle.std.specs.Prelude.{map, slice_get}
 use Rattle.std.proofs.lemmas.Bool.{eqb-false, eqb-true, lt-ltb, le-ltb}
 use Rattle.std.proofs.lemmas.List.{map-append, append-nil, length-append, length-map, take_all, take_at, take-map}
@@ -7,9 +7,8 @@ use Rattle.js_heap.specs.declared.cell.Property.{Property}
 use Rattle.js_heap.specs.declared.value.Value.{Value}
 use Rattle.cdp_json.specs.Json as json
 use Rattle.cdp_json.specs.declared.value.Json.{Json}
-use Rattle.cdp_json.specs.Views.{json_view}
 use Rattle.remote_objects.specs.Previews.{Entry, entry, entry_if, enumerable, indexed, Listed, first_of}
-use Rattle.remote_objects.proofs.MakingLemmas.{got-here, behind-here, one_more}
+use Rattle.remote_objects.proofs.MakingLemmas.{got-here}
 
 -- those listed so far, five at most, and those that are left are all
 pub record Lists (done left all : List json.Json) : Type 0 where
@@ -77,14 +76,6 @@ lists-all done left all none inv =
     ap₂ listed_as (whole ∙ sym (take_all 5 all few)) (sym (le-ltb 5 (length all) few))
 
 -- ---- elements
-
--- one element more
-pub elements-more : (f : Entry → json.Json) (vs : List Value) (i : ℕ) (v : Value) (done new : List Json) (j : Json) (all : List json.Json)
-    → i < length vs → v ≡ get_or vs i v → new ≡ done ++ j ∷ [] → json_view j ≡ f (entry (decimal i) v)
-    → map json_view done ++ map f (indexed i (drop i vs)) ≡ all → map json_view new ++ map f (indexed (i + 1) (drop (i + 1) vs)) ≡ all
-elements-more f vs i v done new j all h e a b inv =
-    one_more done new j (f (entry (decimal i) v)) (map f (indexed (i + 1) (drop (i + 1) vs))) a b
-    ∙ (ap (λ xs. map json_view done ++ map f (indexed i xs)) (sym (behind-here vs i v h e)) ∙ inv)
 
 take-indexed : (n i : ℕ) (vs : List Value) → indexed i (take n vs) ≡ take n (indexed i vs)
 take-indexed zero i [] = refl

@@ -1,4 +1,4 @@
-use Rattle.std.proofs.Common.{◌∙◌, ap, Err, inr, sym}
+use Rattle.std.proofs.Common.{◌∙◌, ap, Err, inr}
 use Rattle.cdp_journal.specs.Summaries.{summary}
 use Rattle.command_line.proofs.DrillLemmas.{unplayed, whole-part, wrote-all, wrote-less, wrote-part}
 use Rattle.command_line.proofs.drill.drill.Goals as goal

@@ -1,4 +1,4 @@
-use Rattle.std.proofs.Common.{◌≡◌, ◌++◌, ◌∙◌, sym, ap, refl, append_assoc}
+use Rattle.std.proofs.Common.{◌++◌, ◌∙◌, sym, ap, refl, append_assoc}
 use Rattle.cdp_edge.proofs.Gains.{gains-next, OnErr-GainsLess-behind}
 use Rattle.command_line.proofs.drill.put_text.Goals as goal
 

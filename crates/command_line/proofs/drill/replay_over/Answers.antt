@@ -1,4 +1,4 @@
-use Rattle.std.proofs.Common.{[], ◌∙◌, Some, refl}
+use Rattle.std.proofs.Common.{◌∙◌, Some, refl}
 use Rattle.command_line.proofs.DrillLemmas.{drilled}
 use Rattle.command_line.proofs.drill.replay_over.Goals as goal
 

@@ -1,6 +1,6 @@
 use Rattle.std.proofs.Common.{rules, ◌≡◌, ◌++◌, ◌∷◌, [], true, length, map, string_bytes, ap, sym, subst, ◌∙◌, arith}
 use Rattle.std.proofs.lemmas.List.{map-append}
-use Rattle.cdp_session.specs.Outboxes.{fits, most_bytes}
+use Rattle.cdp_session.specs.Outboxes.{fits}
 use Rattle.cdp_session.proofs.OutboxSizes.{bytes-more, outbox-more}
 use Rattle.cdp_session.proofs.outbox.Outbox.append.Goals as goal
 

@@ -2,7 +2,7 @@ use Rattle.std.proofs.Common.{option_map, ap, sym, ◌∙◌, arith}
 use Rattle.cdp_json.specs.ArgumentViews.{argument_view}
 use Rattle.pure_eval.specs.Arguments as passed
 use Rattle.cdp_session.specs.Calls.{argument_of}
-use Rattle.cdp_session.proofs.CallLemmas.{behind-more, behind-none, behind-all}
+use Rattle.cdp_session.proofs.CallLemmas.{behind-more, behind-all}
 use Rattle.cdp_session.proofs.session.Session.arguments_of.Goals as goal
 
 pub loop-argument-preserved : goal.loop-argument-preserved
