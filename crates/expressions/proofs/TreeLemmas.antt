@@ -63,6 +63,10 @@ if_literals node test consequent None =
     ap statement_literals (view_if_then node test consequent) ∙ sym (append-nil (expression_literals (expression_view test) ++ statement_literals (statement_view consequent.value)))
 if_literals node test consequent (Some s) = ap statement_literals (view_if_else node test consequent s)
 
+-- the literals of a function that a parser's statement declares in a list
+abbrev pub declared_of : Stmt → List (List ℕ)
+declared_of s = declared_literals (statement_view s)
+
 pub if_declared : (node : NodeId) (test : Expr) (consequent : Box Stmt) (alternate : Option (Box Stmt)) → declared_literals (statement_view (tree.If node test consequent alternate)) ≡ []
 if_declared node test consequent None = ap declared_literals (view_if_then node test consequent)
 if_declared node test consequent (Some s) = ap declared_literals (view_if_else node test consequent s)

@@ -10,10 +10,6 @@ use Rattle.js_semantics.specs.Literals.{statement_literals, declared_literals}
 abbrev pub literals_of : Stmt → List (List ℕ)
 literals_of s = statement_literals (statement_view s)
 
--- of a function that a parser's statement declares in a list
-abbrev pub declared_of : Stmt → List (List ℕ)
-declared_of s = declared_literals (statement_view s)
-
 -- of the statement behind `else`, where there is one
 abbrev pub alternate_literals : Option (Box Stmt) → List (List ℕ)
 alternate_literals None = []
