@@ -2,6 +2,14 @@
 //!
 //! A breakpoint is set at a position, of the scripts of a URL or of one script, and resolves to the first break location
 //! that isn't before it.
+//!
+//! Its words in contracts:
+//!
+//! - *place*: a position in the script of a number; *resolved* is the place of the first break location at or behind the
+//!   one asked for
+//! - *hit*: an active breakpoint stands at the place
+//! - *fault*: why no breakpoint is set: `fault_for`, `fault_at` say which one stands
+//! - *spots*: the break locations of a script, in order
 #![tactic(auto)]
 
 pub mod breakpoint;

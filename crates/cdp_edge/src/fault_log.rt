@@ -1,4 +1,5 @@
 //! The count of a shelf's faults and the calls that raised it.
+
 ghost use Rattle.std.specs.Prelude.{◌≡◌, IfOk, OnOk};
 ghost use Rattle.cdp_edge.specs.Blame.{Read, no_faults, blamed};
 ghost use Rattle.cdp_edge.specs.FaultLog.{call_of, faults_of, HasRoom};

@@ -1,4 +1,5 @@
 //! The files of the system as a shelf. It tells nothing of them.
+
 ghost use Rattle.std.specs.Prelude.{◌≡◌, ◌↔◌, None};
 ghost use Rattle.cdp_edge.specs.Blame.{Read, no_faults};
 ghost use Rattle.cdp_edge.specs.Outside.{faults_after};

@@ -1,4 +1,5 @@
 //! A shelf in memory, for tests.
+
 ghost use Rattle.std.specs.Prelude.{◌≡◌, ◌⊎◌, Some, None, map, Contains, IfSome, IfNone, IsErrOf};
 ghost use Rattle.cdp_edge.specs.Blame.{no_faults};
 ghost use Rattle.cdp_edge.specs.MemShelf.{named, after_read};

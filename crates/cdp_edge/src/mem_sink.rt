@@ -1,4 +1,5 @@
 //! A sink in memory, for tests.
+
 ghost use Rattle.std.specs.Prelude.{◌≡◌, ◌↔◌, Some, [], length, Contains, IfOk, IsErrOf};
 ghost use Rattle.cdp_edge.specs.MemSink.{after_write};
 ghost use Rattle.cdp_edge.specs.Outside.{one_more};

@@ -1,4 +1,5 @@
 //! A shelf has files. It counts its faults, tells the calls that failed and may tell its files.
+
 ghost use Rattle.std.specs.Prelude.{◌≡◌, List, Option};
 ghost use Rattle.cdp_edge.specs.Blame.{Faults, Read};
 ghost use Rattle.cdp_edge.specs.Outside.{Told, Named, Tells, Accounts};

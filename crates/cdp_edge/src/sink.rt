@@ -1,4 +1,5 @@
 //! A sink takes bytes, counts its faults and may tell what it took.
+
 ghost use Rattle.std.specs.Prelude.{◌≡◌, ◌≤◌, ◌<◌, List, ℕ, Option, length, take, IfOk, OnOk, OnErr, IsErrOf};
 ghost use Rattle.cdp_edge.specs.Outside.{Rose, gains, GainsLess};
 

@@ -1,4 +1,5 @@
 //! A sink over an output stream. It tells no content of its own: what a writer holds is known of some writers alone.
+
 ghost use Rattle.std.specs.Prelude.{◌≡◌, ◌≤◌, ◌<◌, None, length, IfOk};
 ghost use Rattle.std.specs.Io.KnownBytes.{WriteAppends};
 ghost use Rattle.cdp_edge.specs.Outside.{count_after};

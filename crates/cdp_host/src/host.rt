@@ -154,7 +154,6 @@ impl Host {
     ///
     /// There is no memory, also where the scripts have more string literals than there are addresses, or a source that is
     /// too long for positions of 32 bits; no parsed script has one.
-
     pub fn start(
         alloc: Global,
         scripts: Vec<Script>,

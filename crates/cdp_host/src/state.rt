@@ -1,4 +1,4 @@
-// The states of a host.
+//! The states of a host.
 
 /// What a host's program waits for, if anything. Where several hold, a host tells the first in this order.
 #[derive(Clone, Copy, Debug, PartialEq, Eq)]

@@ -1,4 +1,5 @@
 //! The script and the journal of a drill, by which a host is tried at any size.
+
 ghost use Rattle.std.specs.Prelude.{◌≡◌, ◌∷◌, ◌++◌, ◌+◌, ◌≤◌, ◌<◌, ◌^◌, [], map, OnOk, IfOk, string_bytes};
 ghost use Rattle.cdp_text.specs.Lines.{ended};
 ghost use Rattle.cdp_journal.specs.Lines.{Tell, line_text};

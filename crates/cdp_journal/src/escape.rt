@@ -1,4 +1,5 @@
 //! Texts of one line.
+
 ghost use Rattle.std.specs.Prelude.{◌≡◌, ◌∷◌, ◌++◌, ℕ, Some, None, OnOk, IfOk, IfSome, IfNone, string_bytes, encode_utf8};
 ghost use Rattle.std.specs.List.{list_all, list_any};
 ghost use Rattle.std.specs.Option.{option_map};

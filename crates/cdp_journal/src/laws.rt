@@ -1,4 +1,5 @@
 //! The laws of journals. Each function does nothing: its contract is the law.
+
 ghost use Rattle.std.specs.Prelude.{◌≡◌, ◌<◌, ◌^◌, ℕ, List, Some, All, codes, filter, map, nat_eq};
 ghost use Rattle.std.specs.List.{starts_with};
 ghost use Rattle.cdp_text.specs.Lines.{ended, lines_of};

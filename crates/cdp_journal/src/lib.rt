@@ -1,4 +1,13 @@
 //! The text of journals: their lines, the texts of one line that these hold, and the drill.
+//!
+//! Its words in contracts:
+//!
+//! - *line*: what one line of a journal asks for; `line_text` writes it, `line_of` reads it, `IsLine` says that a text
+//!   is a line's
+//! - *escaped*: a text as it stands in one line: `%`, LF and CR are `%25`, `%0A` and `%0D`
+//! - *front*: the first word of a line of output; `behind_each` is what stands behind one, line by line
+//! - *drill*: the script and the journal of a number, `drill_source` and `drill_journal`
+//! - *tally*, *summary*: what lines of output come to, and the text that tells it
 #![tactic(auto)]
 
 pub mod drill;

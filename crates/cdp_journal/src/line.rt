@@ -1,4 +1,5 @@
 //! The lines of a journal.
+
 ghost use Rattle.std.specs.Prelude.{◌≡◌, ◌<◌, ℕ, Some, IfOk, IfSome, string_bytes};
 ghost use Rattle.std.specs.Option.{option_map};
 ghost use Rattle.cdp_text.specs.Parts.{Halves};

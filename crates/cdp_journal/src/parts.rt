@@ -1,4 +1,5 @@
-// The parts of bytes that may be no text.
+//! The parts of bytes that may be no text.
+
 ghost use Rattle.std.specs.Prelude.{◌≡◌, ℕ};
 ghost use Rattle.std.specs.Prelude.{◌==◌, position};
 ghost use Rattle.std.specs.Option.{option_map};

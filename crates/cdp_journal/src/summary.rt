@@ -1,4 +1,5 @@
 //! The summary of a replay's output.
+
 ghost use Rattle.std.specs.Prelude.{◌≡◌, ◌+◌, ◌++◌, ◌∷◌, [], IfOk, OnOk, count_by, map, option_to_list, sum};
 ghost use Rattle.std.specs.Option.{option_map};
 ghost use Rattle.cdp_text.specs.Lines.{ended};

@@ -1,4 +1,13 @@
 //! The texts of the debug protocol (JSON-RPC 2.0 over JSON, RFC 8259): JSON values, the texts that are sent, and commands as they are read.
+//!
+//! Its words in contracts:
+//!
+//! - *view*: the JSON value of the definitions for which a value of the code stands (`json_view`)
+//! - *safe*: an integer from -(2^53-1) to 2^53-1; `safe_value_of` is a value whose numbers are all such
+//! - *command*: an `id`, a method and its parameters; `IsCommand` says which JSON values are one, and `read_command`
+//!   reads just those
+//! - *refusal*: why a text gets no result: a code and a message, with the `id` where that was read
+//! - *compact*: written without blanks, the keys of each object in the order of their units
 #![tactic(auto)]
 
 pub mod arguments;

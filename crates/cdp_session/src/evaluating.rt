@@ -47,9 +47,10 @@ use pure_eval::workspace::{Opened, Workspace};
 use remote_objects::frame_id;
 use std::alloc::{AllocError, Global};
 
-/// The cells and the units of a session's evaluations.
+/// As many cells as a session's evaluations may hold.
 const MOST_CELLS: u64 = 65_536;
 
+/// As many units as the texts in these cells may have together.
 const MOST_UNITS: u64 = 1_048_576;
 
 /// The scope of the scripts.

@@ -2,6 +2,17 @@
 //! the program, and the texts that it is sent.
 //!
 //! It knows the program by its scripts, by where it is paused, and by where a step leads.
+//!
+//! Its words in contracts:
+//!
+//! - *situation*, *standing*: what a session sees of the program: its scripts and where it is paused; its cells, its
+//!   frames, a throw that stands
+//! - *row*: what a method does: it is refused, or done with the session, the result and the events that it leaves
+//!   (`Row`, `Makes`)
+//! - *asks*: what a command asks of the program: to go on, or to begin
+//! - *outbox*: the texts that wait for the client; it *fits* while there are no more than may be
+//! - *met*, *hit*: a breakpoint whose condition holds; one that is active and met where the program arrived
+//! - *ending*: how a run ended: by itself, or by a throw
 #![tactic(auto)]
 
 pub mod asks;

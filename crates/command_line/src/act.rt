@@ -1,4 +1,5 @@
-// What a journal's line does to the host.
+//! What a journal's line does to the host.
+
 ghost use Rattle.std.specs.Prelude.{◌≡◌, ◌<◌, ◌^◌, ℕ, List, [], Bool, false, true, IfOk, OnOk, map, string_bytes};
 ghost use Rattle.std.specs.Option.{option_map};
 ghost use Rattle.isolation.specs.Histories.{Entry};

@@ -1,4 +1,5 @@
-// The command `drill`: a replay of a script and a journal that are made from a number, and a summary of its output.
+//! The command `drill`: a replay of a script and a journal that are made from a number, and a summary of its output.
+
 ghost use Rattle.std.specs.Prelude.{◌≡◌, ◌⊎◌, ◌≤◌, ◌<◌, None, length, IfOk, IfErr, OnOk, OnErr, IsErrOf};
 ghost use Rattle.cdp_edge.specs.Outside.{Rose, gains, GainsLess};
 ghost use Rattle.command_line.specs.DrillCauses.{BecauseDrill, BecauseJournalOf, BecauseScript, DrillsInPart, IsDrillScript, IsDrilled};

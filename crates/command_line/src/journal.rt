@@ -1,4 +1,5 @@
 //! Journals: their replay over a host, line by line, and what is written of it.
+
 ghost use Rattle.std.specs.Prelude.{◌≡◌, ◌⊎◌, ℕ, List, [], Bool, false, Some, None, OnOk, OnErr, IsErrOf, map, string_bytes};
 ghost use Rattle.cdp_edge.specs.Outside.{Rose, gains, GainsPrefix, GainsLess};
 ghost use Rattle.cdp_text.specs.Lines.{lines_of};

@@ -1,4 +1,4 @@
-// How a command ends.
+//! How a command ends.
 
 use script_files::fault::Refusal;
 

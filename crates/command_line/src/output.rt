@@ -1,4 +1,5 @@
-// The lines of output.
+//! The lines of output.
+
 ghost use Rattle.std.specs.Prelude.{◌≡◌, ◌++◌, ◌∷◌, [], IfOk, OnOk, map, string_bytes};
 ghost use Rattle.cdp_host.specs.declared.state.State.{State};
 ghost use Rattle.command_line.specs.Output.{Attached, To, Out, Overran, RanTo, output_text, overrun_in, state_name};

@@ -1,4 +1,5 @@
-// The command `replay`, from its files to its end.
+//! The command `replay`, from its files to its end.
+
 ghost use Rattle.std.specs.Prelude.{◌≡◌, ◌⊎◌, IfOk, IfErr, Some};
 ghost use Rattle.cdp_edge.specs.Outside.{Told, content_of};
 ghost use Rattle.command_line.specs.RequestHeld.{request_held};

@@ -1,4 +1,5 @@
-// What a command says of its end.
+//! What a command says of its end.
+
 ghost use Rattle.std.specs.Prelude.{◌≡◌, IfOk, string_bytes};
 ghost use Rattle.cdp_edge.specs.Outside.{GainsPrefix};
 ghost use Rattle.command_line.specs.Status.{line_said, refusal_said, said, status_of, uncaught_said, unread_said};

@@ -1,4 +1,5 @@
-// The command `run`, from its files to its end.
+//! The command `run`, from its files to its end.
+
 ghost use Rattle.std.specs.Prelude.{◌≡◌, ◌⊎◌};
 ghost use Rattle.cdp_edge.specs.Outside.{Told};
 ghost use Rattle.command_line.specs.RequestHeld.{sources_held};

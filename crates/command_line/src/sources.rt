@@ -1,4 +1,5 @@
-// The scripts and the input of a program, from their files.
+//! The scripts and the input of a program, from their files.
+
 ghost use Rattle.std.specs.Prelude.{◌≡◌, IfOk, IfErr};
 ghost use Rattle.cdp_edge.specs.Outside.{Told};
 ghost use Rattle.command_line.specs.Files.{HoldsLines, HoldsSources};

@@ -1,4 +1,5 @@
-// What a replay writes, kept in memory.
+//! What a replay writes, kept in memory.
+
 ghost use Rattle.std.specs.Prelude.{Some, [], ◌≡◌};
 
 use cdp_edge::{Sink, SinkFault};

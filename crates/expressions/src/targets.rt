@@ -6,7 +6,7 @@ ghost use Rattle.js_semantics.specs.Literals.{is_target};
 
 use js_tree::tree::Expr;
 
-// whether an expression is a name or a property, also in parentheses
+/// Whether an expression is a name or a property, also in parentheses.
 #[tactic(auto, using(crate::proofs::TreeLemmas::expression_laws))]
 pub fn is_target(e: &Expr) -> bool
     ensures { result ≡ is_target (expression_view e.now) }

@@ -1,4 +1,5 @@
-// Calls of the program: its words, files, faults, output and status.
+//! Calls of the program: its words, files, faults, output and status.
+
 ghost use Rattle.std.specs.Prelude.{Some};
 
 use cdp_edge::{MemShelf, MemSink, Sink, SinkFault};

@@ -1,4 +1,5 @@
-// Each command in each state of its session.
+//! Each command in each state of its session.
+
 use cdp_host::host::{Host, Told};
 use cdp_text::units::units_of;
 use js_parser::parse::parse_script;

@@ -1,4 +1,5 @@
-// Breakpoints with conditions.
+//! Breakpoints with conditions.
+
 use crate::calls::each_call;
 use std::test::Fail;
 

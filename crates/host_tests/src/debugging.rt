@@ -1,4 +1,5 @@
-// Debugged runs, replayed: breakpoints, steps, `debugger` statements, throws, and each command's answer.
+//! Debugged runs, replayed: breakpoints, steps, `debugger` statements, throws, and each command's answer.
+
 use crate::calls::each_call;
 use std::test::Fail;
 

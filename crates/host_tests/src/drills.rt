@@ -1,4 +1,5 @@
-// Drills: a replay that is made from a number, and its summary.
+//! Drills: a replay that is made from a number, and its summary.
+
 use crate::calls::each_call;
 use std::test::Fail;
 

@@ -1,4 +1,5 @@
-// Sinks and shelves: the real ones, and what no clause says of them.
+//! Sinks and shelves: the real ones, and what no clause says of them.
+
 use cdp_edge::{FileShelf, MemShelf, MemSink, Shelf, ShelfFault, Sink, SinkFault, WriterSink, put};
 use std::io::{ErrorKind, Write};
 use std::test::Fail;

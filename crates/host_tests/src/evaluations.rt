@@ -1,4 +1,5 @@
-// Evaluations: values, texts that are no expression, effects, throws, and parameters.
+//! Evaluations: values, texts that are no expression, effects, throws, and parameters.
+
 use crate::calls::each_call;
 use std::test::Fail;
 

@@ -1,4 +1,5 @@
-// What a session with the domain Runtime is told of the run: prints, the throw that ended it, and its end.
+//! What a session with the domain Runtime is told of the run: prints, the throw that ended it, and its end.
+
 use crate::calls::each_call;
 use std::test::Fail;
 

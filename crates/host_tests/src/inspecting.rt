@@ -1,4 +1,5 @@
-// What a client is shown of values: by value, in previews, by calls of functions; and the domain Runtime.
+//! What a client is shown of values: by value, in previews, by calls of functions; and the domain Runtime.
+
 use crate::calls::each_call;
 use std::test::Fail;
 

@@ -1,4 +1,5 @@
-// What a session holds of its evaluations, and their limits.
+//! What a session holds of its evaluations, and their limits.
+
 use crate::calls::each_call;
 use std::test::Fail;
 

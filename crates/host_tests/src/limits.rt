@@ -1,4 +1,5 @@
-// What may wait for a session, by texts and by bytes, and the length of what it is told: the most that may be, and one more.
+//! What may wait for a session, by texts and by bytes, and the length of what it is told: the most that may be, and one more.
+
 use crate::calls::each_call;
 use std::alloc::{AllocError, Global};
 use std::process::Abort;

@@ -1,4 +1,5 @@
-// What a client sees of a program that stands still: frames with their scopes, and objects with their properties.
+//! What a client sees of a program that stands still: frames with their scopes, and objects with their properties.
+
 use crate::calls::each_call;
 use std::test::Fail;
 

@@ -1,4 +1,4 @@
-// Calls of the command `run`: words, files, faults, output and status.
+//! Calls of the command `run`: words, files, faults, output and status.
 
 use crate::calls::{PieceSink, each_call, shelf_of, words_of};
 use cdp_edge::MemSink;

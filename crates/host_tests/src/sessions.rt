@@ -1,4 +1,5 @@
-// Several sessions that debug one program: what each is told, who stops it, and who lets it go on.
+//! Several sessions that debug one program: what each is told, who stops it, and who lets it go on.
+
 use crate::calls::each_call;
 use crate::limits::{Row, each_row};
 use std::test::Fail;

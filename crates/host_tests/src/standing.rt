@@ -1,4 +1,5 @@
-// Where a machine stands behind each step of a run.
+//! Where a machine stands behind each step of a run.
+
 ghost use Rattle.std.specs.Prelude.{false};
 
 use cdp_text::units::units_of;

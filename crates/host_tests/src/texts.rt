@@ -1,4 +1,5 @@
-// Texts: what their clauses say exactly is called once, with ample memory.
+//! Texts: what their clauses say exactly is called once, with ample memory.
+
 use cdp_text::decimal::{read_decimal, read_decimal_bytes};
 use cdp_text::line_table::LineTable;
 use cdp_text::lines::cut_line;

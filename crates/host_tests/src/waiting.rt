@@ -1,4 +1,5 @@
-// A program that waits until a client lets it begin, and where it stops then.
+//! A program that waits until a client lets it begin, and where it stops then.
+
 use crate::calls::each_call;
 use std::test::Fail;
 

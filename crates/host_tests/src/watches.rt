@@ -1,4 +1,5 @@
-// Evaluations in the frames of a program that stands still.
+//! Evaluations in the frames of a program that stands still.
+
 use crate::calls::each_call;
 use std::test::Fail;
 

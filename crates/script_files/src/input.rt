@@ -1,4 +1,5 @@
 //! The lines of input that a file holds.
+
 ghost use Rattle.std.specs.Prelude.{◌≡◌, false, true, IfOk, IfErr, map};
 ghost use Rattle.std.specs.Str.{is_utf8};
 ghost use Rattle.cdp_edge.specs.Outside.{Told};

@@ -1,4 +1,5 @@
-// What is told of the parser's faults.
+//! What is told of the parser's faults.
+
 ghost use Rattle.std.specs.Prelude.{◌≡◌};
 ghost use Rattle.script_files.specs.Refusals.{refusal_of, StandsWithin};
 

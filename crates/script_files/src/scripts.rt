@@ -1,4 +1,5 @@
 //! The scripts that files hold.
+
 ghost use Rattle.std.specs.Prelude.{◌≡◌, ◌∷◌, ◌++◌, [], List, ℕ, IfOk, IfErr, OnOk, map, string_bytes};
 ghost use Rattle.cdp_edge.specs.Outside.{Named, Told};
 ghost use Rattle.js_tree.specs.declared.script.Script.{Script as AnyScript};

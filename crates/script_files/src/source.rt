@@ -1,4 +1,5 @@
-// The script that bytes are.
+//! The script that bytes are.
+
 ghost use Rattle.std.specs.Prelude.{◌≡◌, ◌+◌, IfOk, IfErr, IfSome};
 ghost use Rattle.script_files.specs.Scripts.{IsScriptOf, FailsAs};
 ghost use Rattle.script_files.specs.Refusals.{refusal_of, fault_told, StandsWithin};

@@ -1,4 +1,5 @@
-// The names that a script declares at its top.
+//! The names that a script declares at its top.
+
 ghost use Rattle.std.specs.Prelude.{◌≡◌, ◌++◌, OnOk, map};
 ghost use Rattle.js_language.specs.Well.{declared_by, declared_names, names_of_declarators};
 ghost use Rattle.js_tree.specs.Views.{declarator_view, declarators, declarators_view, statement_view, statements, statements_view};

@@ -3,6 +3,12 @@
 //!
 //! Where a step leaves the program is an [`Arrival`](arrival::Arrival), what a session asks for are its
 //! [`Rules`](rules::Rules). Nothing here takes memory.
+//!
+//! Its words in contracts:
+//!
+//! - *cause*: one of the rules that may name a stop; `Holds` says that a rule holds, `IsFirst` that none before it does
+//! - *arrival*: where a step leaves the program; it *has arrived* where that is a break location
+//! - *requests*: a pause, a step, or a place to run to: each ends with the next stop
 #![tactic(auto)]
 
 pub mod arrival;
