@@ -6,6 +6,7 @@ use js_heap::value::Addr;
 /// A scope of a frame.
 #[derive(Clone, Copy, Debug)]
 pub struct Scope<'m> {
+    /// How it is listed.
     pub kind: ListedKind,
     /// The name of its function, on the scope of a call and on that of the name of a function expression; else the empty one.
     pub name: &'m [u16],

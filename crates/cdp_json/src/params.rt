@@ -7,15 +7,20 @@ use cdp_text::units::Units;
 /// A position of a script, as a command names it.
 #[derive(Debug, Drop)]
 pub struct Location {
+    /// The id of the script.
     pub script_id: Units,
+    /// The line and the column, counted from 0.
     pub position: Pos,
 }
 
 /// At which throws a session wants the program to stop.
 #[derive(Clone, Copy, Debug, PartialEq, Eq)]
 pub enum ExceptionPauses {
+    /// At none.
     Never,
+    /// At those that no `catch` takes.
     Uncaught,
+    /// At all.
     All,
 }
 

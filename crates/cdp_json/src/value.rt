@@ -10,11 +10,17 @@ use cdp_text::units::Units;
 #[derive(Debug, Drop)]
 #[cycle(value)]
 pub enum Json {
+    /// `null`.
     Null,
+    /// A truth value.
     Bool(bool),
+    /// An integer.
     Number(i64),
+    /// A text.
     Text(Units),
+    /// A list of values.
     List(JsonList),
+    /// An object of members.
     Object(JsonObject),
 }
 
@@ -36,7 +42,9 @@ pub struct JsonObject {
 #[derive(Debug, Drop)]
 #[cycle(value)]
 pub struct Member {
+    /// The key.
     pub key: Units,
+    /// The value.
     pub value: Json,
 }
 

@@ -11,7 +11,9 @@ use std::alloc::{AllocError, Global};
 /// The cells of a program, with the table of its names.
 #[derive(Clone, Copy)]
 pub struct ProgramCells<'p> {
+    /// The cells.
     pub heap: &'p BaseHeap,
+    /// The names.
     pub names: &'p Names,
 }
 

@@ -20,6 +20,7 @@ use std::marker::Model;
 /// A scope of a frame.
 #[derive(Drop)]
 pub struct ScopeView<'m> {
+    /// How it is listed.
     pub kind: ListedKind,
     /// The name of its function, on the scope of a call and on that of the name of a function expression; else the empty one.
     pub name: Name<'m>,

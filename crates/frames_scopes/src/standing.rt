@@ -13,17 +13,22 @@ use js_world::names::Names;
 /// A machine of scripts that has something left to reduce, with its cells: what is walked over.
 #[derive(Clone, Copy)]
 pub struct Standing<'m> {
-    /// The code, and the texts of its names.
+    /// The code.
     pub table: &'m NodeTable,
+    /// The texts of its names.
     pub names: &'m Names,
-    /// The scripts by their numbers from 1, and where the lines of each begin.
+    /// The scripts by their numbers from 1.
     pub scripts: &'m [Script],
+    /// Where the lines of each begin.
     pub lines: &'m [LineTable],
-    /// The cells, and the scope around all that the scripts do.
+    /// The cells.
     pub heap: &'m BaseHeap,
+    /// The scope around all that the scripts do.
     pub root: Addr,
-    /// The active calls, the tasks, and where the machine stands.
+    /// The active calls.
     pub context: &'m Context,
+    /// The tasks.
     pub stack: &'m Stack,
+    /// Where the machine stands.
     pub point: Point,
 }

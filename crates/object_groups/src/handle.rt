@@ -9,7 +9,9 @@ use js_heap::value::Addr;
 /// What a handle stands for: an object, or a scope as an object of its bindings.
 #[derive(Clone, Copy, Debug, PartialEq, Eq)]
 pub enum Target {
+    /// The object whose cell is at this address.
     Object(Addr),
+    /// The scope whose cell is at this address.
     Scope(Addr),
 }
 
@@ -30,6 +32,7 @@ impl Target {
 pub struct Handle {
     /// Its number, counted from 1 in the order of making.
     pub number: u64,
+    /// What it stands for.
     pub target: Target,
     /// The name of the group with which it is released, if it is in one.
     pub group: Option<Units>,

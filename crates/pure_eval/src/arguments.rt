@@ -22,7 +22,9 @@ use std::alloc::Global;
 /// An argument of a call: a value, or what is made of a JSON value.
 #[derive(Drop)]
 pub enum Argument {
+    /// This value.
     Given(Value),
+    /// What is made of this JSON value.
     Json(Json),
 }
 

@@ -201,8 +201,8 @@ fn run_call<T: Rows, W: World>(
     )
 }
 
-/// The call of a node's function in the script scope with a `this` and arguments: at most 100,000 steps, those that make
-/// the function among them.
+/// The call of a node's function in the script scope with a `this` and arguments: at most [`MOST_STEPS`] steps, those that
+/// make the function among them.
 fn call_node<T: Rows, W: World>(
     alloc: Global,
     table: &NodeTable,

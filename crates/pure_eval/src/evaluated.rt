@@ -12,7 +12,9 @@ use js_steps::task::Point;
 /// How an evaluation ends.
 #[derive(Clone, Copy, Debug, PartialEq, Eq)]
 pub enum Evaluated {
+    /// It came to this value.
     Value(Value),
+    /// It threw this value.
     Thrown(Value),
     /// It would have reached what isn't its own.
     Effect,

@@ -50,26 +50,33 @@ use std::alloc::{AllocError, Global};
 /// The code of a program, and of the sources that a session's evaluations keep, with its names.
 #[derive(Drop)]
 pub struct Evaluator {
+    /// The names.
     pub names: Names,
+    /// The code.
     pub table: NodeTable,
-    // the sources that are kept stand at addresses below this number
+    /// The sources that are kept stand at addresses below this number.
     pub next: u32,
-    // the entry of this number is that of a call which stands in no statement
+    /// The entry of this number is that of a call which stands in no statement.
     pub call: u32,
 }
 
 /// Where an evaluator's code ended, and below which number its kept sources stood.
 #[derive(Clone, Copy, Debug)]
 pub struct EvaluatorMark {
+    /// Where its code ended.
     pub table: TableMark,
+    /// Its kept sources stood below this number.
     pub next: u32,
 }
 
 /// A source that was added: its node, where the table ended before it, and the number behind its address.
 #[derive(Clone, Copy, Debug)]
 pub struct Added {
+    /// Where the table ended before it.
     pub mark: TableMark,
+    /// The number behind its address.
     pub next: u32,
+    /// Its node.
     pub node: u32,
 }
 

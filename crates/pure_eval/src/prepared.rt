@@ -7,8 +7,12 @@ use js_terms::term::Term;
 /// address.
 #[derive(Drop)]
 pub struct Prepared {
+    /// The source.
     pub source: Units,
+    /// Its string literals, in its own order.
     pub order: Vec<Units>,
+    /// The same, in the order of its term.
     pub literals: Vec<Units>,
+    /// Its term.
     pub term: Term,
 }

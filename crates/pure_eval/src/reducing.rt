@@ -76,7 +76,7 @@ pub fn run_on<T: Rows, W: World>(
     end_at(*point)
 }
 
-/// The evaluation of a node in a scope with a `this`: at most 100,000 steps.
+/// The evaluation of a node in a scope with a `this`: at most [`MOST_STEPS`] steps.
 pub fn evaluate_node<T: Rows, W: World>(
     alloc: Global,
     table: &NodeTable,

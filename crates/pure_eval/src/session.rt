@@ -31,7 +31,9 @@ use std::alloc::Global;
 /// How an evaluation ended, and the session's cells after it.
 #[derive(Drop)]
 pub struct Outcome {
+    /// How it ended.
     pub end: Evaluated,
+    /// The session's cells after it.
     pub scratch: Scratch,
 }
 

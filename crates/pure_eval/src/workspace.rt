@@ -66,7 +66,9 @@ impl Model for Workspace {
 /// The cells of a program with those of a session, and the names of both.
 #[derive(Clone, Copy)]
 pub struct Seen<'o, 'b> {
+    /// The cells.
     pub world: &'o Overlay<'b>,
+    /// The names.
     pub names: &'o Names,
 }
 

@@ -10,10 +10,16 @@ use std::alloc::Global;
 /// what finds the sources of functions that evaluations made, and the number of the session that they are described for.
 #[derive(Clone, Copy)]
 pub struct Describer<'w, W: World, S: FunctionSources> {
+    /// The memory for what is made.
     pub alloc: Global,
+    /// The world.
     pub world: &'w W,
+    /// Its table of names.
     pub names: &'w Names,
+    /// The scripts, by their numbers from 1.
     pub scripts: &'w [Script],
+    /// What finds the sources of functions that evaluations made.
     pub sources: &'w S,
+    /// The number of the session.
     pub session: u64,
 }

@@ -3,6 +3,8 @@
 /// Whether objects are described with previews of their properties.
 #[derive(Clone, Copy, Debug, PartialEq, Eq)]
 pub enum Detail {
+    /// Without.
     Plain,
+    /// With.
     Previewed,
 }

@@ -18,7 +18,9 @@ use std::alloc::{AllocError, Global};
 /// Why a file isn't taken as a script, with its name.
 #[derive(Clone, Copy, Debug, PartialEq, Eq)]
 pub struct ScriptFault<'n> {
+    /// The name of the file.
     pub name: &'n str,
+    /// Why it isn't taken.
     pub fault: FileFault,
 }
 

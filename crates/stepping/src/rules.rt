@@ -30,6 +30,7 @@ pub enum StepKind {
 /// A step that was asked for while the program was stopped.
 #[derive(Clone, Copy, Debug, PartialEq, Eq)]
 pub struct StepRequest {
+    /// How far it goes.
     pub kind: StepKind,
     /// How many calls were active at the stop.
     pub depth: usize,
