@@ -12,14 +12,22 @@
 //! - *spots*: the break locations of a script, in order
 #![tactic(auto)]
 
-pub mod breakpoint;
-pub mod breakpoints;
-pub mod fault;
-pub mod hits;
-pub mod ids;
+mod breakpoint;
+mod breakpoints;
+mod fault;
+mod hits;
+mod ids;
 pub mod laws;
 mod place_filter;
 mod place_index;
-pub mod places;
+mod places;
 mod resolving;
-pub mod script_spots;
+mod script_spots;
+
+pub use crate::breakpoints::Breakpoints;
+pub use breakpoint::Breakpoint;
+pub use fault::AddFault;
+pub use hits::Hits;
+pub use ids::{place_id, url_id};
+pub use places::Places;
+pub use script_spots::ScriptSpots;

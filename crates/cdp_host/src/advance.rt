@@ -23,9 +23,8 @@ use crate::endings::ending_of;
 use crate::stops::next_number;
 use crate::stretch::Stretch;
 use crate::watching::{Step, let_watch};
-use breakpoints::script_spots::ScriptSpots;
-use cdp_session::session::Session;
-use cdp_session::situation::Situation;
+use breakpoints::ScriptSpots;
+use cdp_session::{Session, Situation};
 use cdp_text::line_table::LineTable;
 use cdp_text::units::Units;
 use isolation::Seat;
@@ -42,7 +41,7 @@ use js_steps::task::Point;
 use js_tree::script::Script;
 use js_world::heap::BaseHeap;
 use std::alloc::AllocError;
-use stepping::arrival::Arrival;
+use stepping::Arrival;
 
 /// Asks for a stop where a session may name one: the conditions of its breakpoints are evaluated behind the stretch.
 #[derive(Clone, Copy)]

@@ -22,7 +22,7 @@ use js_steps::stack::Stack;
 use js_steps::task::Point;
 use js_tree::script::Script;
 use locations::offsets::offset_of;
-use stepping::arrival::Arrival;
+use stepping::Arrival;
 
 /// The place of a mark in a script whose lines begin so.
 fn place_in(script: &Script, lines: &LineTable, mark: Mark) -> Place

@@ -11,16 +11,16 @@ ghost use Rattle.cdp_host.specs.Hosts.{AreLines};
 ghost use Rattle.cdp_host.specs.Standings.{value_of, IsKept-prop};
 
 use call_frames::CallFrame;
-use cdp_session::program::{Program, ProgramCells};
+use cdp_session::{Program, ProgramCells};
 use cdp_text::line_table::LineTable;
-use expressions::preparing::{prepare, prepare_function};
-use frames_scopes::standing::Standing;
+use expressions::{prepare, prepare_function};
+use frames_scopes::Standing;
 use js_frames::standing::Thrown;
 use js_heap::value::{Addr, Value};
 use js_machine::machine::{Machine, script_scope};
 use js_tree::script::{Expression, FunctionCode, Script};
 use js_world::heap::BaseHeap;
-use pure_eval::prepared::Prepared;
+use pure_eval::Prepared;
 use std::alloc::{AllocError, Global};
 
 /// A machine that wasn't given up, with its heap, the scripts that it runs, and where the lines of each of them begin.

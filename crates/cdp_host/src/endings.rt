@@ -8,7 +8,7 @@ ghost use Rattle.cdp_host.specs.Hosts.{machine_run, AreLines};
 ghost use Rattle.cdp_host.specs.Standings.{ending_by, ending_of, place_or_nowhere};
 
 use crate::arrival::place_of;
-use cdp_session::ending::Ending;
+use cdp_session::Ending;
 use cdp_text::line_table::LineTable;
 use cdp_text::position::{Place, Pos};
 use js_machine::machine::Machine;

@@ -8,7 +8,7 @@ ghost use Rattle.cdp_host.specs.Watching.{losses_from};
 
 use crate::losses::SessionLost;
 use crate::seats::push_loss;
-use cdp_session::session::Session;
+use cdp_session::Session;
 use isolation::{Loss, Seat};
 use std::alloc::{AllocError, Global};
 use std::mem;

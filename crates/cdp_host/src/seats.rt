@@ -12,8 +12,7 @@ ghost use Rattle.cdp_host.specs.Protocols.{protocol};
 ghost use Rattle.cdp_host.specs.Watching.{loss_of, losses_from};
 
 use crate::losses::SessionLost;
-use cdp_session::session::Session;
-use cdp_session::session_end::SessionEnd;
+use cdp_session::{Session, SessionEnd};
 use isolation::{Loss, Seat};
 use std::alloc::{AllocError, Global};
 

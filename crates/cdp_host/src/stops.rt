@@ -5,7 +5,7 @@ ghost use Rattle.std.specs.Option.{option_map};
 ghost use Rattle.isolation.specs.Meanings.{is_first, next_number, phase_of, waits, woken};
 ghost use Rattle.cdp_host.specs.Hosts.{pause_behind};
 
-use cdp_session::situation::Pause;
+use cdp_session::Pause;
 use isolation::Phase;
 
 /// The greatest number of a stop.

@@ -9,11 +9,7 @@ ghost use Rattle.cdp_session.specs.Situations.{HasSpots, seen};
 ghost use Rattle.cdp_host.specs.Watching.{AnswersAs, AnswersIn, IsPlace, is_forgotten, loss_told, owner_told};
 
 use crate::losses::SessionLost;
-use cdp_session::asks::Asks;
-use cdp_session::program::Program;
-use cdp_session::session::Session;
-use cdp_session::session_end::SessionEnd;
-use cdp_session::situation::Situation;
+use cdp_session::{Asks, Program, Session, SessionEnd, Situation};
 use isolation::{Loss, Seat};
 use std::alloc::Global;
 

@@ -11,15 +11,11 @@ ghost use Rattle.cdp_host.specs.Steps.{end_told, is_started, names, print_told, 
 ghost use Rattle.cdp_host.specs.Watching.{step_seen};
 
 use crate::seats::lost_by;
-use cdp_session::ending::Ending;
-use cdp_session::program::Program;
-use cdp_session::session::Session;
-use cdp_session::session_end::SessionEnd;
-use cdp_session::situation::Situation;
+use cdp_session::{Ending, Program, Session, SessionEnd, Situation};
 use isolation::Seat;
 use js_heap::value::Value;
 use std::alloc::AllocError;
-use stepping::arrival::Arrival;
+use stepping::Arrival;
 
 /// What a step tells of its program.
 #[derive(Debug, Drop)]

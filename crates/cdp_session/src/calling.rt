@@ -29,7 +29,7 @@ use js_parser::parse::parse_function;
 use js_rows::table::Table;
 use js_tree::script::FunctionCode;
 use object_groups::{Handle, Target};
-use pure_eval::arguments::Argument;
+use pure_eval::Argument;
 use std::alloc::AllocError;
 
 /// The object for which a handle stands; a scope is none.

@@ -17,7 +17,7 @@ ghost use Rattle.cdp_session.specs.Situations.{seen};
 use crate::evaluating::{innermost, open, script_scope};
 use crate::program::Program;
 use crate::situation::Situation;
-use breakpoints::breakpoints::Breakpoints;
+use breakpoints::Breakpoints;
 use call_frames::CallFrame;
 use cdp_text::position::Place;
 use cdp_text::units::Units;
@@ -28,8 +28,7 @@ use js_rows::table::Table;
 use js_syntax::fault::ParseFault;
 use js_tree::script::Expression;
 use js_values::values::is_truthy;
-use pure_eval::evaluated::Evaluated;
-use pure_eval::workspace::{Opened, Workspace};
+use pure_eval::{Evaluated, Opened, Workspace};
 use std::alloc::{AllocError, Global};
 use std::marker::Model;
 

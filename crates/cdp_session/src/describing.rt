@@ -17,7 +17,7 @@ use js_heap::value::Value;
 use js_tree::script::Script;
 use js_world::overlay::Overlay;
 use object_groups::{Handle, Handles};
-use pure_eval::workspace::Opened;
+use pure_eval::Opened;
 use remote_objects::{ByValueFault, Describer, Detail};
 use std::alloc::{AllocError, Global};
 

@@ -42,8 +42,7 @@ use js_rows::table::Table;
 use js_syntax::fault::ParseFault;
 use js_tree::script::{Expression, Script};
 use object_groups::Handles;
-use pure_eval::evaluated::Evaluated;
-use pure_eval::workspace::{Opened, Workspace};
+use pure_eval::{Evaluated, Opened, Workspace};
 use remote_objects::frame_id;
 use std::alloc::{AllocError, Global};
 

@@ -9,7 +9,7 @@ use crate::done::Fault;
 use crate::found::FoundScript;
 use crate::program::Program;
 use crate::situation::Situation;
-use breakpoints::script_spots::ScriptSpots;
+use breakpoints::ScriptSpots;
 use cdp_json::refusal::Refusal;
 use cdp_text::units::{Units, ascii};
 use js_tree::script::Script;

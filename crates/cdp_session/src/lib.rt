@@ -15,13 +15,13 @@
 //! - *ending*: how a run ended: by itself, or by a throw
 #![tactic(auto)]
 
-pub mod asks;
+mod asks;
 mod calling;
 mod conditions;
 mod console;
 mod describing;
 mod done;
-pub mod ending;
+mod ending;
 mod ends;
 mod evaluating;
 mod events;
@@ -32,13 +32,20 @@ mod members;
 mod objects;
 mod outbox;
 mod pausing;
-pub mod program;
+mod program;
 mod refusing;
 mod results;
 mod rows;
 mod scripts;
-pub mod session;
-pub mod session_end;
+mod session;
+mod session_end;
 mod showing;
-pub mod situation;
+mod situation;
 mod sources;
+
+pub use asks::Asks;
+pub use ending::Ending;
+pub use program::{Program, ProgramCells};
+pub use session::Session;
+pub use session_end::SessionEnd;
+pub use situation::{Pause, Situation};

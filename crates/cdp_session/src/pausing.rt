@@ -19,7 +19,7 @@ use js_world::heap::BaseHeap;
 use object_groups::Handles;
 use remote_objects::{Describer, backtrace};
 use std::alloc::{AllocError, Global};
-use stepping::cause::Cause;
+use stepping::Cause;
 
 /// Why the program stopped, as its session is told.
 fn reason_of(cause: Option<Cause>) -> &'static [u8]

@@ -5,7 +5,7 @@ use js_heap::value::{Addr, Value};
 use js_tree::script::{Expression, FunctionCode};
 use js_world::heap::BaseHeap;
 use js_world::names::Names;
-use pure_eval::prepared::Prepared;
+use pure_eval::Prepared;
 use std::alloc::{AllocError, Global};
 
 /// The cells of a program, with the table of its names.

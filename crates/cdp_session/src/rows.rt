@@ -27,9 +27,7 @@ use crate::session::Session;
 use crate::showing::detail_of;
 use crate::situation::{Pause, Situation};
 use crate::sources::EvaluatedTexts;
-use breakpoints::breakpoints::Breakpoints;
-use breakpoints::fault::AddFault;
-use breakpoints::ids::{place_id, url_id};
+use breakpoints::{AddFault, Breakpoints, place_id, url_id};
 use cdp_json::params::{ExceptionPauses, Location, Params};
 use cdp_json::parts::nothing;
 use cdp_json::refusal::Refusal;
@@ -40,7 +38,7 @@ use locations::spot::{between, first_at_or_after};
 use object_groups::Handle;
 use remote_objects::{Detail, backtrace};
 use std::alloc::{AllocError, Global};
-use stepping::rules::{Exceptions, Rules, StepKind, StepRequest};
+use stepping::{Exceptions, Rules, StepKind, StepRequest};
 
 /// The throws at which a session wants the program to stop.
 fn throws_of(state: ExceptionPauses) -> Exceptions

@@ -26,7 +26,7 @@ use crate::program::Program;
 use crate::refusing::{wants_enabled, wants_pause};
 use crate::session_end::SessionEnd;
 use crate::situation::Situation;
-use breakpoints::breakpoints::Breakpoints;
+use breakpoints::Breakpoints;
 use cdp_json::command::Reading;
 use cdp_json::params::Params;
 use cdp_json::refusal::Refusal;
@@ -35,14 +35,11 @@ use cdp_text::position::Place;
 use cdp_text::units::Units;
 use js_heap::value::Value;
 use object_groups::Handles;
-use pure_eval::workspace::Workspace;
+use pure_eval::Workspace;
 use remote_objects::backtrace;
 use std::alloc::{AllocError, Global};
 use std::marker::Model;
-use stepping::arrival::Arrival;
-use stepping::cause::Cause;
-use stepping::names::names;
-use stepping::rules::Rules;
+use stepping::{Arrival, Cause, Rules, names};
 
 /// One client: what it asks for, its breakpoints, the objects that it holds, and the texts that wait for it.
 #[derive(Drop)]

@@ -1,7 +1,7 @@
 //! What a command sees of the program.
 
 use crate::program::Program;
-use breakpoints::script_spots::ScriptSpots;
+use breakpoints::ScriptSpots;
 use js_tree::script::Script;
 
 /// Where the program is paused.

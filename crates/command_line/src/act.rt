@@ -16,8 +16,7 @@ ghost use Rattle.command_line.specs.Played.{Acts};
 use crate::output::{
     attached_line, overrun_line, printed_lines, push_overruns, ran_line, sent_lines,
 };
-use cdp_host::host::{Host, Told};
-use cdp_host::losses::SessionLost;
+use cdp_host::{Host, SessionLost, Told};
 use cdp_journal::line::Line;
 use isolation::Loss;
 use std::alloc::{AllocError, Global};

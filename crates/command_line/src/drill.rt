@@ -13,7 +13,7 @@ use cdp_edge::{Sink, SinkFault, put};
 use cdp_journal::drill::{drill_journal, drill_source};
 use cdp_journal::summary::summary;
 use js_tree::script::Script;
-use script_files::source::script_of;
+use script_files::script_of;
 use std::alloc::Global;
 use std::collections::VecDeque;
 

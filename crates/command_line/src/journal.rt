@@ -14,7 +14,7 @@ ghost use Rattle.command_line.specs.Replays.{WritesLess, WritesPart, WritesRepla
 
 use crate::act::act;
 use cdp_edge::{Sink, SinkFault, put};
-use cdp_host::host::Host;
+use cdp_host::Host;
 use cdp_journal::line::read_line;
 use cdp_text::lines::cut_line;
 use cdp_text::units::Units;

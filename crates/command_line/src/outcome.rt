@@ -1,6 +1,6 @@
 //! How a command ends.
 
-use script_files::fault::Refusal;
+use script_files::Refusal;
 
 /// How a command ends, with the name of the file whose fault that is.
 #[derive(Debug, Drop)]

@@ -8,7 +8,7 @@ ghost use Rattle.script_files.specs.declared.fault.Refusal.TheVariants.{Unexpect
 use crate::outcome::Outcome;
 use cdp_edge::{Sink, put};
 use cdp_text::position::Pos;
-use script_files::fault::Refusal;
+use script_files::Refusal;
 use std::alloc::{AllocError, Global};
 
 /// The exit status of an end.

@@ -11,9 +11,7 @@ use crate::words::Sources;
 use cdp_edge::Shelf;
 use cdp_text::units::Units;
 use js_tree::script::Script;
-use script_files::fault::FileFault;
-use script_files::input::read_input;
-use script_files::scripts::read_scripts;
+use script_files::{FileFault, read_input, read_scripts};
 use std::alloc::Global;
 use std::collections::VecDeque;
 

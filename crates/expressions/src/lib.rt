@@ -2,6 +2,9 @@
 //! source, and the term with the addresses of their cells.
 #![tactic(auto)]
 
-pub mod literals;
-pub mod preparing;
+mod literals;
+mod preparing;
 mod targets;
+
+pub use literals::source_literals;
+pub use preparing::{prepare, prepare_function};

@@ -10,7 +10,7 @@ use js_programs::literals::{literals_in, literals_placed};
 use js_sources::kept::kept_term;
 use js_tree::script::{Expression, FunctionCode};
 use js_tree::tree::Expr;
-use pure_eval::prepared::Prepared;
+use pure_eval::Prepared;
 use std::alloc::{AllocError, Global};
 
 /// A source of a tree that is kept at an address of a session, ready to be evaluated. AllocError also where

@@ -11,11 +11,17 @@
 #![tactic(auto)]
 
 mod cells;
-pub mod frames;
+mod frames;
 pub mod laws;
-pub mod lines;
+mod lines;
 mod listing;
-pub mod name;
+mod name;
 mod places;
-pub mod scopes;
-pub mod standing;
+mod scopes;
+mod standing;
+
+pub use frames::{FrameView, Frames};
+pub use lines::lines_of_scripts;
+pub use name::Name;
+pub use scopes::{ScopeView, Scopes};
+pub use standing::Standing;

@@ -1,6 +1,6 @@
 //! Each command in each state of its session.
 
-use cdp_host::host::{Host, Told};
+use cdp_host::{Host, Told};
 use cdp_text::units::units_of;
 use js_parser::parse::parse_script;
 use std::alloc::Global;

@@ -13,18 +13,23 @@
 //! - *whole*: a table of code that means the same however it goes on
 #![tactic(auto)]
 
-pub mod adding;
-pub mod arguments;
-pub mod calling;
-pub mod closed;
-pub mod cutting;
-pub mod evaluated;
-pub mod evaluator;
+mod adding;
+mod arguments;
+mod calling;
+mod closed;
+mod cutting;
+mod evaluated;
+mod evaluator;
 pub mod laws;
-pub mod literals;
-pub mod orders;
-pub mod prepared;
-pub mod reducing;
-pub mod session;
-pub mod work;
-pub mod workspace;
+mod literals;
+mod orders;
+mod prepared;
+mod reducing;
+mod session;
+mod work;
+mod workspace;
+
+pub use arguments::Argument;
+pub use evaluated::Evaluated;
+pub use prepared::Prepared;
+pub use workspace::{Opened, Seen, Workspace};

@@ -8,9 +8,14 @@
 //! - `Holds..`, `Fails..`: what files hold under names, and why one isn't taken
 #![tactic(auto)]
 
-pub mod fault;
-pub mod input;
+mod fault;
+mod input;
 mod refusal;
-pub mod scripts;
-pub mod source;
+mod scripts;
+mod source;
 mod top_names;
+
+pub use fault::{FileFault, Refusal};
+pub use input::read_input;
+pub use scripts::{ScriptFault, read_scripts};
+pub use source::script_of;

@@ -1,8 +1,7 @@
 //! By which rule a session stops the program after a step: exceptions, breakpoints, `debugger` statements, pausing,
 //! stepping, and running on to a place (Chrome DevTools Protocol 1.3, domain Debugger).
 //!
-//! Where a step leaves the program is an [`Arrival`](arrival::Arrival), what a session asks for are its
-//! [`Rules`](rules::Rules). Nothing here takes memory.
+//! Where a step leaves the program is an [`Arrival`], what a session asks for are its [`Rules`]. Nothing here takes memory.
 //!
 //! Its words in contracts:
 //!
@@ -11,8 +10,13 @@
 //! - *requests*: a pause, a step, or a place to run to: each ends with the next stop
 #![tactic(auto)]
 
-pub mod arrival;
-pub mod cause;
+mod arrival;
+mod cause;
 pub mod laws;
-pub mod names;
-pub mod rules;
+mod naming;
+mod rules;
+
+pub use arrival::Arrival;
+pub use cause::Cause;
+pub use naming::names;
+pub use rules::{Exceptions, Rules, StepKind, StepRequest};
