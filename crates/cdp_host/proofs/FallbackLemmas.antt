@@ -3,16 +3,13 @@ use Rattle.std.proofs.Common.{Result, Ok, Err, OnOk, IsOk, is_ok, if◌then◌el
 use Rattle.std.proofs.lemmas.List.{take_more}
 use Rattle.isolation.specs.Seats.{each, fallen}
 use Rattle.isolation.specs.declared.seat.Seat.{Seat}
+use Rattle.isolation.proofs.TextLemmas.{each-length}
 use Rattle.cdp_session.specs.Sessions.{Session}
 use Rattle.cdp_host.specs.Fallbacks.{HasRoom}
 use Rattle.cdp_host.specs.Watching.{losses_from}
 use Rattle.cdp_host.specs.declared.fallback.Fallback.{Fallback as Held}
 use Rattle.cdp_host.specs.declared.losses.SessionLost.{SessionLost}
 use Rattle.cdp_host.proofs.SeatLemmas.{losses-done, losses-more}
-
-pub each-length : {X : Type 0} → (f : Seat X → Seat X) (seats : List (Seat X)) → length (each f seats) ≡ length seats
-each-length f [] = refl
-each-length f (seat ∷ seats) = ap (λ n. suc n) (each-length f seats)
 
 each-here : {X : Type 0} → (f : Seat X → Seat X) (i : ℕ) (seats : List (Seat X)) (d : Seat X)
     → slice_index_or (each f seats) i (f d) ≡ f (slice_index_or seats i d)

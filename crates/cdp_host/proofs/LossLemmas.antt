@@ -1,5 +1,6 @@
 -- Owners who are told of a loss.
-use Rattle.std.proofs.Common.{◌≡◌, ℕ, zero, suc, ◌||◌, List, [], ◌∷◌, Bool, true, false, refl, ap, sym, subst, ◌∙◌}
+use Rattle.std.proofs.Common.{◌≡◌, ℕ, zero, suc, List, [], ◌∷◌, Bool, true, false, refl, ap, sym, subst, ◌∙◌}
+use Rattle.std.proofs.lemmas.Bool.{or_parts}
 use Rattle.isolation.specs.Histories.{Detach, apply, detach, with_seat}
 use Rattle.isolation.specs.Seats.{is_attached, put, put_in, seat_of, some, waits_for_report}
 use Rattle.isolation.specs.Standing.{BrokenAs, StandsAs}
@@ -9,6 +10,7 @@ use Rattle.isolation.specs.declared.seat.Seat.{Seat}
 use Rattle.isolation.specs.declared.seat.Seat.TheVariants.{Attached, Lost, Left}
 use Rattle.isolation.proofs.LongerLemmas.{call-program}
 use Rattle.isolation.proofs.BrokenLemmas.{unset-at, unset-put}
+use Rattle.isolation.proofs.SomeLemmas.{or-false}
 use Rattle.isolation.proofs.StandingLemmas.{fallen-attached, stands-detach-fallen, stands-detach-left, stands-detach-lost, whole-none}
 use Rattle.js_tree.specs.declared.script.Script.{Script}
 use Rattle.js_semantics.specs.Run.{Run}
@@ -21,14 +23,6 @@ use Rattle.cdp_host.specs.Watching.{owner_told}
 use Rattle.cdp_host.proofs.HistoryLemmas.{stands-behind, stands-broken}
 use Rattle.cdp_host.proofs.LeaveLemmas.{reseated}
 use Rattle.cdp_host.proofs.PlacedLemmas.{put-same}
-
-or-false : (a b : Bool) → a ≡ false → b ≡ false → (a || b) ≡ false
-or-false true b first second = absurd cc
-or-false false b first second = second
-
-or-parts : (a b : Bool) → (a || b) ≡ false → (a ≡ false) × (b ≡ false)
-or-parts true b is = absurd cc
-or-parts false b is = (refl, is)
 
 -- ---- one seat
 
@@ -50,9 +44,9 @@ told-gone Left gone = refl
 
 put_gone_in : (i : ℕ) (new : Seat Session) (seats : List (Seat Session)) → is_attached new ≡ false → some is_attached seats ≡ false → some is_attached (put_in i new seats) ≡ false
 put_gone_in i new [] gone none = none
-put_gone_in zero new (seat ∷ seats) gone none = or-false (is_attached new) (some is_attached seats) gone (or-parts (is_attached seat) (some is_attached seats) none).1
+put_gone_in zero new (seat ∷ seats) gone none = or-false (is_attached new) (some is_attached seats) gone (or_parts (is_attached seat) (some is_attached seats) none).1
 put_gone_in (suc i) new (seat ∷ seats) gone none =
-    let parts = or-parts (is_attached seat) (some is_attached seats) none in
+    let parts = or_parts (is_attached seat) (some is_attached seats) none in
     or-false (is_attached seat) (some is_attached (put_in i new seats)) parts.0 (put_gone_in i new seats gone parts.1)
 
 -- nor among all seats

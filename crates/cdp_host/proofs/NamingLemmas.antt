@@ -1,5 +1,5 @@
 -- Where no session may name a stop.
-use Rattle.std.proofs.Common.{◌≡◌, ℕ, ◌-◌, List, [], ◌∷◌, length, Bool, true, false, not, ◌||◌, is_some, if◌then◌else◌, Option, Some, None, refl, ap, sym, ◌∙◌}
+use Rattle.std.proofs.Common.{◌≡◌, ℕ, ◌-◌, List, [], ◌∷◌, length, Bool, true, false, not, ◌||◌, is_some, Option, Some, None, refl, ap, sym, ◌∙◌}
 use Rattle.std.specs.Option.{option_map}
 use Rattle.isolation.specs.declared.seat.Seat.{Seat}
 use Rattle.isolation.specs.declared.seat.Seat.TheVariants.{Attached, Lost, Left}
@@ -11,14 +11,11 @@ use Rattle.js_semantics.specs.State.{Frame, top_spot}
 use Rattle.js_semantics.specs.Terms.{Term}
 use Rattle.js_semantics.specs.declared.form.Mark.{Mark}
 use Rattle.js_tree.specs.declared.script.Script.{Script}
-use Rattle.stepping.specs.Causes.{stops_at_raise}
 use Rattle.stepping.specs.declared.arrival.Arrival.{Arrival}
-use Rattle.stepping.specs.declared.cause.Cause.TheVariants as causes
-use Rattle.stepping.specs.declared.rules.Exceptions.{Exceptions}
-use Rattle.stepping.specs.declared.rules.Exceptions.TheVariants as throws
 use Rattle.cdp_session.specs.Sessions.{Session}
 use Rattle.cdp_host.specs.Arrivals.{arrival_at, is_uncaught, place_at}
 use Rattle.cdp_host.specs.Ran.{may_stop, may_stop_seat}
+use Rattle.cdp_host.proofs.PartLemmas.{unraised}
 
 -- what a test for nothing says
 pub tested-none : {A : Type 0} → (o : Option A) (b : Bool) → is_some o ≡ not b → b ≡ true → o ≡ None
@@ -28,12 +25,6 @@ tested-none (Some x) b same is = let e : true ≡ false = same ∙ ap not is in 
 -- a step that arrives nowhere and raised nothing
 abbrev nowhere : ℕ → Bool → Arrival
 nowhere depth debugger = record { place = None; depth = depth; debugger = debugger; raised = None }
-
-unraised : (b : Bool) (e : Exceptions) → is_some (if b then None else if stops_at_raise e None then Some causes.Exception else None) ≡ false
-unraised true e = refl
-unraised false throws.Never = refl
-unraised false throws.Uncaught = refl
-unraised false throws.All = refl
 
 unnamed_seat : (depth : ℕ) (debugger : Bool) (seat : Seat Session) → may_stop_seat (nowhere depth debugger) seat ≡ false
 unnamed_seat depth debugger (Attached x) = unraised (not x.rules.enabled || x.rules.skip) x.rules.exceptions

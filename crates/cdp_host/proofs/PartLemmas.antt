@@ -1,5 +1,6 @@
 -- Machines in the words of programs: where they arrive, what they have printed, whether they are over, and what their steps are.
 use Rattle.std.proofs.Common.{◌≡◌, ℕ, zero, suc, ◌-◌, ◌<◌, ◌≤◌, List, [], ◌∷◌, ◌++◌, length, Bool, true, false, not, ◌||◌, is_some, if◌then◌else◌, refl, ap, sym, subst, ◌∙◌, arith, append_assoc, append-nil, Option, Some, None}
+use Rattle.std.proofs.lemmas.Bool.{or_parts}
 use Rattle.std.specs.Option.{option_map}
 use Rattle.isolation.specs.declared.seat.Seat.{Seat}
 use Rattle.isolation.specs.declared.seat.Seat.TheVariants.{Attached, Lost, Left}
@@ -72,12 +73,8 @@ arrives_by scripts (Some ends.Lost) t s kept = absurd kept
 pub arrives : (scripts : List Script) (m : Machine) (h : Heap) (taken : List (List ℕ)) → IsKept m.ended → machine_arrival scripts m ≡ arrival_of scripts (machine_run m h taken)
 arrives scripts m h taken kept = arrives_by scripts m.ended (term_of m) (state_of m (heap_world m.names h) taken) kept
 
-or_parts : (a b : Bool) → (a || b) ≡ false → (a ≡ false) × (b ≡ false)
-or_parts true b is = absurd cc
-or_parts false b is = (refl, is)
-
 -- nobody may name a stop where a program is over
-unraised : (b : Bool) (e : Exceptions) → is_some (if b then None else if stops_at_raise e None then Some causes.Exception else None) ≡ false
+pub unraised : (b : Bool) (e : Exceptions) → is_some (if b then None else if stops_at_raise e None then Some causes.Exception else None) ≡ false
 unraised true e = refl
 unraised false throws.Never = refl
 unraised false throws.Uncaught = refl

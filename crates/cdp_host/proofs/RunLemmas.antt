@@ -19,7 +19,7 @@ use Rattle.isolation.specs.declared.seat.Seat.TheVariants.{Attached, Lost, Left}
 use Rattle.isolation.proofs.FallenLemmas.{fallen-none, without-none}
 use Rattle.isolation.proofs.MadeLemmas.{made-more, made-none}
 use Rattle.isolation.proofs.BrokenLemmas.{broken-alone, broken-ran, broken-stays}
-use Rattle.isolation.proofs.StandingLemmas.{fits-ran, stands-ran}
+use Rattle.isolation.proofs.StandingLemmas.{fits-ran, none-reported, none-resumed, stands-ran}
 use Rattle.js_tree.specs.declared.script.Script.{Script}
 use Rattle.js_semantics.specs.Run.{Run}
 use Rattle.cdp_session.specs.declared.situation.Pause.{Pause}
@@ -168,35 +168,9 @@ lost-fallen s (Lost Memory true is_told ∷ seats) = lost-fallen (s + 1) seats
 lost-fallen s (Lost Memory false is_told ∷ seats) = ap (λ numbers. s ∷ numbers) (lost-fallen (s + 1) seats)
 lost-fallen s (Left ∷ seats) = lost-fallen (s + 1) seats
 
-fell-reported : {X : Type 0} → (seat : Seat X) → fell (reported seat) ≡ false
-fell-reported (Attached x) = refl
-fell-reported (Lost Overrun is_reported is_told) = refl
-fell-reported (Lost Memory is_reported is_told) = refl
-fell-reported Left = refl
-
-none-reported : {X : Type 0} → (seats : List (Seat X)) → some fell (each reported seats) ≡ false
-none-reported [] = refl
-none-reported (seat ∷ seats) = rw (fell-reported seat) (none-reported seats)
-
 -- behind a report none fell of whom no run has told
 pub reported-none : {X : Type 0} → (seats : List (Seat X)) → fallen_in (each reported seats) ≡ []
 reported-none seats = fallen-none (each reported seats) (none-reported seats)
-
-fell-kept : (X : Type 0) → (x : X) (b : Bool) → fell {X = X} (if b then Attached x else Lost Overrun false false) ≡ false
-fell-kept X x true = refl
-fell-kept X x false = refl
-
-fell-resumed : {C T Q X : Type 0} → (P : Protocol C T Q X) (seat : Seat X) → fell seat ≡ false → fell (resumed_seat P seat) ≡ false
-fell-resumed {C} {T} {Q} {X} P (Attached x) stays = fell-kept X (P.resumed x) (P.fits (P.resumed x))
-fell-resumed P (Lost loss is_reported is_told) stays = stays
-fell-resumed P Left stays = refl
-
-none-resumed : {C T Q X : Type 0} → (P : Protocol C T Q X) (seats : List (Seat X)) → some fell seats ≡ false
-    → some fell (each (resumed_seat P) seats) ≡ false
-none-resumed P [] none = refl
-none-resumed P (seat ∷ seats) none =
-    let parts = or_parts (fell seat) (some fell seats) none in
-    rw (fell-resumed P seat parts.0) (none-resumed P seats parts.1)
 
 none-resume-by : (scripts : List Script) (m : Meaning Run) (b : Bool) → some fell m.seats ≡ false
     → some fell (if b then record m { stop = None; seats = each (resumed_seat (protocol scripts)) m.seats } else m).seats ≡ false

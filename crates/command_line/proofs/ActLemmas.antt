@@ -1,5 +1,5 @@
 -- What a line does to a host that stands for a history.
-use Rattle.std.proofs.Common.{◌≡◌, ℕ, ◌+◌, List, [], ◌∷◌, ◌++◌, length, map, Bool, true, false, not, if◌then◌else◌, Option, Some, None, Result, Ok, Err, OnErr, refl, ap, sym, subst, ◌∙◌, append_assoc}
+use Rattle.std.proofs.Common.{◌≡◌, ℕ, ◌+◌, List, [], ◌∷◌, ◌++◌, length, map, Bool, true, false, not, if◌then◌else◌, Option, Some, None, refl, ap, sym, subst, ◌∙◌, append_assoc}
 use Rattle.std.proofs.lemmas.List.{map-append}
 use Rattle.std.proofs.lemmas.Option.{same_Some}
 use Rattle.std.specs.Option.{option_and_then}
@@ -226,11 +226,6 @@ run-done moment most old new steps printed texts lost state works same runs carr
     subst P is.long (ap (λ xs. Some xs) all, record { stands = stands; works = same ∙ works })
 
 -- ---- what is written of a line that was applied
-
--- what holds at an error
-pub at-error : {A E : Type 0} (r : Result A E) (P : Type 0) → P → OnErr r P
-at-error (Ok value) P holds = tt
-at-error (Err error) P holds = holds
 
 acts-output : (scripts : List Script) (input : List (List ℕ)) (wait : Bool) (history : List Entry) (o : Option Entry) (texts : List (List ℕ)) (new : HostState)
     → Acts scripts input wait history o (Some texts) new → line_output scripts (whole scripts input wait history) o ≡ joined texts

@@ -9,6 +9,7 @@ use Rattle.command_line.specs.DrillCauses.{BecauseDrill, BecauseJournalOf, Drill
 use Rattle.command_line.specs.Replays.{IsReplay, WritesReplay}
 use Rattle.command_line.specs.declared.outcome.Outcome.{Outcome}
 use Rattle.command_line.specs.declared.outcome.Outcome.TheVariants as ends
+use Rattle.script_runs.proofs.PrintingLemmas.{less-part}
 
 -- ---- the replay in memory
 
@@ -41,10 +42,6 @@ unplayed (ends.LineRefused line) n was old script is (output, replay) =
     (refl, refl, record { script = script; is = is; output = output; replay = replay })
 
 -- ---- what is written of the summary
-
--- not all of something is a first part of it
-less-part : (old new : Option (List ℕ)) (bytes : List ℕ) → GainsLess old new bytes → GainsPrefix old new bytes
-less-part old new bytes (part, rest, some, e, g) = (part, rest, e, g)
 
 pub wrote-all : (n : ℕ) (script : Script) (output text : List ℕ) (old new : Option (List ℕ)) → IsDrillScript n script → IsDrilled n script None output
     → text ≡ summary output → new ≡ gains old text → DrillsWhole n old new

@@ -1,7 +1,6 @@
 -- Hosts that want of memory in a run broke, and the seats that they keep.
-use Rattle.std.proofs.Common.{◌≡◌, ℕ, zero, suc, ◌+◌, List, [], ◌∷◌, length, Bool, true, false, ◌==◌, ◌||◌, if◌then◌else◌, None, refl, ap, sym, ◌∙◌, arith}
+use Rattle.std.proofs.Common.{◌≡◌, ℕ, zero, suc, ◌+◌, List, [], ◌∷◌, length, Bool, true, false, ◌||◌, if◌then◌else◌, None, refl, ap, sym, ◌∙◌, arith}
 use Rattle.std.proofs.lemmas.Bool.{or_parts}
-use Rattle.std.proofs.lemmas.Bool.Decides.{nat_tests}
 use Rattle.isolation.specs.Seats.{each, fallen, is_attached, is_listed, numbers_from, put, put_in, reported, seat_in, seat_of, some, waits_for_report, without, without_from}
 use Rattle.isolation.specs.Protocols.{Protocol}
 use Rattle.isolation.specs.Meanings.{Meaning, is_enabled_seat, is_paused, resume, resumed_seat, settle, with_seats}
@@ -10,7 +9,7 @@ use Rattle.isolation.specs.Runs.{mids}
 use Rattle.isolation.specs.Standing.{BrokenAs, StandsAs, broken_seat, fallen_in, fell, less}
 use Rattle.isolation.specs.declared.seat.Seat.{Seat}
 use Rattle.isolation.specs.declared.seat.Seat.TheVariants.{Attached, Lost, Left}
-use Rattle.isolation.proofs.FallenLemmas.{mids-less, without-below}
+use Rattle.isolation.proofs.FallenLemmas.{itself, mids-less, without-below}
 
 or-none : (a b : Bool) → a ≡ false → b ≡ false → (a || b) ≡ false
 or-none a b first rest = rw first rest
@@ -113,9 +112,6 @@ broken-reported (Lost loss is_reported is_told) = refl
 broken-reported Left = refl
 
 -- ---- a run that loses everybody
-
-itself : (s : ℕ) → (s == s) ≡ true
-itself s = grind (arith, nat_tests)
 
 everybody-falls : {X : Type 0} → (s : ℕ) (seats : List (Seat X))
     → each reported (without_from (numbers_from s (length seats)) s seats) ≡ each broken_seat seats

@@ -18,7 +18,7 @@ below-differs r s small = grind (arith, nat_tests, small)
 above-differs : (r s : ℕ) → r < s → (r == s) ≡ false
 above-differs r s small = grind (arith, nat_tests, small)
 
-itself : (s : ℕ) → (s == s) ≡ true
+pub itself : (s : ℕ) → (s == s) ≡ true
 itself s = grind (arith, nat_tests)
 
 unlisted-step : {X : Type 0} → (r s : ℕ) (news : List (Seat X)) (b : Bool) → r < s → is_listed (fallen_from (s + 1) news) r ≡ false
@@ -67,6 +67,12 @@ mids-from s (old ∷ olds) (new ∷ news) = mids-step s old olds news (fell new)
 -- seats without those that fell elsewhere, however many are there
 pub mids-less : {X : Type 0} → (olds news : List (Seat X)) → mids olds news ≡ without (fallen_in news) olds
 mids-less olds news = mids-from 1 olds news
+
+-- a session falls once
+pub fallen-twice : {X : Type 0} → (seat : Seat X) → fallen (fallen seat) ≡ fallen seat
+fallen-twice (Attached x) = refl
+fallen-twice (Lost loss is_reported is_told) = refl
+fallen-twice Left = refl
 
 pub mid-self : {X : Type 0} → (seat : Seat X) → mid seat seat ≡ seat
 mid-self (Attached x) = refl

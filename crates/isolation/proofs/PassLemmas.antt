@@ -10,7 +10,7 @@ use Rattle.isolation.specs.Passes.{Behind, HearsOf, HearsOn, Over, OverAll, Watc
 use Rattle.isolation.specs.declared.seat.Loss.TheVariants.{Overrun, Memory}
 use Rattle.isolation.specs.declared.seat.Seat.{Seat}
 use Rattle.isolation.specs.declared.seat.Seat.TheVariants.{Attached, Lost, Left}
-use Rattle.isolation.proofs.FallenLemmas.{mids-less}
+use Rattle.isolation.proofs.FallenLemmas.{fallen-twice, mids-less}
 
 -- ---- a step that nobody names
 
@@ -48,11 +48,6 @@ behind-passed P number moment t (old ∷ olds) (new ∷ news) (flag ∷ flags) o
     (passed-one P number moment t old new flag over.0 parts.0, behind-passed P number moment t olds news flags over.1 parts.1)
 
 -- ---- a step that the program stops at
-
-fallen-twice : {X : Type 0} → (seat : Seat X) → fallen (fallen seat) ≡ fallen seat
-fallen-twice (Attached x) = refl
-fallen-twice (Lost loss is_reported is_told) = refl
-fallen-twice Left = refl
 
 -- nothing is done to a seat that fell
 

@@ -1,5 +1,6 @@
 -- Loops that look for a seat of some kind, or for a flag that is set.
 use Rattle.std.proofs.Common.{◌≡◌, ℕ, zero, suc, ◌+◌, ◌<◌, ◌≤◌, List, [], ◌∷◌, length, take, Bool, true, false, ◌||◌, refl, ap, sym, ◌∙◌, arith, slice_index_or}
+use Rattle.std.proofs.lemmas.Bool.{or_parts}
 use Rattle.isolation.specs.Passes.{any_set}
 use Rattle.isolation.specs.Seats.{some}
 use Rattle.isolation.specs.declared.seat.Seat.{Seat}
@@ -8,13 +9,9 @@ or-true : (a : Bool) → (a || true) ≡ true
 or-true true = refl
 or-true false = refl
 
-or-false : (a b : Bool) → a ≡ false → b ≡ false → (a || b) ≡ false
+pub or-false : (a b : Bool) → a ≡ false → b ≡ false → (a || b) ≡ false
 or-false true b first second = absurd cc
 or-false false b first second = second
-
-or-parts : (a b : Bool) → (a || b) ≡ false → (a ≡ false) × (b ≡ false)
-or-parts true b is = absurd cc
-or-parts false b is = (refl, is)
 
 -- ---- seats
 
@@ -30,7 +27,7 @@ none_next : {X : Type 0} → (f : Seat X → Bool) (i : ℕ) (seats : List (Seat
 none_next f i [] d small before is = absurd (omega (arith, small))
 none_next f zero (seat ∷ seats) d small before is = or-false (f seat) false is refl
 none_next f (suc i) (seat ∷ seats) d small before is =
-    let parts = or-parts (f seat) (some f (take i seats)) before in
+    let parts = or_parts (f seat) (some f (take i seats)) before in
     or-false (f seat) (some f (take (suc i) seats)) parts.0 (none_next f i seats d (omega (arith, small)) parts.1 is)
 
 pub none-more : {X : Type 0} → (f : Seat X → Bool) (i : ℕ) (seats : List (Seat X)) (d : Seat X)
@@ -42,7 +39,7 @@ pub none-done : {X : Type 0} → (f : Seat X → Bool) (i : ℕ) (seats : List (
 none-done f i [] done before = refl
 none-done f zero (seat ∷ seats) done before = absurd (omega (arith, done))
 none-done f (suc i) (seat ∷ seats) done before =
-    let parts = or-parts (f seat) (some f (take i seats)) before in
+    let parts = or_parts (f seat) (some f (take i seats)) before in
     or-false (f seat) (some f seats) parts.0 (none-done f i seats (omega (arith, done)) parts.1)
 
 -- ---- flags
@@ -56,7 +53,7 @@ unset_next : (i : ℕ) (flags : List Bool) (d : Bool) → i < length flags → a
 unset_next i [] d small before is = absurd (omega (arith, small))
 unset_next zero (flag ∷ flags) d small before is = or-false flag false is refl
 unset_next (suc i) (flag ∷ flags) d small before is =
-    let parts = or-parts flag (any_set (take i flags)) before in
+    let parts = or_parts flag (any_set (take i flags)) before in
     or-false flag (any_set (take (suc i) flags)) parts.0 (unset_next i flags d (omega (arith, small)) parts.1 is)
 
 pub unset-more : (i : ℕ) (flags : List Bool) (d : Bool) → i < length flags → any_set (take i flags) ≡ false → slice_index_or flags i d ≡ false → any_set (take (i + 1) flags) ≡ false
@@ -66,5 +63,5 @@ pub unset-done : (i : ℕ) (flags : List Bool) → length flags ≤ i → any_se
 unset-done i [] done before = refl
 unset-done zero (flag ∷ flags) done before = absurd (omega (arith, done))
 unset-done (suc i) (flag ∷ flags) done before =
-    let parts = or-parts flag (any_set (take i flags)) before in
+    let parts = or_parts flag (any_set (take i flags)) before in
     or-false flag (any_set flags) parts.0 (unset-done i flags (omega (arith, done)) parts.1)

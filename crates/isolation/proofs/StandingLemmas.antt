@@ -11,7 +11,7 @@ use Rattle.isolation.specs.declared.seat.Loss.{Loss}
 use Rattle.isolation.specs.declared.seat.Loss.TheVariants.{Overrun, Memory}
 use Rattle.isolation.specs.declared.seat.Seat.{Seat}
 use Rattle.isolation.specs.declared.seat.Seat.TheVariants.{Attached, Lost, Left}
-use Rattle.isolation.proofs.FallenLemmas.{fallen-none, fell-at, fell-put, less-self, mid-self, mids-less, none-fallen, waits-fallen, without-none}
+use Rattle.isolation.proofs.FallenLemmas.{fallen-none, fallen-twice, fell-at, fell-put, less-self, mid-self, mids-less, none-fallen, waits-fallen, without-none}
 
 -- ---- seats, some of which fell
 
@@ -23,11 +23,6 @@ tail-same x y xs ys same = cc
 
 both-same : {X : Type 0} → (x y : Seat X) (xs ys : List (Seat X)) → x ≡ y → xs ≡ ys → x ∷ xs ≡ y ∷ ys
 both-same x y xs ys first rest = ap (λ z. z ∷ xs) first ∙ ap (λ zs. y ∷ zs) rest
-
-fallen-twice : {X : Type 0} → (seat : Seat X) → fallen (fallen seat) ≡ fallen seat
-fallen-twice (Attached x) = refl
-fallen-twice (Lost loss is_reported is_told) = refl
-fallen-twice Left = refl
 
 mid-twice-by : {X : Type 0} → (x y z : Seat X) (b d : Bool) → fell x ≡ b → fell y ≡ d → x ≡ (if b then fallen y else y)
     → y ≡ (if d then fallen z else z) → x ≡ (if b then fallen z else z)
@@ -333,7 +328,8 @@ fell-reported (Lost Overrun is_reported is_told) = refl
 fell-reported (Lost Memory is_reported is_told) = refl
 fell-reported Left = refl
 
-none-reported : {X : Type 0} → (seats : List (Seat X)) → some fell (each reported seats) ≡ false
+-- behind a report no seat is that of a session that fell
+pub none-reported : {X : Type 0} → (seats : List (Seat X)) → some fell (each reported seats) ≡ false
 none-reported [] = refl
 none-reported (seat ∷ seats) = rw (fell-reported seat) (none-reported seats)
 
@@ -346,7 +342,8 @@ fell-resumed P (Attached x) stays = fell-kept P (P.resumed x) (P.fits (P.resumed
 fell-resumed P (Lost loss is_reported is_told) stays = stays
 fell-resumed P Left stays = refl
 
-none-resumed : {C T Q X : Type 0} → (P : Protocol C T Q X) (seats : List (Seat X)) → some fell seats ≡ false
+-- nor behind a resume, where none was
+pub none-resumed : {C T Q X : Type 0} → (P : Protocol C T Q X) (seats : List (Seat X)) → some fell seats ≡ false
     → some fell (each (resumed_seat P) seats) ≡ false
 none-resumed P [] none = refl
 none-resumed P (seat ∷ seats) none =

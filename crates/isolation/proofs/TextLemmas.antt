@@ -386,7 +386,7 @@ view-away P E s a (x ∷ xs) other is =
 
 -- ---- how many sessions there were
 
-each-length : {X : Type 0} → (f : Seat X → Seat X) (seats : List (Seat X)) → length (each f seats) ≡ length seats
+pub each-length : {X : Type 0} → (f : Seat X → Seat X) (seats : List (Seat X)) → length (each f seats) ≡ length seats
 each-length f [] = refl
 each-length f (seat ∷ seats) = ap (λ n. suc n) (each-length f seats)
 

@@ -54,7 +54,7 @@ use Rattle.pure_eval.specs.Orders.{AreSameLiterals, ready_in_order}
 use Rattle.pure_eval.specs.Preparing.{IsReady}
 use Rattle.pure_eval.specs.Programs.{HasSameFunctions, IsNewSource}
 use Rattle.pure_eval.proofs.SettledTerms.{kept-settled}
-use Rattle.pure_eval.proofs.ProgramLemmas.{same-steps, behind-others, in-front}
+use Rattle.pure_eval.proofs.ProgramLemmas.{same-steps, behind-others, in-front, nat_true}
 
 -- ---- names that go on
 
@@ -65,9 +65,6 @@ pub further-names : (ts us vs : List (List ℕ)) → GoesOn ts us → GoesOn us 
 further-names ts us vs g h = record { more = g.more ++ h.more; is = h.is ∙ ap (λ xs. xs ++ h.more) g.is ∙ append_assoc ts g.more h.more }
 
 -- ---- sources that stand below a number
-
-nat_true : (m n : ℕ) → nat_eq m n ≡ true → m ≡ n
-nat_true m n e = grind arith
 
 apart_if : (b : Bool) (k m : ℕ) → nat_eq k m ≡ b → k < m → b ≡ false
 apart_if true k m e h =
@@ -166,7 +163,7 @@ evaluate_by w x z us order ls u e r j k same f g h =
 pub next-same : (ts : List (List ℕ)) (h : Heap) → next_kept (space_of ts h) ≡ Scratch (length h.cells)
 next-same ts h = ap (λ n. Scratch n) (cells-length ts h.cells)
 
-source_same : (a b : Addr) (x y : Term) → a ≡ b → x ≡ y → kept_tree_at a x ≡ kept_tree_at b y
+pub source_same : (a b : Addr) (x y : Term) → a ≡ b → x ≡ y → kept_tree_at a x ≡ kept_tree_at b y
 source_same a b x y e f = ap (λ c. kept_tree_at c x) e ∙ ap (kept_tree_at b) f
 
 pub behind-is : (at : Addr) (h : Heap) (from n : ℕ) → at ≡ next_of h → IsBehind at from n → (from ≤ length h.cells) × (n ≡ length h.cells + 1)

@@ -32,7 +32,7 @@ use Rattle.pure_eval.specs.Preparing.{IsReady}
 use Rattle.pure_eval.specs.Returning.{WentOn, WentOnAfter, IsCode, CodeAfter}
 use Rattle.pure_eval.specs.Working.{IsWorking, IsOpen, is_given_up}
 use Rattle.pure_eval.specs.Workspaces.{Opened, opened_of, source_kept, EvaluatesTo}
-use Rattle.pure_eval.proofs.EvaluatorLemmas.{next-same, world-further, work-keeps}
+use Rattle.pure_eval.proofs.EvaluatorLemmas.{next-same, source_same, world-further, work-keeps}
 use Rattle.pure_eval.proofs.ReturnLemmas.{went-through}
 use Rattle.pure_eval.proofs.WorkspaceLemmas.{space_over, made_open, program-first}
 
@@ -120,9 +120,6 @@ open_behind old new n start m base h o q k count next p y b program space cells 
     open_same (heap_world new.names base) (heap_world old.names base) (take m.table.sources (program_of new.names new.table)) (take m.table.sources (program_of old.names old.table)) (program_of new.names new.table) p
     (space_at (space_after (over_world new.names q)) k) (space_at x k) (space_after (over_world new.names q)) y n
     (world-further old.names new.names base b.went.names b.further b.known) first (ap (λ z. space_at z k) there ∙ cells_stay x y k b.there cells) program there
-
-source_same : (a b : Addr) (x y : Term) → a ≡ b → x ≡ y → kept_tree_at a x ≡ kept_tree_at b y
-source_same a b x y e f = ap (λ c. kept_tree_at c x) e ∙ ap (kept_tree_at b) f
 
 source_is : (ts : List (List ℕ)) (g : Heap) (x : ScratchSpace) (t : Term) (e : Made) → space_of ts g ≡ x → t ≡ kept_tree (next_kept x) e → kept_tree_at (next_of g) t ≡ source_kept x e
 source_is ts g x t e f h = source_same (next_of g) (next_kept x) t (kept_tree (next_kept x) e) (sym (next-same ts g) ∙ ap next_kept f) h

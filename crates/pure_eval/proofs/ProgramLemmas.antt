@@ -75,7 +75,7 @@ same-steps (suc k) p q scope r h = ap (steps_in k p scope) (same_step p q h scop
 
 -- ---- a source behind the others
 
-nat_true : (m n : ℕ) → nat_eq m n ≡ true → m ≡ n
+pub nat_true : (m n : ℕ) → nat_eq m n ≡ true → m ≡ n
 nat_true m n e = grind arith
 
 nat_same : (m : ℕ) → nat_eq m m ≡ true

@@ -6,6 +6,7 @@ use Rattle.std.proofs.lemmas.Slice.Eq.{bytes_eq-Decides}
 use Rattle.std.proofs.lemmas.Bool.{ne_eqb}
 use Rattle.std.proofs.lemmas.Grind.{common_steps}
 use Rattle.std.proofs.lemmas.List.{get_or-take, drop_more, take_all, take-append-drop}
+use Rattle.std.proofs.lemmas.Option.{same_Some}
 use Rattle.cdp_text.specs.Decimal.{decimal_value}
 use Rattle.cdp_text.specs.Parts.{Halves, halves}
 use Rattle.cdp_text.proofs.Decimals.{decimal_value-some, decimal_value-decimal}
@@ -30,9 +31,6 @@ halves-at text i h lacks e =
 pub id_halves : (session : ℕ) (text : List ℕ) (number : ℕ) → session < 2 ^ 64 → IsObjectId session text number
     → halves 46 text ≡ Some record { front = decimal session; back = decimal number }
 id_halves session text number small id = rw id.written (halves-decimal session 46 (decimal number) small (λ digit. omega arith))
-
-same_Some : {A : Type 0} (x y : A) → Some x ≡ Some y → x ≡ y
-same_Some x y e = cc
 
 id_parts : (session : ℕ) (text : List ℕ) (number : ℕ) (parts : Halves) → session < 2 ^ 64 → halves 46 text ≡ Some parts → IsObjectId session text number
     → parts ≡ record { front = decimal session; back = decimal number }

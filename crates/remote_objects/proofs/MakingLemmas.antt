@@ -2,6 +2,7 @@
 use Rattle.std.proofs.Common.{◌≡◌, ℕ, suc, ◌+◌, List, [], ◌∷◌, ◌++◌, drop, sym, ap, ◌∙◌, subst, add-one, append_assoc}
 use Rattle.std.specs.Prelude.{map, slice_get, Some, zero}
 use Rattle.std.proofs.lemmas.List.{map-append}
+use Rattle.std.proofs.lemmas.Option.{same_Some}
 use Rattle.object_groups.specs.Handles.{State}
 use Rattle.js_heap.specs.declared.cell.Property.{Property}
 use Rattle.cdp_json.specs.Json as json
@@ -36,9 +37,6 @@ goes-on {Y} f ys y rest done all j h g whole e a b d inv =
     }
 
 -- ---- a list that is asked for each of its places
-
-same_Some : {A : Type 0} (x y : A) → Some x ≡ Some y → x ≡ y
-same_Some x y e = cc
 
 pub got-here : {X : Type 0} (xs : List X) (i : ℕ) (x : X) → Some x ≡ slice_get xs i → drop i xs ≡ x ∷ drop (suc i) xs
 got-here [] i x e = cc

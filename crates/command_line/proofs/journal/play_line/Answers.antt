@@ -1,6 +1,7 @@
 use Rattle.std.proofs.Common.{map, string_bytes, refl, ap, ◌∙◌, sym}
 use Rattle.cdp_edge.specs.Outside.{gains}
-use Rattle.command_line.proofs.ActLemmas.{at-error, less-as, offers, part-as, plays, refuses}
+use Rattle.cdp_host.proofs.RunLemmas.{at-error}
+use Rattle.command_line.proofs.ActLemmas.{less-as, offers, part-as, plays, refuses}
 use Rattle.cdp_journal.specs.LineRead.{line_held}
 use Rattle.command_line.specs.Output.{joined}
 use Rattle.command_line.proofs.journal.play_line.Goals as goal
