@@ -1,5 +1,5 @@
 -- A run as the code holds it.
-use Rattle.cdp_journal.specs.declared.summary.Ran.{Ran as Held}
+use Rattle.cdp_journal.specs.declared.summaries.Ran.{Ran as Held}
 use Rattle.cdp_journal.specs.Summaries.{Ran}
 
 -- the run that is held

@@ -5,7 +5,7 @@ ghost use Rattle.cdp_text.specs.Lines.{ended};
 ghost use Rattle.cdp_journal.specs.Lines.{Tell, line_text};
 ghost use Rattle.cdp_journal.specs.Drills.{breakpoint_told, command_told, drill_closing, drill_journal, drill_opening, drill_source, drill_turn, evens};
 
-use crate::escape::escape;
+use crate::escapes::escape;
 use std::alloc::{AllocError, Global};
 
 /// The greatest number of steps of a run.

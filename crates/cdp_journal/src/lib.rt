@@ -10,9 +10,14 @@
 //! - *tally*, *summary*: what lines of output come to, and the text that tells it
 #![tactic(auto)]
 
-pub mod drill;
-pub mod escape;
+mod drill;
+mod escapes;
 pub mod laws;
-pub mod line;
+mod line;
 mod parts;
-pub mod summary;
+mod summaries;
+
+pub use drill::{drill_journal, drill_source};
+pub use escapes::{escape, unescape};
+pub use line::{Line, read_line};
+pub use summaries::summary;

@@ -6,7 +6,7 @@ ghost use Rattle.cdp_text.specs.Parts.{Halves};
 ghost use Rattle.cdp_journal.specs.Lines.{Line as Meant, IsLine, IsInForm, line_text, line_of, line_of_text, line_of_words, tell_rest, take_rest, detach_rest, run_rest, tell_at, tell_text};
 ghost use Rattle.cdp_journal.specs.LineRead.{line_held};
 
-use crate::escape::unescape;
+use crate::escapes::unescape;
 use cdp_text::decimal::read_decimal;
 use cdp_text::parts::{behind, halves};
 use std::alloc::{AllocError, Global};

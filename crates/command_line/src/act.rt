@@ -17,7 +17,7 @@ use crate::output::{
     attached_line, overrun_line, printed_lines, push_overruns, ran_line, sent_lines,
 };
 use cdp_host::{Host, SessionLost, Told};
-use cdp_journal::line::Line;
+use cdp_journal::Line;
 use isolation::Loss;
 use std::alloc::{AllocError, Global};
 

@@ -15,7 +15,7 @@ ghost use Rattle.command_line.specs.Replays.{WritesLess, WritesPart, WritesRepla
 use crate::act::act;
 use cdp_edge::{Sink, SinkFault, put};
 use cdp_host::Host;
-use cdp_journal::line::read_line;
+use cdp_journal::read_line;
 use cdp_text::lines::cut_line;
 use cdp_text::units::Units;
 use js_tree::script::Script;

@@ -5,7 +5,7 @@ ghost use Rattle.cdp_host.specs.declared.state.State.{State};
 ghost use Rattle.command_line.specs.Output.{Attached, To, Out, Overran, RanTo, output_text, overrun_in, state_name};
 
 use cdp_host::{SessionLost, State};
-use cdp_journal::escape::escape;
+use cdp_journal::escape;
 use cdp_text::units::{Units, text_of};
 use isolation::Loss;
 use std::alloc::{AllocError, Global};

@@ -1,6 +1,6 @@
 use Rattle.std.proofs.Common.{rules}
 use Rattle.cdp_journal.proofs.EscapeLemmas.{char-plain}
-use Rattle.cdp_journal.proofs.escape.push_escaped.Goals as goal
+use Rattle.cdp_journal.proofs.escapes.push_escaped.Goals as goal
 
 pub returns-else-character-eq13 : goal.returns-else-character-eq13
 returns-else-character-eq13 c =

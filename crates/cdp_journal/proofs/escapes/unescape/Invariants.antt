@@ -2,7 +2,7 @@ use Rattle.std.proofs.Common.{length, string_bytes}
 use denote.Text.{Utf8}
 use denote.Shadow.{shadow}
 use Rattle.cdp_journal.proofs.UnescapeLemmas.{IsReadTo}
-use Rattle.cdp_journal.proofs.escape.unescape.Given as goal
+use Rattle.cdp_journal.proofs.escapes.unescape.Given as goal
 
 -- what was read so far
 abbrev pub invariant-loop-plain : goal.invariant-loop-plain

@@ -1,7 +1,7 @@
 use Rattle.std.proofs.Common.{◌≡◌, length}
 use Rattle.cdp_text.specs.Lines.{lines_of}
 use Rattle.cdp_journal.specs.Summaries.{both, tally_of}
-use Rattle.cdp_journal.proofs.summary.summary.Given as goal
+use Rattle.cdp_journal.proofs.summaries.summary.Given as goal
 
 -- what the lines so far come to, and those that are left, is what all lines come to
 abbrev pub invariant-loop-line : goal.invariant-loop-line

@@ -6,7 +6,7 @@ use Rattle.std.proofs.lemmas.List.{map-id}
 use Rattle.std.proofs.lemmas.Str.{encodes-chars}
 use Rattle.cdp_journal.specs.Escapes.{escaped}
 use Rattle.cdp_journal.proofs.EscapeLemmas.{char_escaped, escaped-all, plain-escaped}
-use Rattle.cdp_journal.proofs.escape.escape.Goals as goal
+use Rattle.cdp_journal.proofs.escapes.escape.Goals as goal
 
 pub returns-then-is_plain : goal.returns-then-is_plain
 returns-then-is_plain c = rw (plain-escaped c.args.text.now (sym c.is_plain.ensures ∙ c.if-is_plain.true)) c.from_str.ensures.ok

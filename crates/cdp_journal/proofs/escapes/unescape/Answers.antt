@@ -1,6 +1,6 @@
 use Rattle.std.proofs.Common.{rules, sym, ◌∙◌, string_bytes}
 use Rattle.cdp_journal.proofs.UnescapeLemmas.{read-start, read-none, read-next, read-end, unread-ends}
-use Rattle.cdp_journal.proofs.escape.unescape.Goals as goal
+use Rattle.cdp_journal.proofs.escapes.unescape.Goals as goal
 
 pub returns-then-has_line_end : goal.returns-then-has_line_end
 returns-then-has_line_end c = sym (unread-ends c.args.written.now (sym c.has_line_end.ensures ∙ c.if-has_line_end.true))

@@ -3,7 +3,7 @@ use Rattle.std.proofs.lemmas.Result.{IfOk-weaker}
 use Rattle.cdp_text.specs.Lines.{lines_of}
 use Rattle.cdp_journal.specs.Summaries.{both, tally_of}
 use Rattle.cdp_journal.proofs.TallyLemmas.{tally-end, tally-next, tally-room}
-use Rattle.cdp_journal.proofs.summary.summary.Goals as goal
+use Rattle.cdp_journal.proofs.summaries.summary.Goals as goal
 
 pub add-requires : goal.add-requires
 add-requires c =
