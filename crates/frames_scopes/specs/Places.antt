@@ -18,7 +18,7 @@ abbrev pub pos_in : Option Script → Mark → Pos
 pos_in None m = origin
 pos_in (Some s) m = position s.source (offset_of s.spans m)
 
--- the place that is shown of a mark in a source: what isn't in a script has none, and is shown at the beginning of script 0
+-- the place that is shown of a mark in a source; what isn't in a script has none, and is shown at the beginning of none
 abbrev pub shown_place : List Script → Source → Mark → Place
 shown_place scripts (script_source n) m = record { script = n; pos = pos_in (numbered scripts n) m }
 shown_place scripts (kept_source a) m = record { script = 0; pos = origin }

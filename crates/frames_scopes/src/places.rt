@@ -55,7 +55,8 @@ fn numbered<'m>(
     }
 }
 
-/// The place of a mark in a source, by the lines of the scripts; what isn't in a script is shown at the beginning of none.
+/// The place that is shown of a mark in a source, by the lines of the scripts; what isn't in a script is shown at the
+/// beginning of none.
 pub(crate) fn shown_place(
     scripts: &[Script],
     lines: &[LineTable],
