@@ -23,7 +23,7 @@ pub fn source_literals(alloc: Global, e: &Expr) -> Result<Vec<Units>, AllocError
     Ok(found)
 }
 
-// each of these adds the literals of a tree at the end
+/// Adds the literals of an expression at the end.
 #[cycle(added)]
 fn add_expression(e: &Expr, found: &mut Vec<Units>) -> Result<(), AllocError>
     ensures { OnOk result (found.new.items ≡ found.old.items ++ literals.expression_literals (views.expression_view e.now)) }
@@ -79,7 +79,7 @@ fn add_expression(e: &Expr, found: &mut Vec<Units>) -> Result<(), AllocError>
     }
 }
 
-// a literal at the end
+/// Adds one literal.
 fn add_literal(value: &Units, found: &mut Vec<Units>) -> Result<(), AllocError>
     ensures { OnOk result (found.new.items ≡ found.old.items ++ value.now ∷ []) }
 {
@@ -87,7 +87,7 @@ fn add_literal(value: &Units, found: &mut Vec<Units>) -> Result<(), AllocError>
     Ok(())
 }
 
-// the value of an assignment, if what it is assigned to is a target
+/// Adds those of the value of an assignment, if what it is assigned to is a target.
 #[cycle(added)]
 fn add_assigned(value: &Expr, counts: bool, found: &mut Vec<Units>) -> Result<(), AllocError>
     ensures { OnOk result (found.new.items ≡ found.old.items ++ (if counts then literals.expression_literals (views.expression_view value.now) else [])) }
@@ -99,6 +99,7 @@ fn add_assigned(value: &Expr, counts: bool, found: &mut Vec<Units>) -> Result<()
     }
 }
 
+/// Adds those of a list of expressions.
 #[cycle(added)]
 fn add_expressions(es: &Exprs, found: &mut Vec<Units>) -> Result<(), AllocError>
     ensures { OnOk result (found.new.items ≡ found.old.items ++ literals.expressions_literals (views.expressions_view es.now)) }
@@ -106,6 +107,7 @@ fn add_expressions(es: &Exprs, found: &mut Vec<Units>) -> Result<(), AllocError>
     add_expression_items(&es.items, found)
 }
 
+/// Adds those of each of these expressions, in order.
 #[cycle(added)]
 fn add_expression_items(items: &Vec<Expr>, found: &mut Vec<Units>) -> Result<(), AllocError>
     ensures { OnOk result (found.new.items ≡ found.old.items ++ literals.expressions_literals (views.expressions (map views.expression_view items.now.items))) }
@@ -116,7 +118,7 @@ fn add_expression_items(items: &Vec<Expr>, found: &mut Vec<Units>) -> Result<(),
     Ok(())
 }
 
-// an expression that may be left out
+/// Adds those of an expression that may be left out.
 #[cycle(added)]
 fn add_optional(e: &Option<Expr>, found: &mut Vec<Units>) -> Result<(), AllocError>
     ensures { OnOk result (found.new.items ≡ found.old.items ++ literals.optional_literals (views.optional_view e.now)) }
@@ -127,6 +129,7 @@ fn add_optional(e: &Option<Expr>, found: &mut Vec<Units>) -> Result<(), AllocErr
     }
 }
 
+/// Adds those of the properties of an object literal.
 #[cycle(added)]
 fn add_properties(ps: &PropertyDefinitions, found: &mut Vec<Units>) -> Result<(), AllocError>
     ensures { OnOk result (found.new.items ≡ found.old.items ++ literals.properties_literals (views.properties_view ps.now)) }
@@ -134,6 +137,7 @@ fn add_properties(ps: &PropertyDefinitions, found: &mut Vec<Units>) -> Result<()
     add_property_items(&ps.items, found)
 }
 
+/// Adds those of each of these properties, in order.
 #[cycle(added)]
 fn add_property_items(
     items: &Vec<PropertyDefinition>,
@@ -147,6 +151,7 @@ fn add_property_items(
     Ok(())
 }
 
+/// Adds those of a property.
 #[cycle(added)]
 fn add_property(p: &PropertyDefinition, found: &mut Vec<Units>) -> Result<(), AllocError>
     ensures { OnOk result (found.new.items ≡ found.old.items ++ literals.property_literals (views.property_view p.now)) }
@@ -164,6 +169,7 @@ fn add_property(p: &PropertyDefinition, found: &mut Vec<Units>) -> Result<(), Al
     }
 }
 
+/// Adds those of the name of a property.
 #[cycle(added)]
 fn add_key(key: &PropertyName, found: &mut Vec<Units>) -> Result<(), AllocError>
     ensures { OnOk result (found.new.items ≡ found.old.items ++ literals.key_literals (views.key_view key.now)) }
@@ -176,6 +182,7 @@ fn add_key(key: &PropertyName, found: &mut Vec<Units>) -> Result<(), AllocError>
     }
 }
 
+/// Adds those of a list of declarators.
 #[cycle(added)]
 fn add_declarators(ds: &Declarators, found: &mut Vec<Units>) -> Result<(), AllocError>
     ensures { OnOk result (found.new.items ≡ found.old.items ++ literals.declarators_literals (views.declarators_view ds.now)) }
@@ -183,6 +190,7 @@ fn add_declarators(ds: &Declarators, found: &mut Vec<Units>) -> Result<(), Alloc
     add_declarator_items(&ds.items, found)
 }
 
+/// Adds those of each of these declarators, in order.
 #[cycle(added)]
 fn add_declarator_items(items: &Vec<Declarator>, found: &mut Vec<Units>) -> Result<(), AllocError>
     ensures { OnOk result (found.new.items ≡ found.old.items ++ literals.declarators_literals (views.declarators (map views.declarator_view items.now.items))) }
@@ -193,6 +201,7 @@ fn add_declarator_items(items: &Vec<Declarator>, found: &mut Vec<Units>) -> Resu
     Ok(())
 }
 
+/// Adds those of a declarator.
 #[cycle(added)]
 fn add_declarator(d: &Declarator, found: &mut Vec<Units>) -> Result<(), AllocError>
     ensures { OnOk result (found.new.items ≡ found.old.items ++ literals.declarator_literals (views.declarator_view d.now)) }
@@ -200,6 +209,7 @@ fn add_declarator(d: &Declarator, found: &mut Vec<Units>) -> Result<(), AllocErr
     add_optional(&d.initializer, found)
 }
 
+/// Adds those of a statement.
 #[cycle(added)]
 fn add_statement(s: &Stmt, found: &mut Vec<Units>) -> Result<(), AllocError>
     ensures { OnOk result (found.new.items ≡ found.old.items ++ literals.statement_literals (views.statement_view s.now)) }
@@ -274,7 +284,7 @@ fn add_statement(s: &Stmt, found: &mut Vec<Units>) -> Result<(), AllocError>
     }
 }
 
-// the statement behind `else`
+/// Adds those of the statement behind `else`, if there is one.
 #[cycle(added)]
 fn add_alternate(alternate: &Option<Box<Stmt>>, found: &mut Vec<Units>) -> Result<(), AllocError>
     ensures { OnOk result (found.new.items ≡ found.old.items ++ alternate_literals alternate.now) }
@@ -285,6 +295,7 @@ fn add_alternate(alternate: &Option<Box<Stmt>>, found: &mut Vec<Units>) -> Resul
     }
 }
 
+/// Adds those of a block.
 #[cycle(added)]
 fn add_block(block: &Block, found: &mut Vec<Units>) -> Result<(), AllocError>
     ensures { OnOk result (found.new.items ≡ found.old.items ++ literals.statements_literals (views.block_view block.now)) }
@@ -292,6 +303,7 @@ fn add_block(block: &Block, found: &mut Vec<Units>) -> Result<(), AllocError>
     add_statements(&block.body, found)
 }
 
+/// Adds those of what stands behind `catch`, if anything does.
 #[cycle(added)]
 fn add_handler(handler: &Option<Catch>, found: &mut Vec<Units>) -> Result<(), AllocError>
     ensures { OnOk result (found.new.items ≡ found.old.items ++ literals.handler_literals (views.handler_view handler.now)) }
@@ -302,6 +314,7 @@ fn add_handler(handler: &Option<Catch>, found: &mut Vec<Units>) -> Result<(), Al
     }
 }
 
+/// Adds those of what stands behind `finally`, if anything does.
 #[cycle(added)]
 fn add_finalizer(finalizer: &Option<Block>, found: &mut Vec<Units>) -> Result<(), AllocError>
     ensures { OnOk result (found.new.items ≡ found.old.items ++ literals.finalizer_literals (views.finalizer_view finalizer.now)) }
@@ -312,6 +325,7 @@ fn add_finalizer(finalizer: &Option<Block>, found: &mut Vec<Units>) -> Result<()
     }
 }
 
+/// Adds those of a list of statements.
 #[cycle(added)]
 fn add_statements(ss: &Stmts, found: &mut Vec<Units>) -> Result<(), AllocError>
     ensures { OnOk result (found.new.items ≡ found.old.items ++ literals.statements_literals (views.statements_view ss.now)) }
@@ -319,6 +333,7 @@ fn add_statements(ss: &Stmts, found: &mut Vec<Units>) -> Result<(), AllocError>
     add_statement_items(&ss.items, found)
 }
 
+/// Adds those of each of these statements, in order.
 #[cycle(added)]
 fn add_statement_items(items: &Vec<Stmt>, found: &mut Vec<Units>) -> Result<(), AllocError>
     ensures { OnOk result (found.new.items ≡ found.old.items ++ literals.statements_literals (views.statements (map views.statement_view items.now.items))) }
@@ -329,7 +344,7 @@ fn add_statement_items(items: &Vec<Stmt>, found: &mut Vec<Units>) -> Result<(), 
     Ok(())
 }
 
-// a statement of a list, or the function that it declares there
+/// Adds those of a statement of a list, or of the function that it declares there.
 #[cycle(added)]
 fn add_item(s: &Stmt, found: &mut Vec<Units>) -> Result<(), AllocError>
     ensures { OnOk result (found.new.items ≡ found.old.items ++ item_literals (views.statement_view s.now)) }
@@ -338,6 +353,7 @@ fn add_item(s: &Stmt, found: &mut Vec<Units>) -> Result<(), AllocError>
     add_statement(s, found)
 }
 
+/// Adds those of the function that a statement declares in a list, if it declares one.
 #[cycle(added)]
 fn add_declared(s: &Stmt, found: &mut Vec<Units>) -> Result<(), AllocError>
     ensures { OnOk result (found.new.items ≡ found.old.items ++ literals.declared_literals (views.statement_view s.now)) }

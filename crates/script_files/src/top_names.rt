@@ -16,6 +16,7 @@ pub(crate) fn add_names(body: &Stmts, names: &mut Vec<Units>) -> Result<(), Allo
     add_statements(&body.items, names)
 }
 
+/// Adds the names that these statements declare, in order.
 fn add_statements(items: &[Stmt], names: &mut Vec<Units>) -> Result<(), AllocError>
     ensures { OnOk result (names.new.items ≡ names.old.items ++ declared_names (statements (map statement_view items.now))) }
 {
@@ -25,7 +26,7 @@ fn add_statements(items: &[Stmt], names: &mut Vec<Units>) -> Result<(), AllocErr
     Ok(())
 }
 
-// the names of one statement
+/// Adds the names that a statement declares.
 #[tactic(auto, using(crate::proofs::TopNameLemmas::statement_laws))]
 fn add_statement(statement: &Stmt, names: &mut Vec<Units>) -> Result<(), AllocError>
     ensures { OnOk result (names.new.items ≡ names.old.items ++ declared_by (statement_view statement.now)) }
@@ -57,6 +58,7 @@ fn add_statement(statement: &Stmt, names: &mut Vec<Units>) -> Result<(), AllocEr
     }
 }
 
+/// Adds the names of a list of declarators.
 #[tactic(auto, using(crate::proofs::TopNameLemmas::lists))]
 fn add_declarators(list: &Declarators, names: &mut Vec<Units>) -> Result<(), AllocError>
     ensures { OnOk result (names.new.items ≡ names.old.items ++ names_of_declarators (declarators_view list.now)) }
@@ -64,6 +66,7 @@ fn add_declarators(list: &Declarators, names: &mut Vec<Units>) -> Result<(), All
     add_each(&list.items, names)
 }
 
+/// Adds the name of each of these declarators, in order.
 fn add_each(items: &[Declarator], names: &mut Vec<Units>) -> Result<(), AllocError>
     ensures { OnOk result (names.new.items ≡ names.old.items ++ names_of_declarators (declarators (map declarator_view items.now))) }
 {
