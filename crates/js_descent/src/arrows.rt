@@ -20,6 +20,7 @@ ghost use Rattle.js_lexer.specs.declared.token.TokenKind.TheVariants as kinds;
 
 use crate::blocks::braces_at;
 use crate::expressions::assignment_below;
+use crate::limits::MOST_ROOM;
 use crate::parsed::Parsed;
 use cdp_text::units::Units;
 use js_language::expressions::{arrow, arrow_block};
@@ -37,9 +38,9 @@ use js_tree::tree::ArrowParameters;
 #[cycle(parser)]
 #[tactic(auto, unfolding(js_syntax::specs::Parsing::arrow_of_one))]
 pub fn arrow_of_one<'t, 's>(nodes: &mut Nodes, room: u32, tokens: &'t [Token<'s>]) -> Parsed<'t, 's>
-    requires { room < 203 }
+    requires { room < MOST_ROOM }
     ensures gives { Gives (λ x. (expression_view x.0.value, tokens_view x.2.now)) result (reading.arrow_of_one (below room) (tokens_view tokens.now)) }
-    ensures deep { IfOk result (λ x. (x.1 ≡ height (expression_view x.0.value)) × (x.1 ≤ room + 1)) }
+    ensures height { IfOk result (λ x. (x.1 ≡ height (expression_view x.0.value)) × (x.1 ≤ room + 1)) }
     ensures placed { IfOk result (λ x. Placed true nodes.old nodes.new (expression_places x.0.value) (tokens_view tokens.now) (tokens_view x.2.now)) }
 {
     let (text, rest) = name_at(tokens)?;
@@ -58,9 +59,9 @@ pub fn arrow_of_list<'t, 's>(
     only: bool,
     tokens: &'t [Token<'s>],
 ) -> Parsed<'t, 's>
-    requires { room < 203 }
+    requires { room < MOST_ROOM }
     ensures gives { Gives (λ x. (expression_view x.0.value, tokens_view x.2.now)) result (reading.arrow_of_list (below room) only (tokens_view tokens.now)) }
-    ensures deep { IfOk result (λ x. (x.1 ≡ height (expression_view x.0.value)) × (x.1 ≤ room + 1)) }
+    ensures height { IfOk result (λ x. (x.1 ≡ height (expression_view x.0.value)) × (x.1 ≤ room + 1)) }
     ensures placed { IfOk result (λ x. Placed true nodes.old nodes.new (expression_places x.0.value) (tokens_view tokens.now) (tokens_view x.2.now)) }
 {
     let rest = expect(TokenKind::LeftParenthesis, tokens)?;
@@ -86,9 +87,9 @@ fn arrow_of_names<'t, 's>(
     start: &[Token<'s>],
     tokens: &'t [Token<'s>],
 ) -> Parsed<'t, 's>
-    requires { room < 203 }
+    requires { room < MOST_ROOM }
     ensures gives { Gives (λ x. (expression_view x.0.value, tokens_view x.2.now)) result (reading.arrow_of_names (below room) only (texts names.now) (tokens_view tokens.now)) }
-    ensures deep { IfOk result (λ x. (x.1 ≡ height (expression_view x.0.value)) × (x.1 ≤ room + 1)) }
+    ensures height { IfOk result (λ x. (x.1 ≡ height (expression_view x.0.value)) × (x.1 ≤ room + 1)) }
     ensures placed { (old : List Span) → Placed true old nodes.old (plain (flat_parameters (texts names.now))) (tokens_view start.now) (tokens_view tokens.now) → IfOk result (λ x. Placed true old nodes.new (expression_places x.0.value) (tokens_view start.now) (tokens_view x.2.now)) }
 {
     let mut taken = NameSet::new(nodes.alloc());
@@ -111,10 +112,10 @@ pub fn arrow_rest<'t, 's>(
     start: &[Token<'s>],
     tokens: &'t [Token<'s>],
 ) -> Parsed<'t, 's>
-    requires room { room < 203 }
+    requires room { room < MOST_ROOM }
     requires taken { taken ≡ with_names [] (names_of_parameters (parameters_view parameters)) }
     ensures gives { Gives (λ x. (expression_view x.0.value, tokens_view x.2.now)) result (reading.arrow_rest (below room) (parameters_view parameters) (names_of_parameters (parameters_view parameters)) (tokens_view tokens.now)) }
-    ensures deep { IfOk result (λ x. (x.1 ≡ height (expression_view x.0.value)) × (x.1 ≤ room + 1)) }
+    ensures height { IfOk result (λ x. (x.1 ≡ height (expression_view x.0.value)) × (x.1 ≤ room + 1)) }
     ensures placed { (old : List Span) → Placed true old nodes.old (plain (flat_arrow_parameters (parameters_view parameters))) (tokens_view start.now) (tokens_view tokens.now) → IfOk result (λ x. Placed true old nodes.new (expression_places x.0.value) (tokens_view start.now) (tokens_view x.2.now)) }
 {
     let rest = expect_near(TokenKind::Arrow, tokens)?;
@@ -138,10 +139,10 @@ fn arrow_block_at<'t, 's>(
     start: &[Token<'s>],
     tokens: &'t [Token<'s>],
 ) -> Parsed<'t, 's>
-    requires room { room < 203 }
+    requires room { room < MOST_ROOM }
     requires taken { taken ≡ with_names [] (names_of_parameters (parameters_view parameters)) }
     ensures gives { Gives (λ x. (expression_view x.0.value, tokens_view x.2.now)) result (reading.arrow_body_by (below room) (parameters_view parameters) (names_of_parameters (parameters_view parameters)) true (tokens_view tokens.now)) }
-    ensures deep { IfOk result (λ x. (x.1 ≡ height (expression_view x.0.value)) × (x.1 ≤ room + 1)) }
+    ensures height { IfOk result (λ x. (x.1 ≡ height (expression_view x.0.value)) × (x.1 ≤ room + 1)) }
     ensures placed { (old : List Span) → Placed true old nodes.old (in_turn (plain (flat_arrow_parameters (parameters_view parameters)) ∷ plain (a kinds.Arrow) ∷ [])) (tokens_view start.now) (tokens_view tokens.now) → IfOk result (λ x. Placed true old nodes.new (expression_places x.0.value) (tokens_view start.now) (tokens_view x.2.now)) }
 {
     let (body, height, rest) = braces_at(nodes, room, Context::function_body(), taken, tokens)?;

@@ -14,6 +14,7 @@ ghost use Rattle.js_syntax.specs.Placed.{Placed};
 ghost use Rattle.js_language.specs.Flat.{flat_parameters};
 
 use crate::declarations::item_below;
+use crate::limits::MOST_ROOM;
 use crate::parsed::{FunctionParts, ParsedBlock, ParsedFunction, ParsedStatements, deeper};
 use js_language::parts::{block, statements_of};
 use js_lexer::token::{Token, TokenKind};
@@ -35,9 +36,9 @@ pub fn block_below<'t, 's>(
     names: NameSet<'s>,
     tokens: &'t [Token<'s>],
 ) -> ParsedBlock<'t, 's>
-    requires { room ≤ 203 }
+    requires { room ≤ MOST_ROOM }
     ensures gives { Gives (λ x. (block_view x.0, tokens_view x.2.now)) result ((below room).block (context_view context) names.entry (tokens_view tokens.now)) }
-    ensures deep { IfOk result (λ x. (x.1 ≡ suc (height_of_statements (block_view x.0))) × (x.1 ≤ room)) }
+    ensures height { IfOk result (λ x. (x.1 ≡ suc (height_of_statements (block_view x.0))) × (x.1 ≤ room)) }
     ensures placed { IfOk result (λ x. Placed true nodes.old nodes.new (block_places x.0) (tokens_view tokens.now) (tokens_view x.2.now)) }
 {
     if room == 0 {
@@ -56,9 +57,9 @@ pub fn function_below<'t, 's>(
     room: u32,
     tokens: &'t [Token<'s>],
 ) -> ParsedFunction<'t, 's>
-    requires { room ≤ 203 }
+    requires { room ≤ MOST_ROOM }
     ensures gives { Gives (λ x. (function_view x.0, tokens_view x.2.now)) result ((below room).function (tokens_view tokens.now)) }
-    ensures deep { IfOk result (λ x. (x.1 ≡ height_of_statements (statements_view x.0.body)) × (x.1 < room)) }
+    ensures height { IfOk result (λ x. (x.1 ≡ height_of_statements (statements_view x.0.body)) × (x.1 < room)) }
     ensures placed { IfOk result (λ x. Placed true nodes.old nodes.new (in_turn (plain (flat_parameters x.0.parameters) ∷ in_braces (statements_places x.0.body) ∷ [])) (tokens_view tokens.now) (tokens_view x.2.now)) }
 {
     if room == 0 {
@@ -77,9 +78,9 @@ pub fn items_at<'t, 's>(
     names: NameSet<'s>,
     tokens: &'t [Token<'s>],
 ) -> ParsedStatements<'t, 's>
-    requires { room ≤ 203 }
+    requires { room ≤ MOST_ROOM }
     ensures gives { Gives (λ x. (statements_view x.0, tokens_view x.2.now)) result (productions.items_at (below room) (context_view context) names.entry (tokens_view tokens.now)) }
-    ensures deep { IfOk result (λ x. (x.1 ≡ height_of_statements (statements_view x.0)) × (x.1 ≤ room)) }
+    ensures height { IfOk result (λ x. (x.1 ≡ height_of_statements (statements_view x.0)) × (x.1 ≤ room)) }
     ensures placed { IfOk result (λ x. Placed false nodes.old nodes.new (statements_places x.0) (tokens_view tokens.now) (tokens_view x.2.now)) }
 {
     let mut names = names;
@@ -104,9 +105,9 @@ pub fn braces_at<'t, 's>(
     names: NameSet<'s>,
     tokens: &'t [Token<'s>],
 ) -> ParsedStatements<'t, 's>
-    requires { room < 203 }
+    requires { room < MOST_ROOM }
     ensures gives { Gives (λ x. (statements_view x.0, tokens_view x.2.now)) result (productions.braces (below room) (context_view context) names.entry (tokens_view tokens.now)) }
-    ensures deep { IfOk result (λ x. (x.1 ≡ height_of_statements (statements_view x.0)) × (x.1 ≤ room)) }
+    ensures height { IfOk result (λ x. (x.1 ≡ height_of_statements (statements_view x.0)) × (x.1 ≤ room)) }
     ensures placed { IfOk result (λ x. Placed true nodes.old nodes.new (in_braces (statements_places x.0)) (tokens_view tokens.now) (tokens_view x.2.now)) }
 {
     let rest = expect(TokenKind::LeftBrace, tokens)?;
@@ -123,9 +124,9 @@ pub fn code_at<'t, 's>(
     room: u32,
     tokens: &'t [Token<'s>],
 ) -> ParsedFunction<'t, 's>
-    requires { room < 203 }
+    requires { room < MOST_ROOM }
     ensures gives { Gives (λ x. (function_view x.0, tokens_view x.2.now)) result (productions.code_at (below room) (tokens_view tokens.now)) }
-    ensures deep { IfOk result (λ x. (x.1 ≡ height_of_statements (statements_view x.0.body)) × (x.1 ≤ room)) }
+    ensures height { IfOk result (λ x. (x.1 ≡ height_of_statements (statements_view x.0.body)) × (x.1 ≤ room)) }
     ensures placed { IfOk result (λ x. Placed true nodes.old nodes.new (in_turn (plain (flat_parameters x.0.parameters) ∷ in_braces (statements_places x.0.body) ∷ [])) (tokens_view tokens.now) (tokens_view x.2.now)) }
 {
     let (parameters, names, rest) = parameters_at(nodes.alloc(), tokens)?;

@@ -16,6 +16,7 @@ ghost use Rattle.js_tree.specs.declared.node.Span.{Span};
 ghost use Rattle.js_language.specs.Tokens.{head_of};
 
 use crate::expressions::expression_below;
+use crate::limits::MOST_ROOM;
 use crate::lists::arguments_before;
 use crate::parsed::{Parsed, deeper};
 use crate::primaries::primary_at;
@@ -33,9 +34,9 @@ use js_tree::tree::Expr;
 #[cycle(parser)]
 #[tactic(auto, unfolding(js_syntax::specs::Parsing::below))]
 pub fn call_below<'t, 's>(nodes: &mut Nodes, room: u32, tokens: &'t [Token<'s>]) -> Parsed<'t, 's>
-    requires { room ≤ 203 }
+    requires { room ≤ MOST_ROOM }
     ensures gives { Gives (λ x. (expression_view x.0.value, tokens_view x.2.now)) result ((below room).call (tokens_view tokens.now)) }
-    ensures deep { IfOk result (λ x. (x.1 ≡ height (expression_view x.0.value)) × (x.1 ≤ room)) }
+    ensures height { IfOk result (λ x. (x.1 ≡ height (expression_view x.0.value)) × (x.1 ≤ room)) }
     ensures placed { IfOk result (λ x. Placed true nodes.old nodes.new (expression_places x.0.value) (tokens_view tokens.now) (tokens_view x.2.now)) }
 {
     if room == 0 {
@@ -48,9 +49,9 @@ pub fn call_below<'t, 's>(nodes: &mut Nodes, room: u32, tokens: &'t [Token<'s>])
 #[cycle(parser)]
 #[tactic(auto, unfolding(js_syntax::specs::Parsing::call))]
 pub fn call_at<'t, 's>(nodes: &mut Nodes, room: u32, tokens: &'t [Token<'s>]) -> Parsed<'t, 's>
-    requires { room < 203 }
+    requires { room < MOST_ROOM }
     ensures gives { Gives (λ x. (expression_view x.0.value, tokens_view x.2.now)) result (reading.call (below room) room (tokens_view tokens.now)) }
-    ensures deep { IfOk result (λ x. (x.1 ≡ height (expression_view x.0.value)) × (x.1 ≤ room + 1)) }
+    ensures height { IfOk result (λ x. (x.1 ≡ height (expression_view x.0.value)) × (x.1 ≤ room + 1)) }
     ensures placed { IfOk result (λ x. Placed true nodes.old nodes.new (expression_places x.0.value) (tokens_view tokens.now) (tokens_view x.2.now)) }
 {
     let (callee, height, rest) = primary_at(nodes, room, tokens)?;
@@ -70,12 +71,12 @@ fn links_at<'t, 's>(
     start: &[Token<'s>],
     tokens: &'t [Token<'s>],
 ) -> Parsed<'t, 's>
-    requires room { room < 203 }
+    requires room { room < MOST_ROOM }
     requires few { turns ≤ room + 1 }
-    requires deep { object_height ≡ height (expression_view object.value) }
+    requires height { object_height ≡ height (expression_view object.value) }
     requires low { object_height ≤ room + 1 }
     ensures gives { Gives (λ x. (expression_view x.0.value, tokens_view x.2.now)) result (reading.links (below room) room turns (expression_view object.value) (tokens_view tokens.now)) }
-    ensures deep { IfOk result (λ x. (x.1 ≡ height (expression_view x.0.value)) × (x.1 ≤ room + 1)) }
+    ensures height { IfOk result (λ x. (x.1 ≡ height (expression_view x.0.value)) × (x.1 ≤ room + 1)) }
     ensures placed { (old : List Span) → Placed true old nodes.old (expression_places object.value) (tokens_view start.now) (tokens_view tokens.now) → IfOk result (λ x. Placed true old nodes.new (expression_places x.0.value) (tokens_view start.now) (tokens_view x.2.now)) }
 {
     if turns == 0 {
@@ -104,11 +105,11 @@ fn linked_at<'t, 's>(
     start: &[Token<'s>],
     tokens: &'t [Token<'s>],
 ) -> Parsed<'t, 's>
-    requires room { room < 203 }
-    requires deep { object_height ≡ height (expression_view object.value) }
+    requires room { room < MOST_ROOM }
+    requires height { object_height ≡ height (expression_view object.value) }
     requires low { object_height ≤ room }
     ensures gives { Gives (λ x. (expression_view x.0.value, tokens_view x.2.now)) result (reading.linked_by (below room) (expression_view object.value) (link_view (Some link)) (tokens_view tokens.now)) }
-    ensures deep { IfOk result (λ x. (x.1 ≡ height (expression_view x.0.value)) × (x.1 ≤ room + 1)) }
+    ensures height { IfOk result (λ x. (x.1 ≡ height (expression_view x.0.value)) × (x.1 ≤ room + 1)) }
     ensures placed { (old : List Span) → link_view (Some link) ≡ classes.link (head_of (tokens_view tokens.now)) → Placed true old nodes.old (expression_places object.value) (tokens_view start.now) (tokens_view tokens.now) → IfOk result (λ x. Placed true old nodes.new (expression_places x.0.value) (tokens_view start.now) (tokens_view x.2.now)) }
 {
     match link {
@@ -134,11 +135,11 @@ fn indexed_at<'t, 's>(
     start: &[Token<'s>],
     tokens: &'t [Token<'s>],
 ) -> Parsed<'t, 's>
-    requires room { room < 203 }
-    requires deep { object_height ≡ height (expression_view object.value) }
+    requires room { room < MOST_ROOM }
+    requires height { object_height ≡ height (expression_view object.value) }
     requires low { object_height ≤ room }
     ensures gives { Gives (λ x. (expression_view x.0.value, tokens_view x.2.now)) result (reading.linked_by (below room) (expression_view object.value) key (tokens_view tokens.now)) }
-    ensures deep { IfOk result (λ x. (x.1 ≡ height (expression_view x.0.value)) × (x.1 ≤ room + 1)) }
+    ensures height { IfOk result (λ x. (x.1 ≡ height (expression_view x.0.value)) × (x.1 ≤ room + 1)) }
     ensures placed { (old : List Span) → Placed true old nodes.old (expression_places object.value) (tokens_view start.now) (tokens_view tokens.now) → IfOk result (λ x. Placed true old nodes.new (expression_places x.0.value) (tokens_view start.now) (tokens_view x.2.now)) }
 {
     let rest = expect(TokenKind::LeftBracket, tokens)?;
@@ -159,11 +160,11 @@ fn called_at<'t, 's>(
     start: &[Token<'s>],
     tokens: &'t [Token<'s>],
 ) -> Parsed<'t, 's>
-    requires room { room < 203 }
-    requires deep { object_height ≡ height (expression_view object.value) }
+    requires room { room < MOST_ROOM }
+    requires height { object_height ≡ height (expression_view object.value) }
     requires low { object_height ≤ room }
     ensures gives { Gives (λ x. (expression_view x.0.value, tokens_view x.2.now)) result (reading.linked_by (below room) (expression_view object.value) classes.arguments (tokens_view tokens.now)) }
-    ensures deep { IfOk result (λ x. (x.1 ≡ height (expression_view x.0.value)) × (x.1 ≤ room + 1)) }
+    ensures height { IfOk result (λ x. (x.1 ≡ height (expression_view x.0.value)) × (x.1 ≤ room + 1)) }
     ensures placed { (old : List Span) → Placed true old nodes.old (expression_places object.value) (tokens_view start.now) (tokens_view tokens.now) → IfOk result (λ x. Placed true old nodes.new (expression_places x.0.value) (tokens_view start.now) (tokens_view x.2.now)) }
 {
     let rest = expect(TokenKind::LeftParenthesis, tokens)?;

@@ -19,6 +19,7 @@ ghost use Rattle.js_lexer.specs.declared.token.TokenKind.TheVariants as kinds;
 
 use crate::blocks::code_at;
 use crate::expressions::assignment_below;
+use crate::limits::MOST_ROOM;
 use crate::parsed::{ParsedDeclarator, ParsedDeclarators, ParsedStatement, deeper};
 use crate::statements::statement_at;
 use cdp_text::units::Units;
@@ -44,9 +45,9 @@ pub fn item_below<'t, 's>(
     names: &mut NameSet<'s>,
     tokens: &'t [Token<'s>],
 ) -> ParsedStatement<'t, 's>
-    requires { room ≤ 203 }
+    requires { room ≤ MOST_ROOM }
     ensures gives { Gives (λ x. (statement_view x.0, tokens_view x.2.now)) result ((below room).item (context_view context) names.old (tokens_view tokens.now)) }
-    ensures deep { IfOk result (λ x. (x.1 ≡ height_of_statement (statement_view x.0)) × (x.1 ≤ room)) }
+    ensures height { IfOk result (λ x. (x.1 ≡ height_of_statement (statement_view x.0)) × (x.1 ≤ room)) }
     ensures names { IfOk result (λ x. names.new ≡ productions.with_declared names.old (statement_view x.0)) }
     ensures placed { IfOk result (λ x. Placed true nodes.old nodes.new (statement_places x.0) (tokens_view tokens.now) (tokens_view x.2.now)) }
 {
@@ -66,9 +67,9 @@ pub fn item_at<'t, 's>(
     names: &mut NameSet<'s>,
     tokens: &'t [Token<'s>],
 ) -> ParsedStatement<'t, 's>
-    requires { room < 203 }
+    requires { room < MOST_ROOM }
     ensures gives { Gives (λ x. (statement_view x.0, tokens_view x.2.now)) result (reading.item (below room) (context_view context) names.old (tokens_view tokens.now)) }
-    ensures deep { IfOk result (λ x. (x.1 ≡ height_of_statement (statement_view x.0)) × (x.1 ≤ room + 1)) }
+    ensures height { IfOk result (λ x. (x.1 ≡ height_of_statement (statement_view x.0)) × (x.1 ≤ room + 1)) }
     ensures names { IfOk result (λ x. names.new ≡ productions.with_declared names.old (statement_view x.0)) }
     ensures placed { IfOk result (λ x. Placed true nodes.old nodes.new (statement_places x.0) (tokens_view tokens.now) (tokens_view x.2.now)) }
 {
@@ -95,9 +96,9 @@ fn lexical_at<'t, 's>(
     names: &mut NameSet<'s>,
     tokens: &'t [Token<'s>],
 ) -> ParsedStatement<'t, 's>
-    requires { room < 203 }
+    requires { room < MOST_ROOM }
     ensures gives { Gives (λ x. (statement_view x.0, tokens_view x.2.now)) result (reading.lexical_at (below room) constant names.old (tokens_view tokens.now)) }
-    ensures deep { IfOk result (λ x. (x.1 ≡ height_of_statement (statement_view x.0)) × (x.1 ≤ room + 1)) }
+    ensures height { IfOk result (λ x. (x.1 ≡ height_of_statement (statement_view x.0)) × (x.1 ≤ room + 1)) }
     ensures names { IfOk result (λ x. names.new ≡ productions.with_declared names.old (statement_view x.0)) }
     ensures placed { IsNext (fixed (reading.let_kind constant)) (head_of (tokens_view tokens.now)) → IfOk result (λ x. Placed true nodes.old nodes.new (statement_places x.0) (tokens_view tokens.now) (tokens_view x.2.now)) }
 {
@@ -117,9 +118,9 @@ fn declaration_at<'t, 's>(
     names: &mut NameSet<'s>,
     tokens: &'t [Token<'s>],
 ) -> ParsedStatement<'t, 's>
-    requires { room < 203 }
+    requires { room < MOST_ROOM }
     ensures gives { Gives (λ x. (statement_view x.0, tokens_view x.2.now)) result (reading.declaration_at (below room) names.old (tokens_view tokens.now)) }
-    ensures deep { IfOk result (λ x. (x.1 ≡ height_of_statement (statement_view x.0)) × (x.1 ≤ room + 1)) }
+    ensures height { IfOk result (λ x. (x.1 ≡ height_of_statement (statement_view x.0)) × (x.1 ≤ room + 1)) }
     ensures names { IfOk result (λ x. names.new ≡ productions.with_declared names.old (statement_view x.0)) }
     ensures placed { IsNext (fixed kinds.Function) (head_of (tokens_view tokens.now)) → IfOk result (λ x. Placed true nodes.old nodes.new (statement_places x.0) (tokens_view tokens.now) (tokens_view x.2.now)) }
 {
@@ -142,9 +143,9 @@ pub fn declarators_at<'t, 's>(
     names: &mut NameSet<'s>,
     tokens: &'t [Token<'s>],
 ) -> ParsedDeclarators<'t, 's>
-    requires { room < 203 }
+    requires { room < MOST_ROOM }
     ensures gives { Gives (λ x. (declarators_view x.0, tokens_view x.2.now)) result (productions.declarators_at (below room) constant names.old (tokens_view tokens.now)) }
-    ensures deep { IfOk result (λ x. (x.1 ≡ height_of_declarators (declarators_view x.0)) × (x.1 ≤ room)) }
+    ensures height { IfOk result (λ x. (x.1 ≡ height_of_declarators (declarators_view x.0)) × (x.1 ≤ room)) }
     ensures names { IfOk result (λ x. names.new ≡ with_names names.old (well.names_of_declarators (declarators_view x.0))) }
     ensures placed { IfOk result (λ x. Placed true nodes.old nodes.new (declarators_places x.0) (tokens_view tokens.now) (tokens_view x.2.now)) }
 {
@@ -171,9 +172,9 @@ fn declarator_at<'t, 's>(
     names: &mut NameSet<'s>,
     tokens: &'t [Token<'s>],
 ) -> ParsedDeclarator<'t, 's>
-    requires { room < 203 }
+    requires { room < MOST_ROOM }
     ensures gives { Gives (λ x. (declarator_view x.0, tokens_view x.2.now)) result (productions.declarator_at (below room) constant names.old (tokens_view tokens.now)) }
-    ensures deep { IfOk result (λ x. (x.1 ≡ height_of_declarator (declarator_view x.0)) × (x.1 ≤ room)) }
+    ensures height { IfOk result (λ x. (x.1 ≡ height_of_declarator (declarator_view x.0)) × (x.1 ≤ room)) }
     ensures names { IfOk result (λ x. names.new ≡ with_declarator names.old (declarator_view x.0)) }
     ensures placed { IfOk result (λ x. Placed true nodes.old nodes.new (declarator_places x.0) (tokens_view tokens.now) (tokens_view x.2.now)) }
 {

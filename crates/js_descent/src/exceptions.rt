@@ -17,6 +17,7 @@ ghost use Rattle.js_tree.specs.declared.node.Span.{Span};
 ghost use Rattle.js_language.specs.Flat.{a};
 
 use crate::blocks::block_below;
+use crate::limits::MOST_ROOM;
 use crate::parsed::{ParsedCatch, ParsedFinalizer, ParsedHandler, ParsedStatement, deeper};
 use cdp_text::units::Units;
 use js_language::parts::catch_clause;
@@ -39,9 +40,9 @@ pub fn try_at<'t, 's>(
     context: Context,
     tokens: &'t [Token<'s>],
 ) -> ParsedStatement<'t, 's>
-    requires { room < 203 }
+    requires { room < MOST_ROOM }
     ensures gives { Gives (λ x. (statement_view x.0, tokens_view x.2.now)) result (reading.try_at (below room) (context_view context) (tokens_view tokens.now)) }
-    ensures deep { IfOk result (λ x. (x.1 ≡ height_of_statement (statement_view x.0)) × (x.1 ≤ room + 1)) }
+    ensures height { IfOk result (λ x. (x.1 ≡ height_of_statement (statement_view x.0)) × (x.1 ≤ room + 1)) }
     ensures placed { IfOk result (λ x. Placed true nodes.old nodes.new (statement_places x.0) (tokens_view tokens.now) (tokens_view x.2.now)) }
 {
     let rest = expect(TokenKind::Try, tokens)?;
@@ -64,9 +65,9 @@ fn handler_at<'t, 's>(
     context: Context,
     tokens: &'t [Token<'s>],
 ) -> ParsedHandler<'t, 's>
-    requires { room < 203 }
+    requires { room < MOST_ROOM }
     ensures gives { Gives (λ x. (handler_view x.0, tokens_view x.2.now)) result (reading.handler_at (below room) (context_view context) (tokens_view tokens.now)) }
-    ensures deep { IfOk result (λ x. (x.1 ≡ height_of_handler (handler_view x.0)) × (x.1 ≤ room)) }
+    ensures height { IfOk result (λ x. (x.1 ≡ height_of_handler (handler_view x.0)) × (x.1 ≤ room)) }
     ensures placed { IfOk result (λ x. Placed false nodes.old nodes.new (handler_places x.0) (tokens_view tokens.now) (tokens_view x.2.now)) }
 {
     if !is_next(TokenKind::Catch, tokens) {
@@ -84,9 +85,9 @@ fn catch_at<'t, 's>(
     context: Context,
     tokens: &'t [Token<'s>],
 ) -> ParsedCatch<'t, 's>
-    requires { room < 203 }
+    requires { room < MOST_ROOM }
     ensures gives { Gives (λ x. (catch_view x.0, tokens_view x.2.now)) result (reading.catch_by (below room) (context_view context) (is_kind kinds.LeftParenthesis (head_of (tokens_view tokens.now))) (tokens_view tokens.now)) }
-    ensures deep { IfOk result (λ x. (x.1 ≡ height_of_handler (catch_view x.0)) × (x.1 ≤ room)) }
+    ensures height { IfOk result (λ x. (x.1 ≡ height_of_handler (catch_view x.0)) × (x.1 ≤ room)) }
     ensures placed { (old : List Span) (ts : _) → Placed true old nodes.old (plain (a kinds.Catch)) ts (tokens_view tokens.now) → IfOk result (λ x. Placed true old nodes.new (catch_places x.0) ts (tokens_view x.2.now)) }
 {
     let mut names = NameSet::new(nodes.alloc());
@@ -113,9 +114,9 @@ fn finalizer_at<'t, 's>(
     handler: &Option<Catch>,
     tokens: &'t [Token<'s>],
 ) -> ParsedFinalizer<'t, 's>
-    requires { room < 203 }
+    requires { room < MOST_ROOM }
     ensures gives { Gives (λ x. (finalizer_view x.0, tokens_view x.2.now)) result (reading.finalizer_at (below room) (context_view context) (handler_view handler.now) (tokens_view tokens.now)) }
-    ensures deep { IfOk result (λ x. (x.1 ≡ height_of_finalizer (finalizer_view x.0)) × (x.1 ≤ room)) }
+    ensures height { IfOk result (λ x. (x.1 ≡ height_of_finalizer (finalizer_view x.0)) × (x.1 ≤ room)) }
     ensures placed { IfOk result (λ x. Placed false nodes.old nodes.new (finalizer_places x.0) (tokens_view tokens.now) (tokens_view x.2.now)) }
 {
     if is_next(TokenKind::Finally, tokens) {

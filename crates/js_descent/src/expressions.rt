@@ -15,6 +15,7 @@ ghost use Rattle.js_syntax.specs.Placed.{Placed};
 ghost use Rattle.js_tree.specs.declared.node.Span.{Span};
 
 use crate::arrows::{arrow_of_list, arrow_of_one};
+use crate::limits::MOST_ROOM;
 use crate::lists::more_assignments;
 use crate::operators::operation_at;
 use crate::parsed::{Parsed, deeper};
@@ -38,9 +39,9 @@ pub fn expression_below<'t, 's>(
     room: u32,
     tokens: &'t [Token<'s>],
 ) -> Parsed<'t, 's>
-    requires { room ≤ 203 }
+    requires { room ≤ MOST_ROOM }
     ensures gives { Gives (λ x. (expression_view x.0.value, tokens_view x.2.now)) result ((below room).expression (tokens_view tokens.now)) }
-    ensures deep { IfOk result (λ x. (x.1 ≡ height (expression_view x.0.value)) × (x.1 ≤ room)) }
+    ensures height { IfOk result (λ x. (x.1 ≡ height (expression_view x.0.value)) × (x.1 ≤ room)) }
     ensures placed { IfOk result (λ x. Placed true nodes.old nodes.new (expression_places x.0.value) (tokens_view tokens.now) (tokens_view x.2.now)) }
 {
     if room == 0 {
@@ -57,9 +58,9 @@ pub fn assignment_below<'t, 's>(
     room: u32,
     tokens: &'t [Token<'s>],
 ) -> Parsed<'t, 's>
-    requires { room ≤ 203 }
+    requires { room ≤ MOST_ROOM }
     ensures gives { Gives (λ x. (expression_view x.0.value, tokens_view x.2.now)) result ((below room).assignment (tokens_view tokens.now)) }
-    ensures deep { IfOk result (λ x. (x.1 ≡ height (expression_view x.0.value)) × (x.1 ≤ room)) }
+    ensures height { IfOk result (λ x. (x.1 ≡ height (expression_view x.0.value)) × (x.1 ≤ room)) }
     ensures placed { IfOk result (λ x. Placed true nodes.old nodes.new (expression_places x.0.value) (tokens_view tokens.now) (tokens_view x.2.now)) }
 {
     if room == 0 {
@@ -76,9 +77,9 @@ pub fn expression_at<'t, 's>(
     room: u32,
     tokens: &'t [Token<'s>],
 ) -> Parsed<'t, 's>
-    requires { room < 203 }
+    requires { room < MOST_ROOM }
     ensures gives { Gives (λ x. (expression_view x.0.value, tokens_view x.2.now)) result (reading.expression (below room) room (tokens_view tokens.now)) }
-    ensures deep { IfOk result (λ x. (x.1 ≡ height (expression_view x.0.value)) × (x.1 ≤ room + 1)) }
+    ensures height { IfOk result (λ x. (x.1 ≡ height (expression_view x.0.value)) × (x.1 ≤ room + 1)) }
     ensures placed { IfOk result (λ x. Placed true nodes.old nodes.new (expression_places x.0.value) (tokens_view tokens.now) (tokens_view x.2.now)) }
 {
     let (first, height, rest) = assignment_at(nodes, room, tokens)?;
@@ -100,11 +101,11 @@ fn comma_at<'t, 's>(
     start: &[Token<'s>],
     tokens: &'t [Token<'s>],
 ) -> Parsed<'t, 's>
-    requires room { room < 203 }
-    requires deep { first_height ≡ height (expression_view first.value) }
+    requires room { room < MOST_ROOM }
+    requires height { first_height ≡ height (expression_view first.value) }
     requires low { first_height ≤ room + 1 }
     ensures gives { Gives (λ x. (expression_view x.0.value, tokens_view x.2.now)) result (reading.comma_by (below room) room (expression_view first.value) true (tokens_view tokens.now)) }
-    ensures deep { IfOk result (λ x. (x.1 ≡ height (expression_view x.0.value)) × (x.1 ≤ room + 1)) }
+    ensures height { IfOk result (λ x. (x.1 ≡ height (expression_view x.0.value)) × (x.1 ≤ room + 1)) }
     ensures placed { (old : List Span) → Placed true old nodes.old (expression_places first.value) (tokens_view start.now) (tokens_view tokens.now) → IfOk result (λ x. Placed true old nodes.new (expression_places x.0.value) (tokens_view start.now) (tokens_view x.2.now)) }
 {
     if first_height > room {
@@ -127,9 +128,9 @@ pub fn assignment_at<'t, 's>(
     room: u32,
     tokens: &'t [Token<'s>],
 ) -> Parsed<'t, 's>
-    requires { room < 203 }
+    requires { room < MOST_ROOM }
     ensures gives { Gives (λ x. (expression_view x.0.value, tokens_view x.2.now)) result (reading.assignment (below room) room (tokens_view tokens.now)) }
-    ensures deep { IfOk result (λ x. (x.1 ≡ height (expression_view x.0.value)) × (x.1 ≤ room + 1)) }
+    ensures height { IfOk result (λ x. (x.1 ≡ height (expression_view x.0.value)) × (x.1 ≤ room + 1)) }
     ensures placed { IfOk result (λ x. Placed true nodes.old nodes.new (expression_places x.0.value) (tokens_view tokens.now) (tokens_view x.2.now)) }
 {
     match arrow_head(tokens) {
@@ -153,11 +154,11 @@ fn joined_at<'t, 's>(
     start: &[Token<'s>],
     tokens: &'t [Token<'s>],
 ) -> Parsed<'t, 's>
-    requires room { room < 203 }
-    requires deep { first_height ≡ height (expression_view first.value) }
+    requires room { room < MOST_ROOM }
+    requires height { first_height ≡ height (expression_view first.value) }
     requires low { first_height ≤ room + 1 }
     ensures gives { Gives (λ x. (expression_view x.0.value, tokens_view x.2.now)) result (reading.joined (below room) room (expression_view first.value) (tokens_view tokens.now)) }
-    ensures deep { IfOk result (λ x. (x.1 ≡ height (expression_view x.0.value)) × (x.1 ≤ room + 1)) }
+    ensures height { IfOk result (λ x. (x.1 ≡ height (expression_view x.0.value)) × (x.1 ≤ room + 1)) }
     ensures placed { (old : List Span) → Placed true old nodes.old (expression_places first.value) (tokens_view start.now) (tokens_view tokens.now) → IfOk result (λ x. Placed true old nodes.new (expression_places x.0.value) (tokens_view start.now) (tokens_view x.2.now)) }
 {
     match joint_of(tokens) {
@@ -179,11 +180,11 @@ fn conditional_at<'t, 's>(
     start: &[Token<'s>],
     tokens: &'t [Token<'s>],
 ) -> Parsed<'t, 's>
-    requires room { room < 203 }
-    requires deep { first_height ≡ height (expression_view first.value) }
+    requires room { room < MOST_ROOM }
+    requires height { first_height ≡ height (expression_view first.value) }
     requires low { first_height ≤ room + 1 }
     ensures gives { Gives (λ x. (expression_view x.0.value, tokens_view x.2.now)) result (reading.joined_by (below room) room (expression_view first.value) question (tokens_view tokens.now)) }
-    ensures deep { IfOk result (λ x. (x.1 ≡ height (expression_view x.0.value)) × (x.1 ≤ room + 1)) }
+    ensures height { IfOk result (λ x. (x.1 ≡ height (expression_view x.0.value)) × (x.1 ≤ room + 1)) }
     ensures placed { (old : List Span) → Placed true old nodes.old (expression_places first.value) (tokens_view start.now) (tokens_view tokens.now) → IfOk result (λ x. Placed true old nodes.new (expression_places x.0.value) (tokens_view start.now) (tokens_view x.2.now)) }
 {
     if first_height > room {
@@ -212,11 +213,11 @@ fn assigned_at<'t, 's>(
     start: &[Token<'s>],
     tokens: &'t [Token<'s>],
 ) -> Parsed<'t, 's>
-    requires room { room < 203 }
-    requires deep { first_height ≡ height (expression_view first.value) }
+    requires room { room < MOST_ROOM }
+    requires height { first_height ≡ height (expression_view first.value) }
     requires low { first_height ≤ room + 1 }
     ensures gives { Gives (λ x. (expression_view x.0.value, tokens_view x.2.now)) result (reading.joined_by (below room) room (expression_view first.value) (assigns_by operator) (tokens_view tokens.now)) }
-    ensures deep { IfOk result (λ x. (x.1 ≡ height (expression_view x.0.value)) × (x.1 ≤ room + 1)) }
+    ensures height { IfOk result (λ x. (x.1 ≡ height (expression_view x.0.value)) × (x.1 ≤ room + 1)) }
     ensures placed { (old : List Span) → Placed true old nodes.old (expression_places first.value) (tokens_view start.now) (tokens_view tokens.now) → IfOk result (λ x. Placed true old nodes.new (expression_places x.0.value) (tokens_view start.now) (tokens_view x.2.now)) }
 {
     if !is_target(&first) {

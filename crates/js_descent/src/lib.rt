@@ -1,4 +1,13 @@
 //! The parser: a recursive descent over lent tokens.
+//!
+//! Each function reads a form at the front of the tokens, and answers its tree, the tree's height, and the tokens behind it.
+//!
+//! - `*_below` reads a tree that is at most `room` high.
+//! - `*_at` reads a form whose parts may be `room` high: it is at most one higher.
+//! - `*_before` reads a list, or what may be left out, up to the token that closes it, which is read too.
+//!
+//! The clauses: `gives` says that the answer is that of the reader of the grammar (`Gives`, `js_syntax`), `height` how high the
+//! tree is, and `placed` where its nodes stand (`Placed`, `js_syntax`).
 #![tactic(auto)]
 
 pub mod arrows;
@@ -7,6 +16,7 @@ mod calls;
 mod declarations;
 mod exceptions;
 pub mod expressions;
+pub mod limits;
 mod lists;
 mod loops;
 mod objects;

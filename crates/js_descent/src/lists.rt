@@ -19,6 +19,7 @@ ghost use Rattle.js_syntax.specs.Placed.{Placed};
 ghost use Rattle.js_lexer.specs.declared.token.TokenKind.TheVariants as kinds;
 
 use crate::expressions::assignment_below;
+use crate::limits::MOST_ROOM;
 use crate::parsed::{ParsedExpressions, ParsedItems, deeper, nothing_read};
 use js_language::parts::expressions_of;
 use js_lexer::token::{Token, TokenKind};
@@ -36,9 +37,9 @@ pub fn arguments_before<'t, 's>(
     closer: TokenKind,
     tokens: &'t [Token<'s>],
 ) -> ParsedExpressions<'t, 's>
-    requires { room < 203 }
+    requires { room < MOST_ROOM }
     ensures gives { Gives (λ x. (expressions_view x.0, tokens_view x.2.now)) result (productions.arguments_before (below room) closer (tokens_view tokens.now)) }
-    ensures deep { IfOk result (λ x. (x.1 ≡ height_of_expressions (expressions_view x.0)) × (x.1 ≤ room)) }
+    ensures height { IfOk result (λ x. (x.1 ≡ height_of_expressions (expressions_view x.0)) × (x.1 ≤ room)) }
     ensures placed { is_same_kind closer kinds.Comma ≡ false → IfOk result (λ x. Placed true nodes.old nodes.new (in_turn (expressions_places x.0 ∷ may_stand kinds.Comma ∷ plain (a closer) ∷ [])) (tokens_view tokens.now) (tokens_view x.2.now)) }
 {
     let (items, height, rest) = elements_before(nodes, room, closer, tokens)?;
@@ -53,9 +54,9 @@ fn elements_before<'t, 's>(
     closer: TokenKind,
     tokens: &'t [Token<'s>],
 ) -> ParsedItems<'t, 's>
-    requires { room < 203 }
+    requires { room < MOST_ROOM }
     ensures gives { Gives (λ x. (map expression_view x.0.items, tokens_view x.2.now)) result (elements (one_of (below room).assignment) no_state closer (suc (length (tokens_view tokens.now))) tt (tokens_view tokens.now)) }
-    ensures deep { IfOk result (λ x. (x.1 ≡ height_of_expressions (expressions (map expression_view x.0.items))) × (x.1 ≤ room)) }
+    ensures height { IfOk result (λ x. (x.1 ≡ height_of_expressions (expressions (map expression_view x.0.items))) × (x.1 ≤ room)) }
     ensures placed { is_same_kind closer kinds.Comma ≡ false → IfOk result (λ x. Placed true nodes.old nodes.new (in_turn (with_commas (map expression_places x.0.items) ∷ may_stand kinds.Comma ∷ plain (a closer) ∷ [])) (tokens_view tokens.now) (tokens_view x.2.now)) }
 {
     let mut items = Vec::new(nodes.alloc());
@@ -83,9 +84,9 @@ pub fn more_assignments<'t, 's>(
     room: u32,
     tokens: &'t [Token<'s>],
 ) -> ParsedItems<'t, 's>
-    requires { room < 203 }
+    requires { room < MOST_ROOM }
     ensures gives { Gives (λ x. (map expression_view x.0.items, tokens_view x.2.now)) result (others (one_of (below room).assignment) no_state (suc (length (tokens_view tokens.now))) tt (tokens_view tokens.now)) }
-    ensures deep { IfOk result (λ x. (x.1 ≡ height_of_expressions (expressions (map expression_view x.0.items))) × (x.1 ≤ room)) }
+    ensures height { IfOk result (λ x. (x.1 ≡ height_of_expressions (expressions (map expression_view x.0.items))) × (x.1 ≤ room)) }
     ensures placed { IfOk result (λ x. Placed false nodes.old nodes.new (behind_commas (map expression_places x.0.items)) (tokens_view tokens.now) (tokens_view x.2.now)) }
 {
     let mut items = Vec::new(nodes.alloc());

@@ -14,6 +14,7 @@ ghost use Rattle.js_syntax.specs.Placed.{Placed};
 
 use crate::declarations::declarators_at;
 use crate::expressions::{assignment_below, expression_below};
+use crate::limits::MOST_ROOM;
 use crate::parsed::{ParsedStatement, deeper};
 use crate::statements::{optional_before, statement_below};
 use cdp_text::units::Units;
@@ -39,9 +40,9 @@ pub fn do_at<'t, 's>(
     context: Context,
     tokens: &'t [Token<'s>],
 ) -> ParsedStatement<'t, 's>
-    requires { room < 203 }
+    requires { room < MOST_ROOM }
     ensures gives { Gives (λ x. (statement_view x.0, tokens_view x.2.now)) result (reading.statement_by (below room) (context_view context) classes.a_do (tokens_view tokens.now)) }
-    ensures deep { IfOk result (λ x. (x.1 ≡ height_of_statement (statement_view x.0)) × (x.1 ≤ room + 1)) }
+    ensures height { IfOk result (λ x. (x.1 ≡ height_of_statement (statement_view x.0)) × (x.1 ≤ room + 1)) }
     ensures placed { IfOk result (λ x. Placed true nodes.old nodes.new (statement_places x.0) (tokens_view tokens.now) (tokens_view x.2.now)) }
 {
     let rest = expect(TokenKind::Do, tokens)?;
@@ -64,9 +65,9 @@ pub fn while_at<'t, 's>(
     context: Context,
     tokens: &'t [Token<'s>],
 ) -> ParsedStatement<'t, 's>
-    requires { room < 203 }
+    requires { room < MOST_ROOM }
     ensures gives { Gives (λ x. (statement_view x.0, tokens_view x.2.now)) result (reading.statement_by (below room) (context_view context) classes.a_while (tokens_view tokens.now)) }
-    ensures deep { IfOk result (λ x. (x.1 ≡ height_of_statement (statement_view x.0)) × (x.1 ≤ room + 1)) }
+    ensures height { IfOk result (λ x. (x.1 ≡ height_of_statement (statement_view x.0)) × (x.1 ≤ room + 1)) }
     ensures placed { IfOk result (λ x. Placed true nodes.old nodes.new (statement_places x.0) (tokens_view tokens.now) (tokens_view x.2.now)) }
 {
     let rest = expect(TokenKind::While, tokens)?;
@@ -88,9 +89,9 @@ pub fn for_at<'t, 's>(
     context: Context,
     tokens: &'t [Token<'s>],
 ) -> ParsedStatement<'t, 's>
-    requires { room < 203 }
+    requires { room < MOST_ROOM }
     ensures gives { Gives (λ x. (statement_view x.0, tokens_view x.2.now)) result (reading.for_at (below room) (context_view context) (tokens_view tokens.now)) }
-    ensures deep { IfOk result (λ x. (x.1 ≡ height_of_statement (statement_view x.0)) × (x.1 ≤ room + 1)) }
+    ensures height { IfOk result (λ x. (x.1 ≡ height_of_statement (statement_view x.0)) × (x.1 ≤ room + 1)) }
     ensures placed { IfOk result (λ x. Placed true nodes.old nodes.new (statement_places x.0) (tokens_view tokens.now) (tokens_view x.2.now)) }
 {
     match for_head_of(tail(tail(tokens))) {
@@ -122,9 +123,9 @@ fn for_of_at<'t, 's>(
     constant: bool,
     tokens: &'t [Token<'s>],
 ) -> ParsedStatement<'t, 's>
-    requires { room < 203 }
+    requires { room < MOST_ROOM }
     ensures gives { Gives (λ x. (statement_view x.0, tokens_view x.2.now)) result (reading.for_by (below room) (context_view context) (classes.each constant) (tokens_view tokens.now)) }
-    ensures deep { IfOk result (λ x. (x.1 ≡ height_of_statement (statement_view x.0)) × (x.1 ≤ room + 1)) }
+    ensures height { IfOk result (λ x. (x.1 ≡ height_of_statement (statement_view x.0)) × (x.1 ≤ room + 1)) }
     ensures placed { IfOk result (λ x. Placed true nodes.old nodes.new (statement_places x.0) (tokens_view tokens.now) (tokens_view x.2.now)) }
 {
     let rest = expect(TokenKind::For, tokens)?;
@@ -150,9 +151,9 @@ fn for_lexical_at<'t, 's>(
     constant: bool,
     tokens: &'t [Token<'s>],
 ) -> ParsedStatement<'t, 's>
-    requires { room < 203 }
+    requires { room < MOST_ROOM }
     ensures gives { Gives (λ x. (statement_view x.0, tokens_view x.2.now)) result (reading.for_by (below room) (context_view context) (classes.declares constant) (tokens_view tokens.now)) }
-    ensures deep { IfOk result (λ x. (x.1 ≡ height_of_statement (statement_view x.0)) × (x.1 ≤ room + 1)) }
+    ensures height { IfOk result (λ x. (x.1 ≡ height_of_statement (statement_view x.0)) × (x.1 ≤ room + 1)) }
     ensures placed { IfOk result (λ x. Placed true nodes.old nodes.new (statement_places x.0) (tokens_view tokens.now) (tokens_view x.2.now)) }
 {
     let rest = expect(TokenKind::For, tokens)?;
@@ -181,9 +182,9 @@ fn for_plain_at<'t, 's>(
     context: Context,
     tokens: &'t [Token<'s>],
 ) -> ParsedStatement<'t, 's>
-    requires { room < 203 }
+    requires { room < MOST_ROOM }
     ensures gives { Gives (λ x. (statement_view x.0, tokens_view x.2.now)) result (reading.for_by (below room) (context_view context) classes.plain_head (tokens_view tokens.now)) }
-    ensures deep { IfOk result (λ x. (x.1 ≡ height_of_statement (statement_view x.0)) × (x.1 ≤ room + 1)) }
+    ensures height { IfOk result (λ x. (x.1 ≡ height_of_statement (statement_view x.0)) × (x.1 ≤ room + 1)) }
     ensures placed { IfOk result (λ x. Placed true nodes.old nodes.new (statement_places x.0) (tokens_view tokens.now) (tokens_view x.2.now)) }
 {
     let rest = expect(TokenKind::For, tokens)?;

@@ -21,6 +21,7 @@ ghost use Rattle.js_lexer.specs.declared.token.TokenKind.TheVariants as kinds;
 
 use crate::blocks::function_below;
 use crate::expressions::assignment_below;
+use crate::limits::MOST_ROOM;
 use crate::parsed::{ParsedKey, ParsedMembers, ParsedProperties, ParsedProperty, deeper};
 use cdp_text::units::Units;
 use js_language::parts::{
@@ -45,9 +46,9 @@ pub fn properties_at<'t, 's>(
     room: u32,
     tokens: &'t [Token<'s>],
 ) -> ParsedProperties<'t, 's>
-    requires { room < 203 }
+    requires { room < MOST_ROOM }
     ensures gives { Gives (λ x. (properties_view x.0, tokens_view x.2.now)) result (reading.properties_at (below room) room (tokens_view tokens.now)) }
-    ensures deep { IfOk result (λ x. (x.1 ≡ height_of_properties (properties_view x.0)) × (x.1 ≤ room)) }
+    ensures height { IfOk result (λ x. (x.1 ≡ height_of_properties (properties_view x.0)) × (x.1 ≤ room)) }
     ensures placed { IfOk result (λ x. Placed true nodes.old nodes.new (in_turn (properties_places x.0 ∷ may_stand kinds.Comma ∷ plain (a kinds.RightBrace) ∷ [])) (tokens_view tokens.now) (tokens_view x.2.now)) }
 {
     let (members, height, rest) = members_before(nodes, room, tokens)?;
@@ -61,9 +62,9 @@ fn members_before<'t, 's>(
     room: u32,
     tokens: &'t [Token<'s>],
 ) -> ParsedMembers<'t, 's>
-    requires { room < 203 }
+    requires { room < MOST_ROOM }
     ensures gives { Gives (λ x. (map property_view x.0.items, tokens_view x.2.now)) result (elements (one_of (λ r. reading.property_at (below room) room r)) no_state TokenKind.RightBrace (suc (length (tokens_view tokens.now))) tt (tokens_view tokens.now)) }
-    ensures deep { IfOk result (λ x. (x.1 ≡ height_of_properties (properties (map property_view x.0.items))) × (x.1 ≤ room)) }
+    ensures height { IfOk result (λ x. (x.1 ≡ height_of_properties (properties (map property_view x.0.items))) × (x.1 ≤ room)) }
     ensures placed { IfOk result (λ x. Placed true nodes.old nodes.new (in_turn (with_commas (map property_places x.0.items) ∷ may_stand kinds.Comma ∷ plain (a kinds.RightBrace) ∷ [])) (tokens_view tokens.now) (tokens_view x.2.now)) }
 {
     let mut members = Vec::new(nodes.alloc());
@@ -92,9 +93,9 @@ fn property_at<'t, 's>(
     room: u32,
     tokens: &'t [Token<'s>],
 ) -> ParsedProperty<'t, 's>
-    requires { room < 203 }
+    requires { room < MOST_ROOM }
     ensures gives { Gives (λ x. (property_view x.0, tokens_view x.2.now)) result (reading.property_at (below room) room (tokens_view tokens.now)) }
-    ensures deep { IfOk result (λ x. (x.1 ≡ height_of_property (property_view x.0)) × (x.1 ≤ room)) }
+    ensures height { IfOk result (λ x. (x.1 ≡ height_of_property (property_view x.0)) × (x.1 ≤ room)) }
     ensures placed { IfOk result (λ x. Placed true nodes.old nodes.new (property_places x.0) (tokens_view tokens.now) (tokens_view x.2.now)) }
 {
     if is_shorthand(tokens) {
@@ -120,11 +121,11 @@ fn valued_at<'t, 's>(
     key_height: u32,
     tokens: &'t [Token<'s>],
 ) -> ParsedProperty<'t, 's>
-    requires room { room < 203 }
-    requires deep { key_height ≡ height_of_key (key_view key.value) }
+    requires room { room < MOST_ROOM }
+    requires height { key_height ≡ height_of_key (key_view key.value) }
     requires low { key_height ≤ room }
     ensures gives { Gives (λ x. (property_view x.0, tokens_view x.2.now)) result (reading.member_by (below room) room (key_view key.value) classes.colon (tokens_view tokens.now)) }
-    ensures deep { IfOk result (λ x. (x.1 ≡ height_of_property (property_view x.0)) × (x.1 ≤ room)) }
+    ensures height { IfOk result (λ x. (x.1 ≡ height_of_property (property_view x.0)) × (x.1 ≤ room)) }
     ensures placed { (old : List Span) (ts : _) → Placed true old nodes.old (key_places key.value) ts (tokens_view tokens.now) → IfOk result (λ x. Placed true old nodes.new (property_places x.0) ts (tokens_view x.2.now)) }
 {
     let rest = expect(TokenKind::Colon, tokens)?;
@@ -142,11 +143,11 @@ fn method_at<'t, 's>(
     start: &[Token<'s>],
     tokens: &'t [Token<'s>],
 ) -> ParsedProperty<'t, 's>
-    requires room { room < 203 }
-    requires deep { key_height ≡ height_of_key (key_view key.value) }
+    requires room { room < MOST_ROOM }
+    requires height { key_height ≡ height_of_key (key_view key.value) }
     requires low { key_height ≤ room }
     ensures gives { Gives (λ x. (property_view x.0, tokens_view x.2.now)) result (reading.member_by (below room) room (key_view key.value) classes.parameters (tokens_view tokens.now)) }
-    ensures deep { IfOk result (λ x. (x.1 ≡ height_of_property (property_view x.0)) × (x.1 ≤ room)) }
+    ensures height { IfOk result (λ x. (x.1 ≡ height_of_property (property_view x.0)) × (x.1 ≤ room)) }
     ensures placed { (old : List Span) → Placed true old nodes.old (key_places key.value) (tokens_view start.now) (tokens_view tokens.now) → IfOk result (λ x. Placed true old nodes.new (property_places x.0) (tokens_view start.now) (tokens_view x.2.now)) }
 {
     if key_height >= room {
@@ -164,9 +165,9 @@ fn method_at<'t, 's>(
 #[cycle(parser)]
 #[tactic(auto, unfolding(js_syntax::specs::Parsing::key_at))]
 fn key_at<'t, 's>(nodes: &mut Nodes, room: u32, tokens: &'t [Token<'s>]) -> ParsedKey<'t, 's>
-    requires { room < 203 }
+    requires { room < MOST_ROOM }
     ensures gives { Gives (λ x. (key_view x.0, tokens_view x.2.now)) result (reading.key_at (below room) (tokens_view tokens.now)) }
-    ensures deep { IfOk result (λ x. (x.1 ≡ height_of_key (key_view x.0)) × (x.1 ≤ room)) }
+    ensures height { IfOk result (λ x. (x.1 ≡ height_of_key (key_view x.0)) × (x.1 ≤ room)) }
     ensures placed { IfOk result (λ x. Placed true nodes.old nodes.new (key_places x.0) (tokens_view tokens.now) (tokens_view x.2.now)) }
 {
     match key_start_of(tokens) {

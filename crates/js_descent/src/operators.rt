@@ -17,6 +17,7 @@ ghost use Rattle.js_language.specs.Flat.{update_kind};
 ghost use Rattle.js_lexer.specs.declared.token.TokenKind.TheVariants as kinds;
 
 use crate::calls::{call_at, call_below};
+use crate::limits::MOST_ROOM;
 use crate::parsed::{Parsed, deeper};
 use js_language::expressions::{binary, postfix, prefix, unary};
 use js_lexer::token::Token;
@@ -37,9 +38,9 @@ pub fn operation_below<'t, 's>(
     least: u32,
     tokens: &'t [Token<'s>],
 ) -> Parsed<'t, 's>
-    requires { room ≤ 203 }
+    requires { room ≤ MOST_ROOM }
     ensures gives { Gives (λ x. (expression_view x.0.value, tokens_view x.2.now)) result ((below room).operation least (tokens_view tokens.now)) }
-    ensures deep { IfOk result (λ x. (x.1 ≡ height (expression_view x.0.value)) × (x.1 ≤ room)) }
+    ensures height { IfOk result (λ x. (x.1 ≡ height (expression_view x.0.value)) × (x.1 ≤ room)) }
     ensures placed { IfOk result (λ x. Placed true nodes.old nodes.new (expression_places x.0.value) (tokens_view tokens.now) (tokens_view x.2.now)) }
 {
     if room == 0 {
@@ -52,9 +53,9 @@ pub fn operation_below<'t, 's>(
 #[cycle(parser)]
 #[tactic(auto, unfolding(js_syntax::specs::Parsing::below))]
 pub fn unary_below<'t, 's>(nodes: &mut Nodes, room: u32, tokens: &'t [Token<'s>]) -> Parsed<'t, 's>
-    requires { room ≤ 203 }
+    requires { room ≤ MOST_ROOM }
     ensures gives { Gives (λ x. (expression_view x.0.value, tokens_view x.2.now)) result ((below room).unary (tokens_view tokens.now)) }
-    ensures deep { IfOk result (λ x. (x.1 ≡ height (expression_view x.0.value)) × (x.1 ≤ room)) }
+    ensures height { IfOk result (λ x. (x.1 ≡ height (expression_view x.0.value)) × (x.1 ≤ room)) }
     ensures placed { IfOk result (λ x. Placed true nodes.old nodes.new (expression_places x.0.value) (tokens_view tokens.now) (tokens_view x.2.now)) }
 {
     if room == 0 {
@@ -72,9 +73,9 @@ pub fn operation_at<'t, 's>(
     least: u32,
     tokens: &'t [Token<'s>],
 ) -> Parsed<'t, 's>
-    requires { room < 203 }
+    requires { room < MOST_ROOM }
     ensures gives { Gives (λ x. (expression_view x.0.value, tokens_view x.2.now)) result (reading.operation (below room) room least (tokens_view tokens.now)) }
-    ensures deep { IfOk result (λ x. (x.1 ≡ height (expression_view x.0.value)) × (x.1 ≤ room + 1)) }
+    ensures height { IfOk result (λ x. (x.1 ≡ height (expression_view x.0.value)) × (x.1 ≤ room + 1)) }
     ensures placed { IfOk result (λ x. Placed true nodes.old nodes.new (expression_places x.0.value) (tokens_view tokens.now) (tokens_view x.2.now)) }
 {
     let (left, left_height, rest) = unary_at(nodes, room, tokens)?;
@@ -115,12 +116,12 @@ fn chain_at<'t, 's>(
     start: &[Token<'s>],
     tokens: &'t [Token<'s>],
 ) -> Parsed<'t, 's>
-    requires room { room < 203 }
+    requires room { room < MOST_ROOM }
     requires few { turns ≤ room + 1 }
-    requires deep { left_height ≡ height (expression_view left.value) }
+    requires height { left_height ≡ height (expression_view left.value) }
     requires low { left_height ≤ room + 1 }
     ensures gives { Gives (λ x. (expression_view x.0.value, tokens_view x.2.now)) result (reading.chain (below room) room least turns (expression_view left.value) (tokens_view tokens.now)) }
-    ensures deep { IfOk result (λ x. (x.1 ≡ height (expression_view x.0.value)) × (x.1 ≤ room + 1)) }
+    ensures height { IfOk result (λ x. (x.1 ≡ height (expression_view x.0.value)) × (x.1 ≤ room + 1)) }
     ensures placed { (old : List Span) → Placed true old nodes.old (expression_places left.value) (tokens_view start.now) (tokens_view tokens.now) → IfOk result (λ x. Placed true old nodes.new (expression_places x.0.value) (tokens_view start.now) (tokens_view x.2.now)) }
 {
     if turns == 0 {
@@ -154,9 +155,9 @@ fn chain_at<'t, 's>(
 #[cycle(parser)]
 #[tactic(auto, unfolding(js_syntax::specs::Parsing::unary))]
 pub fn unary_at<'t, 's>(nodes: &mut Nodes, room: u32, tokens: &'t [Token<'s>]) -> Parsed<'t, 's>
-    requires { room < 203 }
+    requires { room < MOST_ROOM }
     ensures gives { Gives (λ x. (expression_view x.0.value, tokens_view x.2.now)) result (reading.unary (below room) room (tokens_view tokens.now)) }
-    ensures deep { IfOk result (λ x. (x.1 ≡ height (expression_view x.0.value)) × (x.1 ≤ room + 1)) }
+    ensures height { IfOk result (λ x. (x.1 ≡ height (expression_view x.0.value)) × (x.1 ≤ room + 1)) }
     ensures placed { IfOk result (λ x. Placed true nodes.old nodes.new (expression_places x.0.value) (tokens_view tokens.now) (tokens_view x.2.now)) }
 {
     match prefix_of(tokens) {
@@ -175,9 +176,9 @@ pub fn unary_at<'t, 's>(nodes: &mut Nodes, room: u32, tokens: &'t [Token<'s>]) -
 // `delete` with its property.
 #[cycle(parser)]
 fn deleted_at<'t, 's>(nodes: &mut Nodes, room: u32, tokens: &'t [Token<'s>]) -> Parsed<'t, 's>
-    requires { room < 203 }
+    requires { room < MOST_ROOM }
     ensures gives { Gives (λ x. (expression_view x.0.value, tokens_view x.2.now)) result (reading.unary_by (below room) room deletes (tokens_view tokens.now)) }
-    ensures deep { IfOk result (λ x. (x.1 ≡ height (expression_view x.0.value)) × (x.1 ≤ room + 1)) }
+    ensures height { IfOk result (λ x. (x.1 ≡ height (expression_view x.0.value)) × (x.1 ≤ room + 1)) }
     ensures placed { IsNext (fixed kinds.Delete) (head_of (tokens_view tokens.now)) → IfOk result (λ x. Placed true nodes.old nodes.new (expression_places x.0.value) (tokens_view tokens.now) (tokens_view x.2.now)) }
 {
     let (operand, height, rest) = call_below(nodes, room, tail(tokens))?;
@@ -197,9 +198,9 @@ fn updated_at<'t, 's>(
     operator: UpdateOperator,
     tokens: &'t [Token<'s>],
 ) -> Parsed<'t, 's>
-    requires { room < 203 }
+    requires { room < MOST_ROOM }
     ensures gives { Gives (λ x. (expression_view x.0.value, tokens_view x.2.now)) result (reading.unary_by (below room) room (an_update operator) (tokens_view tokens.now)) }
-    ensures deep { IfOk result (λ x. (x.1 ≡ height (expression_view x.0.value)) × (x.1 ≤ room + 1)) }
+    ensures height { IfOk result (λ x. (x.1 ≡ height (expression_view x.0.value)) × (x.1 ≤ room + 1)) }
     ensures placed { IsNext (fixed (update_kind operator)) (head_of (tokens_view tokens.now)) → IfOk result (λ x. Placed true nodes.old nodes.new (expression_places x.0.value) (tokens_view tokens.now) (tokens_view x.2.now)) }
 {
     let (operand, height, rest) = call_below(nodes, room, tail(tokens))?;
@@ -215,9 +216,9 @@ fn updated_at<'t, 's>(
 #[cycle(parser)]
 #[tactic(auto, unfolding(js_syntax::specs::Parsing::postfix))]
 fn postfix_at<'t, 's>(nodes: &mut Nodes, room: u32, tokens: &'t [Token<'s>]) -> Parsed<'t, 's>
-    requires { room < 203 }
+    requires { room < MOST_ROOM }
     ensures gives { Gives (λ x. (expression_view x.0.value, tokens_view x.2.now)) result (reading.postfix (below room) room (tokens_view tokens.now)) }
-    ensures deep { IfOk result (λ x. (x.1 ≡ height (expression_view x.0.value)) × (x.1 ≤ room + 1)) }
+    ensures height { IfOk result (λ x. (x.1 ≡ height (expression_view x.0.value)) × (x.1 ≤ room + 1)) }
     ensures placed { IfOk result (λ x. Placed true nodes.old nodes.new (expression_places x.0.value) (tokens_view tokens.now) (tokens_view x.2.now)) }
 {
     let (operand, height, rest) = call_at(nodes, room, tokens)?;

@@ -18,6 +18,7 @@ ghost use Rattle.js_lexer.specs.declared.token.TokenKind.TheVariants as kinds;
 
 use crate::blocks::code_at;
 use crate::expressions::expression_below;
+use crate::limits::MOST_ROOM;
 use crate::lists::arguments_before;
 use crate::objects::properties_at;
 use crate::parsed::ParsedPrimary;
@@ -42,9 +43,9 @@ pub fn primary_at<'t, 's>(
     room: u32,
     tokens: &'t [Token<'s>],
 ) -> ParsedPrimary<'t, 's>
-    requires { room < 203 }
+    requires { room < MOST_ROOM }
     ensures gives { Gives (λ x. (expression_view x.0, tokens_view x.2.now)) result (reading.primary (below room) room (tokens_view tokens.now)) }
-    ensures deep { IfOk result (λ x. (x.1 ≡ height (expression_view x.0)) × (x.1 ≤ room + 1)) }
+    ensures height { IfOk result (λ x. (x.1 ≡ height (expression_view x.0)) × (x.1 ≤ room + 1)) }
     ensures placed { IfOk result (λ x. Placed true nodes.old nodes.new (expression_places x.0) (tokens_view tokens.now) (tokens_view x.2.now)) }
 {
     match start_of(tokens) {
@@ -62,7 +63,7 @@ pub fn primary_at<'t, 's>(
 // A PrimaryExpression of one token.
 fn leaf_at<'t, 's>(nodes: &mut Nodes, tokens: &'t [Token<'s>]) -> ParsedPrimary<'t, 's>
     ensures gives { Gives (λ x. (expression_view x.0, tokens_view x.2.now)) result (leaf_by (start (head_of (tokens_view tokens.now))) (tokens_view tokens.now)) }
-    ensures deep { IfOk result (λ x. (x.1 ≡ height (expression_view x.0)) × (x.1 ≡ 1)) }
+    ensures height { IfOk result (λ x. (x.1 ≡ height (expression_view x.0)) × (x.1 ≡ 1)) }
     ensures placed { IfOk result (λ x. Placed true nodes.old nodes.new (expression_places x.0) (tokens_view tokens.now) (tokens_view x.2.now)) }
 {
     match start_of(tokens) {
@@ -103,9 +104,9 @@ fn parenthesized_at<'t, 's>(
     room: u32,
     tokens: &'t [Token<'s>],
 ) -> ParsedPrimary<'t, 's>
-    requires { room < 203 }
+    requires { room < MOST_ROOM }
     ensures gives { Gives (λ x. (expression_view x.0, tokens_view x.2.now)) result (reading.primary_by (below room) room parenthesis (tokens_view tokens.now)) }
-    ensures deep { IfOk result (λ x. (x.1 ≡ height (expression_view x.0)) × (x.1 ≤ room + 1)) }
+    ensures height { IfOk result (λ x. (x.1 ≡ height (expression_view x.0)) × (x.1 ≤ room + 1)) }
     ensures placed { IfOk result (λ x. Placed true nodes.old nodes.new (expression_places x.0) (tokens_view tokens.now) (tokens_view x.2.now)) }
 {
     let rest = expect(TokenKind::LeftParenthesis, tokens)?;
@@ -119,9 +120,9 @@ fn parenthesized_at<'t, 's>(
 // An ArrayLiteral (13.2.4).
 #[cycle(parser)]
 fn array_at<'t, 's>(nodes: &mut Nodes, room: u32, tokens: &'t [Token<'s>]) -> ParsedPrimary<'t, 's>
-    requires { room < 203 }
+    requires { room < MOST_ROOM }
     ensures gives { Gives (λ x. (expression_view x.0, tokens_view x.2.now)) result (reading.primary_by (below room) room bracket (tokens_view tokens.now)) }
-    ensures deep { IfOk result (λ x. (x.1 ≡ height (expression_view x.0)) × (x.1 ≤ room + 1)) }
+    ensures height { IfOk result (λ x. (x.1 ≡ height (expression_view x.0)) × (x.1 ≤ room + 1)) }
     ensures placed { IfOk result (λ x. Placed true nodes.old nodes.new (expression_places x.0) (tokens_view tokens.now) (tokens_view x.2.now)) }
 {
     let rest = expect(TokenKind::LeftBracket, tokens)?;
@@ -133,9 +134,9 @@ fn array_at<'t, 's>(nodes: &mut Nodes, room: u32, tokens: &'t [Token<'s>]) -> Pa
 // An ObjectLiteral (13.2.5).
 #[cycle(parser)]
 fn object_at<'t, 's>(nodes: &mut Nodes, room: u32, tokens: &'t [Token<'s>]) -> ParsedPrimary<'t, 's>
-    requires { room < 203 }
+    requires { room < MOST_ROOM }
     ensures gives { Gives (λ x. (expression_view x.0, tokens_view x.2.now)) result (reading.primary_by (below room) room brace (tokens_view tokens.now)) }
-    ensures deep { IfOk result (λ x. (x.1 ≡ height (expression_view x.0)) × (x.1 ≤ room + 1)) }
+    ensures height { IfOk result (λ x. (x.1 ≡ height (expression_view x.0)) × (x.1 ≤ room + 1)) }
     ensures placed { IsNext (fixed kinds.LeftBrace) (head_of (tokens_view tokens.now)) → IfOk result (λ x. Placed true nodes.old nodes.new (expression_places x.0) (tokens_view tokens.now) (tokens_view x.2.now)) }
 {
     let (properties, height, rest) = properties_at(nodes, room, tail(tokens))?;
@@ -152,9 +153,9 @@ pub fn function_at<'t, 's>(
     start: &[Token<'s>],
     tokens: &'t [Token<'s>],
 ) -> ParsedPrimary<'t, 's>
-    requires { room < 203 }
+    requires { room < MOST_ROOM }
     ensures gives { Gives (λ x. (expression_view x.0, tokens_view x.2.now)) result (reading.function_at (below room) (tokens_view tokens.now)) }
-    ensures deep { IfOk result (λ x. (x.1 ≡ height (expression_view x.0)) × (x.1 ≤ room + 1)) }
+    ensures height { IfOk result (λ x. (x.1 ≡ height (expression_view x.0)) × (x.1 ≤ room + 1)) }
     ensures placed { (old : List Span) → Placed true old nodes.old (plain (a kinds.Function)) (tokens_view start.now) (tokens_view tokens.now) → IfOk result (λ x. Placed true old nodes.new (expression_places x.0) (tokens_view start.now) (tokens_view x.2.now)) }
 {
     let (text, rest) = if is_name_next(tokens) {

@@ -22,6 +22,7 @@ ghost use Rattle.js_lexer.specs.declared.token.TokenKind.TheVariants as kinds;
 use crate::blocks::braces_at;
 use crate::exceptions::try_at;
 use crate::expressions::expression_below;
+use crate::limits::MOST_ROOM;
 use crate::loops::{do_at, for_at, while_at};
 use crate::parsed::{Parsed, ParsedOptional, ParsedStatement, ParsedSubstatement, deeper};
 use js_language::parts::block;
@@ -49,9 +50,9 @@ pub fn statement_below<'t, 's>(
     context: Context,
     tokens: &'t [Token<'s>],
 ) -> ParsedSubstatement<'t, 's>
-    requires { room ≤ 203 }
+    requires { room ≤ MOST_ROOM }
     ensures gives { Gives (λ x. (statement_view x.0.value, tokens_view x.2.now)) result ((below room).statement (context_view context) (tokens_view tokens.now)) }
-    ensures deep { IfOk result (λ x. (x.1 ≡ height_of_statement (statement_view x.0.value)) × (x.1 ≤ room)) }
+    ensures height { IfOk result (λ x. (x.1 ≡ height_of_statement (statement_view x.0.value)) × (x.1 ≤ room)) }
     ensures placed { IfOk result (λ x. Placed true nodes.old nodes.new (statement_places x.0.value) (tokens_view tokens.now) (tokens_view x.2.now)) }
 {
     if room == 0 {
@@ -70,9 +71,9 @@ pub fn statement_at<'t, 's>(
     context: Context,
     tokens: &'t [Token<'s>],
 ) -> ParsedStatement<'t, 's>
-    requires { room < 203 }
+    requires { room < MOST_ROOM }
     ensures gives { Gives (λ x. (statement_view x.0, tokens_view x.2.now)) result (reading.statement (below room) (context_view context) (tokens_view tokens.now)) }
-    ensures deep { IfOk result (λ x. (x.1 ≡ height_of_statement (statement_view x.0)) × (x.1 ≤ room + 1)) }
+    ensures height { IfOk result (λ x. (x.1 ≡ height_of_statement (statement_view x.0)) × (x.1 ≤ room + 1)) }
     ensures placed { IfOk result (λ x. Placed true nodes.old nodes.new (statement_places x.0) (tokens_view tokens.now) (tokens_view x.2.now)) }
 {
     match first_of(tokens) {
@@ -104,9 +105,9 @@ fn block_at<'t, 's>(
     context: Context,
     tokens: &'t [Token<'s>],
 ) -> ParsedStatement<'t, 's>
-    requires { room < 203 }
+    requires { room < MOST_ROOM }
     ensures gives { Gives (λ x. (statement_view x.0, tokens_view x.2.now)) result (reading.statement_by (below room) (context_view context) classes.a_block (tokens_view tokens.now)) }
-    ensures deep { IfOk result (λ x. (x.1 ≡ height_of_statement (statement_view x.0)) × (x.1 ≤ room + 1)) }
+    ensures height { IfOk result (λ x. (x.1 ≡ height_of_statement (statement_view x.0)) × (x.1 ≤ room + 1)) }
     ensures placed { IfOk result (λ x. Placed true nodes.old nodes.new (statement_places x.0) (tokens_view tokens.now) (tokens_view x.2.now)) }
 {
     let names = NameSet::new(nodes.alloc());
@@ -119,9 +120,9 @@ fn block_at<'t, 's>(
 #[cycle(parser)]
 #[tactic(auto, unfolding(js_syntax::specs::Productions::ended_expression))]
 fn ended_expression<'t, 's>(nodes: &mut Nodes, room: u32, tokens: &'t [Token<'s>]) -> Parsed<'t, 's>
-    requires { room < 203 }
+    requires { room < MOST_ROOM }
     ensures gives { Gives (λ x. (expression_view x.0.value, tokens_view x.2.now)) result (productions.ended_expression (below room) (tokens_view tokens.now)) }
-    ensures deep { IfOk result (λ x. (x.1 ≡ height (expression_view x.0.value)) × (x.1 ≤ room)) }
+    ensures height { IfOk result (λ x. (x.1 ≡ height (expression_view x.0.value)) × (x.1 ≤ room)) }
     ensures placed { IfOk result (λ x. Placed true nodes.old nodes.new (in_turn (expression_places x.0.value ∷ may_stand kinds.Semicolon ∷ [])) (tokens_view tokens.now) (tokens_view x.2.now)) }
 {
     let (tree, height, rest) = expression_below(nodes, room, tokens)?;
@@ -138,9 +139,9 @@ pub fn optional_before<'t, 's>(
     closer: TokenKind,
     tokens: &'t [Token<'s>],
 ) -> ParsedOptional<'t, 's>
-    requires { room < 203 }
+    requires { room < MOST_ROOM }
     ensures gives { Gives (λ x. (optional_view (unboxed x.0), tokens_view x.2.now)) result (productions.optional_before (below room) closer (tokens_view tokens.now)) }
-    ensures deep { IfOk result (λ x. (x.1 ≡ height_of_optional (optional_view (unboxed x.0))) × (x.1 ≤ room)) }
+    ensures height { IfOk result (λ x. (x.1 ≡ height_of_optional (optional_view (unboxed x.0))) × (x.1 ≤ room)) }
     ensures placed { IfOk result (λ x. Placed true nodes.old nodes.new (in_turn (optional_places (unboxed x.0) ∷ plain (a closer) ∷ [])) (tokens_view tokens.now) (tokens_view x.2.now)) }
 {
     if is_next(closer, tokens) {
@@ -158,9 +159,9 @@ fn expression_statement_at<'t, 's>(
     room: u32,
     tokens: &'t [Token<'s>],
 ) -> ParsedStatement<'t, 's>
-    requires { room < 203 }
+    requires { room < MOST_ROOM }
     ensures gives { Gives (λ x. (statement_view x.0, tokens_view x.2.now)) result (productions.made (below room) (productions.ended ∷ []) (λ v. trees.expression v.0) (tokens_view tokens.now)) }
-    ensures deep { IfOk result (λ x. (x.1 ≡ height_of_statement (statement_view x.0)) × (x.1 ≤ room + 1)) }
+    ensures height { IfOk result (λ x. (x.1 ≡ height_of_statement (statement_view x.0)) × (x.1 ≤ room + 1)) }
     ensures placed { IfOk result (λ x. Placed true nodes.old nodes.new (statement_places x.0) (tokens_view tokens.now) (tokens_view x.2.now)) }
 {
     let (tree, height, rest) = ended_expression(nodes, room, tokens)?;
@@ -177,9 +178,9 @@ fn if_at<'t, 's>(
     context: Context,
     tokens: &'t [Token<'s>],
 ) -> ParsedStatement<'t, 's>
-    requires { room < 203 }
+    requires { room < MOST_ROOM }
     ensures gives { Gives (λ x. (statement_view x.0, tokens_view x.2.now)) result (reading.if_at (below room) (context_view context) (tokens_view tokens.now)) }
-    ensures deep { IfOk result (λ x. (x.1 ≡ height_of_statement (statement_view x.0)) × (x.1 ≤ room + 1)) }
+    ensures height { IfOk result (λ x. (x.1 ≡ height_of_statement (statement_view x.0)) × (x.1 ≤ room + 1)) }
     ensures placed { IfOk result (λ x. Placed true nodes.old nodes.new (statement_places x.0) (tokens_view tokens.now) (tokens_view x.2.now)) }
 {
     let rest = expect(TokenKind::If, tokens)?;
@@ -211,7 +212,7 @@ fn continue_at<'t, 's>(
     tokens: &'t [Token<'s>],
 ) -> ParsedStatement<'t, 's>
     ensures gives { (room : ℕ) → Gives (λ x. (statement_view x.0, tokens_view x.2.now)) result (reading.statement_by (below room) (context_view context) classes.a_continue (tokens_view tokens.now)) }
-    ensures deep { IfOk result (λ x. (x.1 ≡ height_of_statement (statement_view x.0)) × (x.1 ≡ 1)) }
+    ensures height { IfOk result (λ x. (x.1 ≡ height_of_statement (statement_view x.0)) × (x.1 ≡ 1)) }
     ensures placed { IfOk result (λ x. Placed true nodes.old nodes.new (statement_places x.0) (tokens_view tokens.now) (tokens_view x.2.now)) }
 {
     if !context.in_loop {
@@ -230,7 +231,7 @@ fn break_at<'t, 's>(
     tokens: &'t [Token<'s>],
 ) -> ParsedStatement<'t, 's>
     ensures gives { (room : ℕ) → Gives (λ x. (statement_view x.0, tokens_view x.2.now)) result (reading.statement_by (below room) (context_view context) classes.a_break (tokens_view tokens.now)) }
-    ensures deep { IfOk result (λ x. (x.1 ≡ height_of_statement (statement_view x.0)) × (x.1 ≡ 1)) }
+    ensures height { IfOk result (λ x. (x.1 ≡ height_of_statement (statement_view x.0)) × (x.1 ≡ 1)) }
     ensures placed { IfOk result (λ x. Placed true nodes.old nodes.new (statement_places x.0) (tokens_view tokens.now) (tokens_view x.2.now)) }
 {
     if !context.in_loop {
@@ -245,7 +246,7 @@ fn break_at<'t, 's>(
 // `debugger` (14.16).
 fn debugger_at<'t, 's>(nodes: &mut Nodes, tokens: &'t [Token<'s>]) -> ParsedStatement<'t, 's>
     ensures gives { (room : ℕ) (context : well.Context) → Gives (λ x. (statement_view x.0, tokens_view x.2.now)) result (reading.statement_by (below room) context classes.a_debugger (tokens_view tokens.now)) }
-    ensures deep { IfOk result (λ x. (x.1 ≡ height_of_statement (statement_view x.0)) × (x.1 ≡ 1)) }
+    ensures height { IfOk result (λ x. (x.1 ≡ height_of_statement (statement_view x.0)) × (x.1 ≡ 1)) }
     ensures placed { IfOk result (λ x. Placed true nodes.old nodes.new (statement_places x.0) (tokens_view tokens.now) (tokens_view x.2.now)) }
 {
     let rest = expect(TokenKind::Debugger, tokens)?;
@@ -262,9 +263,9 @@ fn return_at<'t, 's>(
     context: Context,
     tokens: &'t [Token<'s>],
 ) -> ParsedStatement<'t, 's>
-    requires { room < 203 }
+    requires { room < MOST_ROOM }
     ensures gives { Gives (λ x. (statement_view x.0, tokens_view x.2.now)) result (reading.statement_by (below room) (context_view context) classes.a_return (tokens_view tokens.now)) }
-    ensures deep { IfOk result (λ x. (x.1 ≡ height_of_statement (statement_view x.0)) × (x.1 ≤ room + 1)) }
+    ensures height { IfOk result (λ x. (x.1 ≡ height_of_statement (statement_view x.0)) × (x.1 ≤ room + 1)) }
     ensures placed { IfOk result (λ x. Placed true nodes.old nodes.new (statement_places x.0) (tokens_view tokens.now) (tokens_view x.2.now)) }
 {
     if !context.in_function {
@@ -288,9 +289,9 @@ fn throw_at<'t, 's>(
     room: u32,
     tokens: &'t [Token<'s>],
 ) -> ParsedStatement<'t, 's>
-    requires { room < 203 }
+    requires { room < MOST_ROOM }
     ensures gives { Gives (λ x. (statement_view x.0, tokens_view x.2.now)) result (reading.throw_by (below room) (is_on_line (head_of (tail_of (tokens_view tokens.now)))) (tokens_view tokens.now)) }
-    ensures deep { IfOk result (λ x. (x.1 ≡ height_of_statement (statement_view x.0)) × (x.1 ≤ room + 1)) }
+    ensures height { IfOk result (λ x. (x.1 ≡ height_of_statement (statement_view x.0)) × (x.1 ≤ room + 1)) }
     ensures placed { IfOk result (λ x. Placed true nodes.old nodes.new (statement_places x.0) (tokens_view tokens.now) (tokens_view x.2.now)) }
 {
     let value = tail(tokens);

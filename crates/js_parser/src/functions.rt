@@ -13,6 +13,7 @@ ghost use Rattle.js_language.specs.Places.{expression_places};
 ghost use Rattle.js_syntax.specs.Placed.{Placed};
 
 use js_descent::arrows::{arrow_of_one, arrow_rest};
+use js_descent::limits::MOST_ROOM;
 use js_descent::parsed::Parsed;
 use js_descent::primaries::function_at;
 use js_language::expressions::boxed;
@@ -36,9 +37,9 @@ pub fn function_code_at<'t, 's>(
     room: u32,
     tokens: &'t [Token<'s>],
 ) -> Parsed<'t, 's>
-    requires { room < 203 }
+    requires { room < MOST_ROOM }
     ensures gives { Gives (λ x. (expression_view x.0.value, tokens_view x.2.now)) result (reading.function_code_by (below room) (start (head_of (tokens_view tokens.now))) (tokens_view tokens.now)) }
-    ensures deep { IfOk result (λ x. (x.1 ≡ height (expression_view x.0.value)) × (x.1 ≤ room + 1)) }
+    ensures height { IfOk result (λ x. (x.1 ≡ height (expression_view x.0.value)) × (x.1 ≤ room + 1)) }
     ensures placed { IfOk result (λ x. Placed true nodes.old nodes.new (expression_places x.0.value) (tokens_view tokens.now) (tokens_view x.2.now)) }
 {
     match start_of(tokens) {
@@ -63,9 +64,9 @@ fn arrow_of_parameters<'t, 's>(
     room: u32,
     tokens: &'t [Token<'s>],
 ) -> Parsed<'t, 's>
-    requires { room < 203 }
+    requires { room < MOST_ROOM }
     ensures gives { Gives (λ x. (expression_view x.0.value, tokens_view x.2.now)) result (reading.function_code_by (below room) parenthesis (tokens_view tokens.now)) }
-    ensures deep { IfOk result (λ x. (x.1 ≡ height (expression_view x.0.value)) × (x.1 ≤ room + 1)) }
+    ensures height { IfOk result (λ x. (x.1 ≡ height (expression_view x.0.value)) × (x.1 ≤ room + 1)) }
     ensures placed { IfOk result (λ x. Placed true nodes.old nodes.new (expression_places x.0.value) (tokens_view tokens.now) (tokens_view x.2.now)) }
 {
     let (parameters, names, rest) = parameters_at(nodes.alloc(), tokens)?;

@@ -12,6 +12,7 @@ ghost use Rattle.js_language.specs.Places.{AreSpans, expression_places, statemen
 use crate::functions::function_code_at;
 use js_descent::blocks::items_at;
 use js_descent::expressions::expression_below;
+use js_descent::limits::MOST_ROOM;
 use js_lexer::token::Token;
 use js_syntax::context::Context;
 use js_syntax::fault::ParseError;
@@ -19,14 +20,10 @@ use js_syntax::name_set::NameSet;
 use js_syntax::nodes::Nodes;
 use js_tree::tree::{Expr, Stmts};
 
-/// The greatest height of a tree that is read. It is three more than a source's tree may have: a tree that is only just
-/// too high is read, and so is told from a syntax fault.
-pub const MOST_ROOM: u32 = 203;
-
 /// The expression that the tokens are, with its height.
 #[tactic(auto, unfolding(js_syntax::specs::Parsing::parse_expression))]
 pub fn expression_of(nodes: &mut Nodes, tokens: &[Token<'_>]) -> Result<(Expr, u32), ParseError>
-    ensures gives { Gives (λ x. expression_view x.0) result (parse_expression 203 (tokens_view tokens.now)) }
+    ensures gives { Gives (λ x. expression_view x.0) result (parse_expression MOST_ROOM (tokens_view tokens.now)) }
     ensures height { IfOk result (λ x. x.1 ≡ height (expression_view x.0)) }
     ensures placed { IfOk result (λ x. AreSpans nodes.new (expression_places x.0) 0 (tokens_view tokens.now) []) }
     ensures forward { IfOk result (λ x. AreInOrder (tokens_view tokens.now) → All IsForward nodes.old → All IsForward nodes.new) }
@@ -42,7 +39,7 @@ pub fn expression_of(nodes: &mut Nodes, tokens: &[Token<'_>]) -> Result<(Expr, u
 /// The function expression or arrow function that the tokens are, with its height.
 #[tactic(auto, unfolding(js_syntax::specs::Parsing::parse_function))]
 pub fn function_of(nodes: &mut Nodes, tokens: &[Token<'_>]) -> Result<(Expr, u32), ParseError>
-    ensures gives { Gives (λ x. expression_view x.0) result (parse_function 203 (tokens_view tokens.now)) }
+    ensures gives { Gives (λ x. expression_view x.0) result (parse_function MOST_ROOM (tokens_view tokens.now)) }
     ensures height { IfOk result (λ x. x.1 ≡ height (expression_view x.0)) }
     ensures placed { IfOk result (λ x. AreSpans nodes.new (expression_places x.0) 0 (tokens_view tokens.now) []) }
     ensures forward { IfOk result (λ x. AreInOrder (tokens_view tokens.now) → All IsForward nodes.old → All IsForward nodes.new) }
@@ -62,7 +59,7 @@ pub fn script_of<'s>(
     names: NameSet<'s>,
     tokens: &[Token<'s>],
 ) -> Result<(Stmts, u32), ParseError>
-    ensures gives { Gives (λ x. statements_view x.0) result (parse_script 203 names.entry (tokens_view tokens.now)) }
+    ensures gives { Gives (λ x. statements_view x.0) result (parse_script MOST_ROOM names.entry (tokens_view tokens.now)) }
     ensures height { IfOk result (λ x. x.1 ≡ height_of_statements (statements_view x.0)) }
     ensures placed { IfOk result (λ x. AreSpans nodes.new (statements_places x.0) 0 (tokens_view tokens.now) []) }
     ensures forward { IfOk result (λ x. AreInOrder (tokens_view tokens.now) → All IsForward nodes.old → All IsForward nodes.new) }

@@ -26,13 +26,13 @@ map_push f (y ∷ xs) x = ap (λ ys. f y ∷ ys) (map_push f xs x)
 
 -- these statements were read, the highest of which is so high; their names are taken beside those before them
 pub record ReadsStatements (room : ℕ) (context : Context) (taken : List Identifier) (ts : List Token) (xs : List Statement) (height : ℕ) (names : List Identifier) (rest : List Token) : Type 0 where
-  pub deep : height ≡ height_of_statements (statements xs)
+  pub is_height : height ≡ height_of_statements (statements xs)
   pub within : height ≤ room
   pub reads : ReadsItems (λ names r. (below room).item context names r) with_declared taken ts xs names rest
 
 pub statements_begin : (room : ℕ) (context : Context) (taken : List Identifier) (ts : List Token) → ReadsStatements room context taken ts [] 0 taken ts
 statements_begin room context taken ts = record {
-  deep = refl;
+  is_height = refl;
   within = omega arith;
   reads = items_begin (λ names r. (below room).item context names r) with_declared taken ts;
 }
@@ -44,7 +44,7 @@ statements_push (x ∷ xs) s = omega (arith, statements_push xs s)
 pub statements_go_on : (room : ℕ) (context : Context) (taken : List Identifier) (ts : List Token) (xs : List Statement) (height : ℕ) (names : List Identifier) (rest : List Token) (s : Statement) (h : ℕ) (later : List Token) → ReadsStatements room context taken ts xs height names rest → ends_list (head_of rest) ≡ false → (below room).item context names rest ≡ Ok (s, later) → h ≡ height_of_statement s → h ≤ room
     → ReadsStatements room context taken ts (xs ++ s ∷ []) (max height h) (with_declared names s) later
 statements_go_on room context taken ts xs height names rest s h later r g a d l = record {
-  deep = omega (arith, statements_push xs s, r.deep, d);
+  is_height = omega (arith, statements_push xs s, r.is_height, d);
   within = omega (arith, r.within, l);
   reads = items_go_on (λ names r. (below room).item context names r) with_declared taken ts xs names rest s later r.reads g a (item_shorter room context names rest s later a);
 }
@@ -80,7 +80,7 @@ heights_push (x ∷ xs) d = omega (arith, heights_push xs d)
 
 -- these names were read, the highest of whose initializers is so high; they are taken beside those before them
 pub record ReadsDeclarators (room : ℕ) (constant : Bool) (taken : List Identifier) (ts : List Token) (xs : List Declarator) (height : ℕ) (names : List Identifier) (rest : List Token) : Type 0 where
-  pub deep : height ≡ height_of_declarators (declarators xs)
+  pub is_height : height ≡ height_of_declarators (declarators xs)
   pub within : height ≤ room
   pub declares : names ≡ with_names taken (names_of_declarators (declarators xs))
   pub front : Declarator
@@ -95,7 +95,7 @@ one_name taken (trees.declarator n e) = refl
 
 pub declarators_begin : (room : ℕ) (constant : Bool) (taken : List Identifier) (ts : List Token) (d : Declarator) (h : ℕ) (rest : List Token) → declarator_at (below room) constant taken ts ≡ Ok (d, rest) → h ≡ height_of_declarator d → h ≤ room → ReadsDeclarators room constant taken ts (d ∷ []) h (with_declarator taken d) rest
 declarators_begin room constant taken ts d h rest a e l = record {
-  deep = omega (arith, e);
+  is_height = omega (arith, e);
   within = l;
   declares = one_name taken d;
   front = d;
@@ -109,7 +109,7 @@ declarators_begin room constant taken ts d h rest a e l = record {
 pub declarators_go_on : (room : ℕ) (constant : Bool) (taken : List Identifier) (ts : List Token) (xs : List Declarator) (height : ℕ) (names : List Identifier) (rest : List Token) (d : Declarator) (h : ℕ) (later : List Token) → ReadsDeclarators room constant taken ts xs height names rest → is_kind kinds.Comma (head_of rest) ≡ true → declarator_at (below room) constant names (tail_of rest) ≡ Ok (d, later) → h ≡ height_of_declarator d → h ≤ room
     → ReadsDeclarators room constant taken ts (xs ++ d ∷ []) (max height h) (with_declarator names d) later
 declarators_go_on room constant taken ts xs height names rest d h later r g a e l = record {
-  deep = omega (arith, heights_push xs d, r.deep, e);
+  is_height = omega (arith, heights_push xs d, r.is_height, e);
   within = omega (arith, r.within, l);
   declares = rw (names_push xs d, with_names_push taken (names_of_declarators (declarators xs)) (name_of d)) (ap (λ (ns : List Identifier). name_of d ∷ ns) r.declares);
   front = r.front;

@@ -27,40 +27,40 @@ heights_push (y ∷ xs) x = omega (arith, heights_push xs x)
 -- expressions up to a token
 pub record ReadsElements (room : ℕ) (closer : TokenKind) (ts : List Token) (xs : List Expr) (high : ℕ) (rest : List Token) : Type 0 where
   pub reads : Elements (one_of (below room).assignment) no_state closer (elements (one_of (below room).assignment) no_state closer (suc (length ts)) tt ts) (map expression_view xs) tt rest
-  pub deep : high ≡ height_of_expressions (expressions (map expression_view xs))
+  pub is_height : high ≡ height_of_expressions (expressions (map expression_view xs))
   pub low : high ≤ room
 
 pub elements_init : (room : ℕ) (closer : TokenKind) (ts : List Token) → ReadsElements room closer ts [] 0 ts
 elements_init room closer ts = record {
   reads = elements_begin (one_of (below room).assignment) no_state closer tt ts;
-  deep = refl;
+  is_height = refl;
   low = omega arith;
 }
 
 pub elements_next : (room : ℕ) (closer : TokenKind) (ts : List Token) (xs : List Expr) (high : ℕ) (rest : List Token) (x : Expr) (h : ℕ) (later : List Token) → ReadsElements room closer ts xs high rest → is_kind closer (head_of rest) ≡ false → (below room).assignment rest ≡ Ok (expression_view x, later) → h ≡ height (expression_view x) → h ≤ room → after closer (head_of later) ≡ goes_on → ReadsElements room closer ts (xs ++ (x ∷ [])) (max high h) (tail_of later)
 elements_next room closer ts xs high rest x h later r c o d l g = record {
   reads = rw map_push (elements_more (one_of (below room).assignment) no_state closer _ _ tt rest (expression_view x) later (shorter (below room).assignment rest (expression_view x) later (short room).assignment o) r.reads c o g);
-  deep = rw map_push (omega (arith, heights_push (map expression_view xs) (expression_view x), r.deep));
+  is_height = rw map_push (omega (arith, heights_push (map expression_view xs) (expression_view x), r.is_height));
   low = omega (arith, r.low);
 }
 
 -- further expressions
 pub record ReadsOthers (room : ℕ) (ts : List Token) (xs : List Expr) (high : ℕ) (rest : List Token) : Type 0 where
   pub reads : Others (one_of (below room).assignment) no_state (others (one_of (below room).assignment) no_state (suc (length ts)) tt ts) (map expression_view xs) tt rest
-  pub deep : high ≡ height_of_expressions (expressions (map expression_view xs))
+  pub is_height : high ≡ height_of_expressions (expressions (map expression_view xs))
   pub low : high ≤ room
 
 pub others_init : (room : ℕ) (ts : List Token) → ReadsOthers room ts [] 0 ts
 others_init room ts = record {
   reads = others_begin (one_of (below room).assignment) no_state tt ts;
-  deep = refl;
+  is_height = refl;
   low = omega arith;
 }
 
 pub others_next : (room : ℕ) (ts : List Token) (xs : List Expr) (high : ℕ) (rest : List Token) (x : Expr) (h : ℕ) (later : List Token) → ReadsOthers room ts xs high rest → is_kind kinds.Comma (head_of rest) ≡ true → (below room).assignment (tail_of rest) ≡ Ok (expression_view x, later) → h ≡ height (expression_view x) → h ≤ room → ReadsOthers room ts (xs ++ (x ∷ [])) (max high h) later
 others_next room ts xs high rest x h later r c o d l = record {
   reads = rw map_push (others_more (one_of (below room).assignment) no_state _ _ tt rest (expression_view x) later (shorter (below room).assignment (tail_of rest) (expression_view x) later (short room).assignment o) r.reads c o);
-  deep = rw map_push (omega (arith, heights_push (map expression_view xs) (expression_view x), r.deep));
+  is_height = rw map_push (omega (arith, heights_push (map expression_view xs) (expression_view x), r.is_height));
   low = omega (arith, r.low);
 }
 
@@ -72,13 +72,13 @@ properties_push (y ∷ xs) x = omega (arith, properties_push xs x)
 
 pub record ReadsMembers (room : ℕ) (ts : List Token) (xs : List PropertyDefinition) (high : ℕ) (rest : List Token) : Type 0 where
   pub reads : Elements (one_of (λ r. property_at (below room) room r)) no_state kinds.RightBrace (elements (one_of (λ r. property_at (below room) room r)) no_state kinds.RightBrace (suc (length ts)) tt ts) (map property_view xs) tt rest
-  pub deep : high ≡ height_of_properties (properties (map property_view xs))
+  pub is_height : high ≡ height_of_properties (properties (map property_view xs))
   pub low : high ≤ room
 
 pub members_init : (room : ℕ) (ts : List Token) → ReadsMembers room ts [] 0 ts
 members_init room ts = record {
   reads = elements_begin (one_of (λ r. property_at (below room) room r)) no_state kinds.RightBrace tt ts;
-  deep = refl;
+  is_height = refl;
   low = omega arith;
 }
 
@@ -88,7 +88,7 @@ member_shorter room rest x later o = shorter (λ r. property_at (below room) roo
 pub members_next : (room : ℕ) (ts : List Token) (xs : List PropertyDefinition) (high : ℕ) (rest : List Token) (x : PropertyDefinition) (h : ℕ) (later : List Token) → ReadsMembers room ts xs high rest → is_kind kinds.RightBrace (head_of rest) ≡ false → property_at (below room) room rest ≡ Ok (property_view x, later) → h ≡ height_of_property (property_view x) → h ≤ room → after kinds.RightBrace (head_of later) ≡ goes_on → ReadsMembers room ts (xs ++ (x ∷ [])) (max high h) (tail_of later)
 members_next room ts xs high rest x h later r c o d l g = record {
   reads = rw map_push (elements_more (one_of (λ r. property_at (below room) room r)) no_state kinds.RightBrace _ _ tt rest (property_view x) later (member_shorter room rest (property_view x) later o) r.reads c o g);
-  deep = rw map_push (omega (arith, properties_push (map property_view xs) (property_view x), r.deep));
+  is_height = rw map_push (omega (arith, properties_push (map property_view xs) (property_view x), r.is_height));
   low = omega (arith, r.low);
 }
 

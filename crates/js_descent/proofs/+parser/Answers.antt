@@ -55,7 +55,7 @@ lists::elements_before-elements-smaller t c = less_by_view c.elements.rest.now c
 pub lists::elements_before-elements-preserved : goal.lists::elements_before-elements-preserved
 lists::elements_before-elements-preserved t c = record {
   read = let g : after c.args.closer (head_of (tokens_view c.in_ok-item.later.now)) ≡ goes_on = search rules in
-      rw (c.in_ok-push.ensures.items, c.into_inner.ensures, c.deeper-height.ensures, c.tail-rest.ensures) (elements_next c.args.room c.args.closer (tokens_view c.args.tokens.now) c.elements.items.items c.elements.height (tokens_view c.elements.rest.now) c.in_ok-item.item.value c.in_ok-item.item_height (tokens_view c.in_ok-item.later.now) c.elements.invariant.read (sym c.is_next.ensures ∙ c.if-is_next.false) c.in_ok-item.ensures.gives c.in_ok-item.ensures.deep.0 c.in_ok-item.ensures.deep.1 g);
+      rw (c.in_ok-push.ensures.items, c.into_inner.ensures, c.deeper-height.ensures, c.tail-rest.ensures) (elements_next c.args.room c.args.closer (tokens_view c.args.tokens.now) c.elements.items.items c.elements.height (tokens_view c.elements.rest.now) c.in_ok-item.item.value c.in_ok-item.item_height (tokens_view c.in_ok-item.later.now) c.elements.invariant.read (sym c.is_next.ensures ∙ c.if-is_next.false) c.in_ok-item.ensures.gives c.in_ok-item.ensures.height.0 c.in_ok-item.ensures.height.1 g);
   placed = let g : after c.args.closer (head_of (tokens_view c.in_ok-item.later.now)) ≡ goes_on = search rules in rw (c.in_ok-push.ensures.items, c.into_inner.ensures, map_pushed) (element_more c.args.closer (map expression_places c.elements.items.items) (expression_places c.in_ok-item.item.value) _ c.elements.invariant.placed c.in_ok-item.ensures.placed g c.tail-rest.ensures);
 }
 
@@ -64,8 +64,8 @@ lists::elements_before-returns-in-Some-Ends-clause-gives t c =
     let g : after c.args.closer (head_of (tokens_view c.in_ok-item.later.now)) ≡ ends = search rules in
     rw (c.in_ok-push.ensures.items, c.into_inner.ensures, map_push, c.tail-in-Some-Ends.ensures) (elements_end (one_of (below c.args.room).assignment) no_state c.args.closer _ _ tt _ _ _ c.elements.invariant.read.reads (sym c.is_next.ensures ∙ c.if-is_next.false) c.in_ok-item.ensures.gives g)
 
-pub lists::elements_before-returns-in-Some-Ends-clause-deep : goal.lists::elements_before-returns-in-Some-Ends-clause-deep
-lists::elements_before-returns-in-Some-Ends-clause-deep t c = rw (c.in_ok-push.ensures.items, c.into_inner.ensures, c.deeper-height.ensures) (last_height c.elements.items.items c.in_ok-item.item.value c.elements.height c.in_ok-item.item_height c.elements.invariant.read.deep c.in_ok-item.ensures.deep.0, omega (arith, c.elements.invariant.read.low, c.in_ok-item.ensures.deep.1))
+pub lists::elements_before-returns-in-Some-Ends-clause-height : goal.lists::elements_before-returns-in-Some-Ends-clause-height
+lists::elements_before-returns-in-Some-Ends-clause-height t c = rw (c.in_ok-push.ensures.items, c.into_inner.ensures, c.deeper-height.ensures) (last_height c.elements.items.items c.in_ok-item.item.value c.elements.height c.in_ok-item.item_height c.elements.invariant.read.is_height c.in_ok-item.ensures.height.0, omega (arith, c.elements.invariant.read.low, c.in_ok-item.ensures.height.1))
 
 pub lists::elements_before-returns-in-None-clause-gives : goal.lists::elements_before-returns-in-None-clause-gives
 lists::elements_before-returns-in-None-clause-gives t c = rw (← length_view c.in_ok-item.later.now) (elements_stop (one_of (below c.args.room).assignment) no_state c.args.closer _ _ tt _ _ _ c.elements.invariant.read.reads (sym c.is_next.ensures ∙ c.if-is_next.false) c.in_ok-item.ensures.gives (sym c.in-None.ensures))
@@ -90,7 +90,7 @@ objects::members_before-members-smaller t c = less_by_view c.members.rest.now c.
 pub objects::members_before-members-preserved : goal.objects::members_before-members-preserved
 objects::members_before-members-preserved t c = record {
   read = let g : after kinds.RightBrace (head_of (tokens_view c.in_ok-member.later.now)) ≡ goes_on = search rules in
-      rw (c.in_ok-push.ensures.items, c.deeper-height.ensures, c.tail-rest.ensures) (members_next c.args.room (tokens_view c.args.tokens.now) c.members.members.items c.members.height (tokens_view c.members.rest.now) c.in_ok-member.member c.in_ok-member.member_height (tokens_view c.in_ok-member.later.now) c.members.invariant.read (sym c.is_next.ensures ∙ c.if-is_next.false) c.in_ok-member.ensures.gives c.in_ok-member.ensures.deep.0 c.in_ok-member.ensures.deep.1 g);
+      rw (c.in_ok-push.ensures.items, c.deeper-height.ensures, c.tail-rest.ensures) (members_next c.args.room (tokens_view c.args.tokens.now) c.members.members.items c.members.height (tokens_view c.members.rest.now) c.in_ok-member.member c.in_ok-member.member_height (tokens_view c.in_ok-member.later.now) c.members.invariant.read (sym c.is_next.ensures ∙ c.if-is_next.false) c.in_ok-member.ensures.gives c.in_ok-member.ensures.height.0 c.in_ok-member.ensures.height.1 g);
   placed = let g : after kinds.RightBrace (head_of (tokens_view c.in_ok-member.later.now)) ≡ goes_on = search rules in rw (c.in_ok-push.ensures.items, map_pushed) (element_more kinds.RightBrace (map property_places c.members.members.items) (property_places c.in_ok-member.member) _ c.members.invariant.placed c.in_ok-member.ensures.placed g c.tail-rest.ensures);
 }
 
@@ -99,8 +99,8 @@ objects::members_before-returns-in-Some-Ends-clause-gives t c =
     let g : after kinds.RightBrace (head_of (tokens_view c.in_ok-member.later.now)) ≡ ends = search rules in
     rw (c.in_ok-push.ensures.items, map_push, c.tail-in-Some-Ends.ensures) (elements_end (one_of (λ r. property_at (below c.args.room) c.args.room r)) no_state kinds.RightBrace _ _ tt _ _ _ c.members.invariant.read.reads (sym c.is_next.ensures ∙ c.if-is_next.false) c.in_ok-member.ensures.gives g)
 
-pub objects::members_before-returns-in-Some-Ends-clause-deep : goal.objects::members_before-returns-in-Some-Ends-clause-deep
-objects::members_before-returns-in-Some-Ends-clause-deep t c = rw (c.in_ok-push.ensures.items, c.deeper-height.ensures) (last_property_height c.members.members.items c.in_ok-member.member c.members.height c.in_ok-member.member_height c.members.invariant.read.deep c.in_ok-member.ensures.deep.0, omega (arith, c.members.invariant.read.low, c.in_ok-member.ensures.deep.1))
+pub objects::members_before-returns-in-Some-Ends-clause-height : goal.objects::members_before-returns-in-Some-Ends-clause-height
+objects::members_before-returns-in-Some-Ends-clause-height t c = rw (c.in_ok-push.ensures.items, c.deeper-height.ensures) (last_property_height c.members.members.items c.in_ok-member.member c.members.height c.in_ok-member.member_height c.members.invariant.read.is_height c.in_ok-member.ensures.height.0, omega (arith, c.members.invariant.read.low, c.in_ok-member.ensures.height.1))
 
 pub objects::members_before-returns-in-None-clause-gives : goal.objects::members_before-returns-in-None-clause-gives
 objects::members_before-returns-in-None-clause-gives t c = rw (← length_view c.in_ok-member.later.now) (elements_stop (one_of (λ r. property_at (below c.args.room) c.args.room r)) no_state kinds.RightBrace _ _ tt _ _ _ c.members.invariant.read.reads (sym c.is_next.ensures ∙ c.if-is_next.false) c.in_ok-member.ensures.gives (sym c.in-None.ensures))
@@ -124,7 +124,7 @@ lists::more_assignments-others-smaller t c = others_smaller c.args.room c.others
 
 pub lists::more_assignments-others-preserved : goal.lists::more_assignments-others-preserved
 lists::more_assignments-others-preserved t c = record {
-  read = rw (c.in_ok-push.ensures.items, c.into_inner.ensures, c.deeper-height.ensures) (others_next c.args.room (tokens_view c.args.tokens.now) c.others.items.items c.others.height (tokens_view c.others.rest.now) c.in_ok-item.item.value c.in_ok-item.item_height (tokens_view c.in_ok-item.later.now) c.others.invariant.read (sym c.is_next.ensures ∙ c.if-not-is_next.false) (rw c.tail.ensures at c.in_ok-item.ensures.gives) c.in_ok-item.ensures.deep.0 c.in_ok-item.ensures.deep.1);
+  read = rw (c.in_ok-push.ensures.items, c.into_inner.ensures, c.deeper-height.ensures) (others_next c.args.room (tokens_view c.args.tokens.now) c.others.items.items c.others.height (tokens_view c.others.rest.now) c.in_ok-item.item.value c.in_ok-item.item_height (tokens_view c.in_ok-item.later.now) c.others.invariant.read (sym c.is_next.ensures ∙ c.if-not-is_next.false) (rw c.tail.ensures at c.in_ok-item.ensures.gives) c.in_ok-item.ensures.height.0 c.in_ok-item.ensures.height.1);
   placed = rw (c.in_ok-push.ensures.items, c.into_inner.ensures, map_pushed) (other_more (map expression_places c.others.items.items) (expression_places c.in_ok-item.item.value) _ c.others.invariant.placed (sym c.is_next.ensures ∙ c.if-not-is_next.false) c.tail.ensures c.in_ok-item.ensures.placed);
 }
 
@@ -153,7 +153,7 @@ blocks::items_at-items-smaller t c = less_in_view c.items.read.1.now c.in_ok-ite
 
 pub blocks::items_at-items-preserved : goal.blocks::items_at-items-preserved
 blocks::items_at-items-preserved t c = record {
-  read = rw (c.in_ok-push.ensures.items, map_pushed, c.deeper.ensures, c.in_ok-item.ensures.names) (statements_go_on c.args.room (context_view c.args.context) c.args.names (tokens_view c.args.tokens.now) (map statement_view c.items.items.items) c.items.read.0 c.items.names (tokens_view c.items.read.1.now) (statement_view c.in_ok-item.item) c.in_ok-item.height (tokens_view c.in_ok-item.rest.now) c.items.invariant.read (sym c.ends_list.ensures ∙ c.items-test.true) c.in_ok-item.ensures.gives c.in_ok-item.ensures.deep.0 c.in_ok-item.ensures.deep.1);
+  read = rw (c.in_ok-push.ensures.items, map_pushed, c.deeper.ensures, c.in_ok-item.ensures.names) (statements_go_on c.args.room (context_view c.args.context) c.args.names (tokens_view c.args.tokens.now) (map statement_view c.items.items.items) c.items.read.0 c.items.names (tokens_view c.items.read.1.now) (statement_view c.in_ok-item.item) c.in_ok-item.height (tokens_view c.in_ok-item.rest.now) c.items.invariant.read (sym c.ends_list.ensures ∙ c.items-test.true) c.in_ok-item.ensures.gives c.in_ok-item.ensures.height.0 c.in_ok-item.ensures.height.1);
   placed = rw (c.in_ok-push.ensures.items, map_pushed) (turn_next (map statement_places c.items.items.items) (statement_places c.in_ok-item.item) c.items.invariant.placed c.in_ok-item.ensures.placed);
 }
 
@@ -163,7 +163,7 @@ blocks::items_at-returns-clause-gives t c =
 
 pub declarations::declarators_at-others-init : goal.declarations::declarators_at-others-init
 declarations::declarators_at-others-init t c = record {
-  read = rw (c.in_ok-push.ensures.items, c.new-items.ensures.items, c.in_ok-first.ensures.names) (declarators_begin c.args.room c.args.constant c.args.names.now (tokens_view c.args.tokens.now) (declarator_view c.in_ok-first.first) c.in_ok-first.height (tokens_view c.in_ok-first.rest.now) c.in_ok-first.ensures.gives c.in_ok-first.ensures.deep.0 c.in_ok-first.ensures.deep.1);
+  read = rw (c.in_ok-push.ensures.items, c.new-items.ensures.items, c.in_ok-first.ensures.names) (declarators_begin c.args.room c.args.constant c.args.names.now (tokens_view c.args.tokens.now) (declarator_view c.in_ok-first.first) c.in_ok-first.height (tokens_view c.in_ok-first.rest.now) c.in_ok-first.ensures.gives c.in_ok-first.ensures.height.0 c.in_ok-first.ensures.height.1);
   placed = rw (c.in_ok-push.ensures.items, c.new-items.ensures.items) (then c.in_ok-first.ensures.placed nothing);
 }
 
@@ -177,7 +177,7 @@ declarations::declarators_at-others-smaller t c = less_in_view c.others.read.1.n
 
 pub declarations::declarators_at-others-preserved : goal.declarations::declarators_at-others-preserved
 declarations::declarators_at-others-preserved t c = record {
-  read = rw (c.in_ok-push-2.ensures.items, map_pushed, c.deeper.ensures, c.in_ok-item.ensures.names) (declarators_go_on c.args.room c.args.constant c.args.names.now (tokens_view c.args.tokens.now) (map declarator_view c.others.items.items) c.others.read.0 c.others.names (tokens_view c.others.read.1.now) (declarator_view c.in_ok-item.item) c.in_ok-item.height (tokens_view c.in_ok-item.rest.now) c.others.invariant.read (sym c.is_next.ensures ∙ c.others-test.true) (rw c.tail.ensures at c.in_ok-item.ensures.gives) c.in_ok-item.ensures.deep.0 c.in_ok-item.ensures.deep.1);
+  read = rw (c.in_ok-push-2.ensures.items, map_pushed, c.deeper.ensures, c.in_ok-item.ensures.names) (declarators_go_on c.args.room c.args.constant c.args.names.now (tokens_view c.args.tokens.now) (map declarator_view c.others.items.items) c.others.read.0 c.others.names (tokens_view c.others.read.1.now) (declarator_view c.in_ok-item.item) c.in_ok-item.height (tokens_view c.in_ok-item.rest.now) c.others.invariant.read (sym c.is_next.ensures ∙ c.others-test.true) (rw c.tail.ensures at c.in_ok-item.ensures.gives) c.in_ok-item.ensures.height.0 c.in_ok-item.ensures.height.1);
   placed = rw (c.in_ok-push-2.ensures.items, map_pushed) (listed_more (map declarator_places c.others.items.items) (declarator_places c.in_ok-item.item) _ c.others.invariant.placed (sym c.is_next.ensures ∙ c.others-test.true) c.tail.ensures c.in_ok-item.ensures.placed);
 }
 

@@ -6,18 +6,19 @@ use Rattle.js_tree.specs.Views.{statements_view}
 use Rattle.js_syntax.specs.Giving.{Gives}
 use Rattle.js_syntax.specs.Parsing.{parse_script}
 use Rattle.js_syntax.specs.Views.{tokens_view}
+use Rattle.js_descent.specs.declared.limits.TheConstants.{MOST_ROOM}
 use Rattle.js_parser.specs.Lexing.{lexed_view}
 use Rattle.js_language.specs.Places.{statements_places}
 use Rattle.js_parser.proofs.AnswerLemmas.{told_as}
 use Rattle.js_parser.proofs.SpanLemmas.{told_placed}
-use Rattle.js_parser.proofs.LanguageLemmas.{most_room, reads_script}
+use Rattle.js_parser.proofs.LanguageLemmas.{reads_script}
 use Rattle.js_parser.proofs.trees.script_tree.Goals as goal
 
 pub returns-clause-answers : goal.returns-clause-answers
 returns-clause-answers c =
     let earlier = c.args.declared.now in
-    let read = subst (λ (names : List (List ℕ)). Gives (λ x. statements_view x.0) c.script_of-read.result (parse_script most_room names (tokens_view c.as_slice.result.now))) c.in_ok-names.ensures.names c.script_of-read.ensures.gives in
-    told_as (IsScript earlier) height_of_statements c.args.source.now (λ x. statements_view x) most_room (λ ts. parse_script most_room earlier ts) (lexed_view c.in_ok-lexed.lexed) (tokens_view c.as_slice.result.now) (length c.args.source.now) c.script_of-read.result c.told.result (omega arith) (λ ts. reads_script earlier ts) c.in_ok-lexed.ensures.tokens (ap (λ (ts : List lexer.Token). tokens_view ts) c.as_slice.ensures.value) c.in_ok-lexed.ensures.short refl read c.script_of-read.ensures.height c.told.ensures
+    let read = subst (λ (names : List (List ℕ)). Gives (λ x. statements_view x.0) c.script_of-read.result (parse_script MOST_ROOM names (tokens_view c.as_slice.result.now))) c.in_ok-names.ensures.names c.script_of-read.ensures.gives in
+    told_as (IsScript earlier) height_of_statements c.args.source.now (λ x. statements_view x) MOST_ROOM (λ ts. parse_script MOST_ROOM earlier ts) (lexed_view c.in_ok-lexed.lexed) (tokens_view c.as_slice.result.now) (length c.args.source.now) c.script_of-read.result c.told.result (omega arith) (λ ts. reads_script earlier ts) c.in_ok-lexed.ensures.tokens (ap (λ (ts : List lexer.Token). tokens_view ts) c.as_slice.ensures.value) c.in_ok-lexed.ensures.short refl read c.script_of-read.ensures.height c.told.ensures
 
 pub returns-clause-placed : goal.returns-clause-placed
 returns-clause-placed c =
