@@ -8,7 +8,7 @@ use Rattle.std.proofs.Math.Seq.{take-append_seam, drop-append_seam}
 use Rattle.js_lexer.specs.declared.token.TokenKind.{TokenKind}
 use Rattle.js_lexer.specs.declared.token.TokenKind.TheVariants.{Number, String}
 use Rattle.js_lexer.specs.Classes.{begins, is_blank, is_digit, is_quote, is_word_start, is_word_part, leading}
-use Rattle.js_lexer.specs.Spellings.{begins_with, kind_in, first_in}
+use Rattle.js_lexer.specs.Spellings.{is_prefix_of, kind_in, first_in}
 use Rattle.js_lexer.specs.Gaps.{IsGapPiece, ends_line, opens_comment, has_line_terminator}
 use Rattle.js_lexer.specs.Gaps.IsGapPiece.{blank, line_comment, block_comment}
 use Rattle.js_lexer.specs.Words.{reserved_words}
@@ -23,7 +23,7 @@ use Rattle.js_lexer.specs.Written.{Written, AreTokens, blank_before, written, le
 use Rattle.js_lexer.proofs.Leading.{leading_all, leading_stops, leading_exact}
 use Rattle.js_lexer.proofs.Runs.{run_exact}
 use Rattle.js_lexer.proofs.Gaps.{gap_knows}
-use Rattle.js_lexer.proofs.Spellings.{begins_with_is, begins_with_self}
+use Rattle.js_lexer.proofs.Spellings.{prefix_is, prefix_self}
 use Rattle.js_lexer.proofs.Tables.{Firsts, first_is, all_listed, punctuators_descend}
 use Rattle.js_lexer.proofs.Literals.{literal_found}
 use Rattle.js_lexer.proofs.Fronts.{longest_here}
@@ -74,21 +74,21 @@ no_blank false c s e = let is : 32 ≡ c = eqb-true 32 c e in absurd (solid_is c
     solid_is c is s = let no : false ≡ true = rw is at s in cc
 
 -- what begins the second also begins the first
-agree_begins : (t us vs : List ℕ) → is_solid t ≡ true → Agree us vs → begins_with t vs ≡ true → begins_with t us ≡ true
+agree_begins : (t us vs : List ℕ) → is_solid t ≡ true → Agree us vs → is_prefix_of t vs ≡ true → is_prefix_of t us ≡ true
 agree_begins [] us vs s a e = refl
 agree_begins (c ∷ t) us [] s a e = absurd cc
 agree_begins (c ∷ t) us (v ∷ vs) s (inl b) e =
     let p = and_parts (not (eqb c 10) && not (eqb c 32)) (is_solid t) s in
-    let q = and_parts (eqb v c) (begins_with t vs) e in
+    let q = and_parts (eqb v c) (is_prefix_of t vs) e in
     absurd (no_blank b.0 c p.0 (sym (ap (λ v. eqb v c) b.1) ∙ q.0))
 agree_begins (c ∷ t) us (v ∷ vs) s (inr r) e =
     let p = and_parts (not (eqb c 10) && not (eqb c 32)) (is_solid t) s in
-    let q = and_parts (eqb v c) (begins_with t vs) e in
-    subst (λ (us : List ℕ). begins_with (c ∷ t) us ≡ true) (sym r.1) (rw (q.0, agree_begins t r.0 vs p.1 r.2 q.1) refl)
+    let q = and_parts (eqb v c) (is_prefix_of t vs) e in
+    subst (λ (us : List ℕ). is_prefix_of (c ∷ t) us ≡ true) (sym r.1) (rw (q.0, agree_begins t r.0 vs p.1 r.2 q.1) refl)
 
-no_comment_by : (us vs : List ℕ) → Agree us vs → opens_comment us ≡ false → (x : Bool) → begins_with (codes "//") vs ≡ x → (y : Bool) → begins_with (codes "/*") vs ≡ y → (x || y) ≡ false
+no_comment_by : (us vs : List ℕ) → Agree us vs → opens_comment us ≡ false → (x : Bool) → is_prefix_of (codes "//") vs ≡ x → (y : Bool) → is_prefix_of (codes "/*") vs ≡ y → (x || y) ≡ false
 no_comment_by us vs a o true p y q = let b = agree_begins (codes "//") us vs refl a p in let no : true ≡ false = rw b at o in cc
-no_comment_by us vs a o false p true q = either_false (begins_with (codes "//") us) (begins_with (codes "/*") us) (agree_begins (codes "/*") us vs refl a q) o
+no_comment_by us vs a o false p true q = either_false (is_prefix_of (codes "//") us) (is_prefix_of (codes "/*") us) (agree_begins (codes "/*") us vs refl a q) o
   where
     either_false : (x y : Bool) → y ≡ true → (x || y) ≡ false → true ≡ false
     either_false true y e f = f
@@ -96,7 +96,7 @@ no_comment_by us vs a o false p true q = either_false (begins_with (codes "//") 
 no_comment_by us vs a o false p false q = refl
 
 agree_comment : (us vs : List ℕ) → Agree us vs → opens_comment us ≡ false → opens_comment vs ≡ false
-agree_comment us vs a o = no_comment_by us vs a o (begins_with (codes "//") vs) refl (begins_with (codes "/*") vs) refl
+agree_comment us vs a o = no_comment_by us vs a o (is_prefix_of (codes "//") vs) refl (is_prefix_of (codes "/*") vs) refl
 
 -- ---- the token at the front
 
@@ -158,19 +158,19 @@ same_front t u here p q e = sym (take-append_seam t (drop (length t) here)) ∙ 
 mark_by : (here vs : List ℕ) (k : TokenKind) (n : ℕ) → Firsts punctuators here (Some (k, n)) → Agree (drop n here) vs → (o : Option (TokenKind × ℕ)) → Firsts punctuators (take n here ++ vs) o → o ≡ found k n
 mark_by here vs k n f a o h =
     let front : take n here ≡ f.text = ap (λ n. take n here) (sym f.len) ∙ ap (take (length f.text)) f.here ∙ take-append_seam f.text (drop (length f.text) here) in
-    let begin : begins_with f.text (take n here ++ vs) ≡ true = ap (λ (t : List ℕ). begins_with f.text (t ++ vs)) front ∙ begins_with_self f.text vs in
+    let begin : is_prefix_of f.text (take n here ++ vs) ≡ true = ap (λ (t : List ℕ). is_prefix_of f.text (t ++ vs)) front ∙ prefix_self f.text vs in
     by_found front begin o h
   where
-    by_found : take n here ≡ f.text → begins_with f.text (take n here ++ vs) ≡ true → (o : Option (TokenKind × ℕ)) → Firsts punctuators (take n here ++ vs) o → o ≡ found k n
+    by_found : take n here ≡ f.text → is_prefix_of f.text (take n here ++ vs) ≡ true → (o : Option (TokenKind × ℕ)) → Firsts punctuators (take n here ++ vs) o → o ≡ found k n
     by_found front begin None h = absurd (h.none (k, f.text) f.listed begin)
     by_found front begin (Some x) h =
         let low : length f.text ≤ x.1 = h.longest punctuators_descend (k, f.text) f.listed begin in
-        let there : begins_with h.text (take n here ++ vs) ≡ true = ap (begins_with h.text) h.here ∙ begins_with_self h.text (drop (length h.text) (take n here ++ vs)) in
+        let there : is_prefix_of h.text (take n here ++ vs) ≡ true = ap (is_prefix_of h.text) h.here ∙ prefix_self h.text (drop (length h.text) (take n here ++ vs)) in
         let agree : Agree here (take n here ++ vs) = subst (λ (us : List ℕ). Agree us (take n here ++ vs)) (take-append-drop n here) (agree_behind (take n here) (drop n here) vs a) in
-        let before : begins_with h.text here ≡ true = agree_begins h.text here (take n here ++ vs) (all_listed (λ e. is_solid e.1) punctuators solid_marks (x.0, h.text) h.listed) agree there in
+        let before : is_prefix_of h.text here ≡ true = agree_begins h.text here (take n here ++ vs) (all_listed (λ e. is_solid e.1) punctuators solid_marks (x.0, h.text) h.listed) agree there in
         let high : length h.text ≤ n = f.longest punctuators_descend (x.0, h.text) h.listed before in
         let same : x.1 ≡ n = omega (arith, low, high, h.len, f.len) in
-        let text : h.text ≡ f.text = same_front h.text f.text here (begins_with_is h.text here before) f.here (omega (arith, same, h.len, f.len)) in
+        let text : h.text ≡ f.text = same_front h.text f.text here (prefix_is h.text here before) f.here (omega (arith, same, h.len, f.len)) in
         let kind : x.0 ≡ k = same_mark x.0 k h.text f.text h.listed f.listed text in
         rw (kind, same) refl
 

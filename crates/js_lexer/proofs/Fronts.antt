@@ -9,7 +9,7 @@ use Rattle.std.proofs.Math.Seq.{take-append_seam, drop-append_seam}
 use Rattle.js_lexer.specs.declared.token.TokenKind.{TokenKind}
 use Rattle.js_lexer.specs.declared.token.TokenKind.TheVariants.{Number, String}
 use Rattle.js_lexer.specs.Classes.{begins, is_digit, is_quote, is_word_start, is_word_part, leading}
-use Rattle.js_lexer.specs.Spellings.{begins_with, kind_in, first_in}
+use Rattle.js_lexer.specs.Spellings.{is_prefix_of, kind_in, first_in}
 use Rattle.js_lexer.specs.Gaps.{opens_comment}
 use Rattle.js_lexer.specs.Words.{is_word, reserved_words}
 use Rattle.js_lexer.specs.Punctuators.{punctuators}
@@ -23,7 +23,7 @@ use Rattle.js_lexer.specs.Pieces.{run}
 use Rattle.js_lexer.specs.Strings.{IsStringLiteral}
 use Rattle.js_lexer.specs.Characters.{character_len}
 use Rattle.js_lexer.proofs.Literals.{literal_found, literal_known, literal_begins}
-use Rattle.js_lexer.proofs.Spellings.{begins_with_self}
+use Rattle.js_lexer.proofs.Spellings.{prefix_self}
 use Rattle.js_lexer.proofs.Tables.{kind_is, IsKind, Firsts, first_is, is_mark, reserved_is_word, punctuator_is_mark, punctuators_descend, number_not_reserved, number_not_mark}
 
 -- ---- what a token looks like
@@ -246,8 +246,8 @@ some_mark (c ∷ t) e = omega arith
 punctuator_front : (us : List ℕ) → begins is_word_start us ≡ false → begins is_digit us ≡ false → begins is_quote us ≡ false → Front us (first_in punctuators us)
 punctuator_front us a b q = by_found (first_in punctuators us) (first_is punctuators us)
   where
-    stands : (t m : List ℕ) → us ≡ t ++ m → begins_with t us ≡ true
-    stands t m p = ap (begins_with t) p ∙ begins_with_self t m
+    stands : (t m : List ℕ) → us ≡ t ++ m → is_prefix_of t us ≡ true
+    stands t m p = ap (is_prefix_of t) p ∙ prefix_self t m
 
     by_found : (o : Option (TokenKind × ℕ)) → Firsts punctuators us o → Front us o
     by_found None h = record { none = λ t m p s. let l = mark_shape us a b q t m p s in h.none (l.0, t) l.1 (stands t m p) }
@@ -281,7 +281,7 @@ slash_opens false x y e = cc
 comment_first : (us : List ℕ) → opens_comment us ≡ true → (begins is_word_start us ≡ false) × (begins is_digit us ≡ false) × (begins is_quote us ≡ false)
 comment_first [] e = absurd cc
 comment_first (u ∷ us) e =
-    let h : u ≡ 47 = eqb-true u 47 (slash_opens (eqb u 47) (begins_with (47 ∷ []) us) (begins_with (42 ∷ []) us) e) in
+    let h : u ≡ 47 = eqb-true u 47 (slash_opens (eqb u 47) (is_prefix_of (47 ∷ []) us) (is_prefix_of (42 ∷ []) us) e) in
     rw h (refl, refl, refl)
 
 none_at_comment : (us : List ℕ) → opens_comment us ≡ true → token_at us ≡ None

@@ -8,12 +8,12 @@ use Rattle.std.proofs.lemmas.Bool.Decides.{nat_tests}
 use lib.Chars.{codes}
 use Rattle.cdp_text.specs.Position.{is_line_terminator}
 use Rattle.js_lexer.specs.Classes.{begins, is_blank}
-use Rattle.js_lexer.specs.Spellings.{begins_with}
+use Rattle.js_lexer.specs.Spellings.{is_prefix_of}
 use Rattle.js_lexer.specs.Gaps.{ends_line, IsGapPiece}
 use Rattle.js_lexer.specs.Gaps.IsGapPiece.{blank, line_comment, block_comment}
 use Rattle.js_lexer.specs.Scanning.{line_len, before_close, gap_piece}
 use Rattle.js_lexer.proofs.Leading.{leading_all, leading_stops, leading_within, leading_exact}
-use Rattle.js_lexer.proofs.Spellings.{begins_with_is}
+use Rattle.js_lexer.proofs.Spellings.{prefix_is}
 use Rattle.js_lexer.proofs.Runs.{Finds, Knows}
 
 -- ---- what follows /* up to */
@@ -21,17 +21,17 @@ use Rattle.js_lexer.proofs.Runs.{Finds, Knows}
 -- where the first */ stands, it stands
 pub close_at : (us : List ℕ) → before_close us < length us → drop (before_close us) us ≡ codes "*/" ++ drop (suc (suc (before_close us))) us
 close_at [] h = absurd (omega arith)
-close_at (u ∷ us) h = by_test (λ l. close_at us l) (begins_with (codes "*/") (u ∷ us)) refl h
+close_at (u ∷ us) h = by_test (λ l. close_at us l) (is_prefix_of (codes "*/") (u ∷ us)) refl h
   where
-    by_test : (before_close us < length us → drop (before_close us) us ≡ codes "*/" ++ drop (suc (suc (before_close us))) us) → (b : Bool) → begins_with (codes "*/") (u ∷ us) ≡ b → cond b 0 (suc (before_close us)) < suc (length us)
+    by_test : (before_close us < length us → drop (before_close us) us ≡ codes "*/" ++ drop (suc (suc (before_close us))) us) → (b : Bool) → is_prefix_of (codes "*/") (u ∷ us) ≡ b → cond b 0 (suc (before_close us)) < suc (length us)
         → drop (cond b 0 (suc (before_close us))) (u ∷ us) ≡ codes "*/" ++ drop (suc (suc (cond b 0 (suc (before_close us))))) (u ∷ us)
-    by_test go true e l = begins_with_is (codes "*/") (u ∷ us) e
+    by_test go true e l = prefix_is (codes "*/") (u ∷ us) e
     by_test go false e l = go (omega arith)
 
 pub close_fits : (us : List ℕ) → before_close us < length us → before_close us + 2 ≤ length us
 close_fits us h = omega (arith, ap (λ (l : List ℕ). length l) (close_at us h), length-drop (before_close us) us)
 
-slash_first : (n : ℕ) (us after : List ℕ) → take n us ≡ 47 ∷ after → begins_with (47 ∷ []) us ≡ true
+slash_first : (n : ℕ) (us after : List ℕ) → take n us ≡ 47 ∷ after → is_prefix_of (47 ∷ []) us ≡ true
 slash_first zero us after e = absurd cc
 slash_first (suc n) [] after e = absurd cc
 slash_first (suc n) (u ∷ us) after e = let h : u ≡ 47 = cc in rw h refl
@@ -43,30 +43,30 @@ nothing_in (b ∷ before) after e = cc
 -- no */ stands before the first one
 close_first : (us before after : List ℕ) → take (before_close us) us ≡ before ++ (codes "*/" ++ after) → ⊥
 close_first [] before after e = nothing_in before after e
-close_first (u ∷ us) before after e = by_test (λ b a f. close_first us b a f) (begins_with (codes "*/") (u ∷ us)) refl before e
+close_first (u ∷ us) before after e = by_test (λ b a f. close_first us b a f) (is_prefix_of (codes "*/") (u ∷ us)) refl before e
   where
-    by_test : ((b a : List ℕ) → take (before_close us) us ≡ b ++ (codes "*/" ++ a) → ⊥) → (c : Bool) → begins_with (codes "*/") (u ∷ us) ≡ c → (before : List ℕ) → take (cond c 0 (suc (before_close us))) (u ∷ us) ≡ before ++ (codes "*/" ++ after) → ⊥
+    by_test : ((b a : List ℕ) → take (before_close us) us ≡ b ++ (codes "*/" ++ a) → ⊥) → (c : Bool) → is_prefix_of (codes "*/") (u ∷ us) ≡ c → (before : List ℕ) → take (cond c 0 (suc (before_close us))) (u ∷ us) ≡ before ++ (codes "*/" ++ after) → ⊥
     by_test go true e before f = nothing_in before after f
     by_test go false e [] f =
         let h : u ≡ 42 = cc in
         let r : take (before_close us) us ≡ 47 ∷ after = cc in
-        let g : begins_with (codes "*/") (u ∷ us) ≡ true = rw h (slash_first (before_close us) us after r) in
+        let g : is_prefix_of (codes "*/") (u ∷ us) ≡ true = rw h (slash_first (before_close us) us after r) in
         cc
     by_test go false e (b ∷ before) f = go before after cc
 
 close_exact : (body m : List ℕ) → ((before after : List ℕ) → body ≡ before ++ (codes "*/" ++ after) → ⊥) → before_close (body ++ (codes "*/" ++ m)) ≡ length body
 close_exact [] m h = refl
-close_exact (b ∷ body) m h = by_test (close_exact body m (λ before after e. h (b ∷ before) after (ap (λ l. b ∷ l) e))) (begins_with (codes "*/") (b ∷ (body ++ (codes "*/" ++ m)))) refl
+close_exact (b ∷ body) m h = by_test (close_exact body m (λ before after e. h (b ∷ before) after (ap (λ l. b ∷ l) e))) (is_prefix_of (codes "*/") (b ∷ (body ++ (codes "*/" ++ m)))) refl
   where
-    second : (body : List ℕ) → ((before after : List ℕ) → b ∷ body ≡ before ++ (codes "*/" ++ after) → ⊥) → b ≡ 42 → begins_with (47 ∷ []) (body ++ (codes "*/" ++ m)) ≡ true → ⊥
+    second : (body : List ℕ) → ((before after : List ℕ) → b ∷ body ≡ before ++ (codes "*/" ++ after) → ⊥) → b ≡ 42 → is_prefix_of (47 ∷ []) (body ++ (codes "*/" ++ m)) ≡ true → ⊥
     second [] h e f = cc
     second (c ∷ cs) h e f =
         let g : c ≡ 47 = eqb-true c 47 (and_parts (eqb c 47) true f).0 in
         h [] cs cc
 
-    by_test : before_close (body ++ (codes "*/" ++ m)) ≡ length body → (c : Bool) → begins_with (codes "*/") (b ∷ (body ++ (codes "*/" ++ m))) ≡ c → cond c 0 (suc (before_close (body ++ (codes "*/" ++ m)))) ≡ suc (length body)
+    by_test : before_close (body ++ (codes "*/" ++ m)) ≡ length body → (c : Bool) → is_prefix_of (codes "*/") (b ∷ (body ++ (codes "*/" ++ m))) ≡ c → cond c 0 (suc (before_close (body ++ (codes "*/" ++ m)))) ≡ suc (length body)
     by_test go true e =
-        let a = and_parts (eqb b 42) (begins_with (47 ∷ []) (body ++ (codes "*/" ++ m))) e in
+        let a = and_parts (eqb b 42) (is_prefix_of (47 ∷ []) (body ++ (codes "*/" ++ m))) e in
         absurd (second body h (eqb-true b 42 a.0) a.1)
     by_test go false e = omega arith
 
@@ -128,22 +128,22 @@ blank_found : (us : List ℕ) → begins is_blank us ≡ true → Found us 1
 blank_found [] e = absurd cc
 blank_found (u ∷ us) e = (omega arith, blank u refl e)
 
-finds_by : (us : List ℕ) (n : ℕ) (a b c d : Bool) → begins is_blank us ≡ a → begins_with (codes "//") us ≡ b → begins_with (codes "/*") us ≡ c → ltb (before_close (drop 2 us)) (length (drop 2 us)) ≡ d
+finds_by : (us : List ℕ) (n : ℕ) (a b c d : Bool) → begins is_blank us ≡ a → is_prefix_of (codes "//") us ≡ b → is_prefix_of (codes "/*") us ≡ c → ltb (before_close (drop 2 us)) (length (drop 2 us)) ≡ d
     → cond a 1 (cond b (line_len us) (cond c (cond d (before_close (drop 2 us) + 4) 0) 0)) ≡ suc n → Found us (suc n)
 finds_by us n true b c d p q r s e = subst (λ (k : ℕ). Found us k) e (blank_found us p)
 finds_by us n false true c d p q r s e =
-    let w : us ≡ 47 ∷ 47 ∷ drop 2 us = begins_with_is (codes "//") us q in
+    let w : us ≡ 47 ∷ 47 ∷ drop 2 us = prefix_is (codes "//") us q in
     let k : suc (suc (line_len (drop 2 us))) ≡ suc n = ap line_len (sym w) ∙ e in
     subst (λ (k : ℕ). Found us k) k (subst (λ (l : List ℕ). Found l (suc (suc (line_len (drop 2 us))))) (sym w) (line_found (drop 2 us)))
 finds_by us n false false true true p q r s e =
-    let w : us ≡ 47 ∷ 42 ∷ drop 2 us = begins_with_is (codes "/*") us r in
+    let w : us ≡ 47 ∷ 42 ∷ drop 2 us = prefix_is (codes "/*") us r in
     let k : suc (suc (before_close (drop 2 us) + 2)) ≡ suc n = omega arith in
     subst (λ (k : ℕ). Found us k) k (subst (λ (l : List ℕ). Found l (suc (suc (before_close (drop 2 us) + 2)))) (sym w) (block_found (drop 2 us) (ltb-true (before_close (drop 2 us)) (length (drop 2 us)) s)))
 finds_by us n false false true false p q r s e = absurd cc
 finds_by us n false false false d p q r s e = absurd cc
 
 pub gap_finds : Finds (λ text more. IsGapPiece text more) gap_piece
-gap_finds us n e = finds_by us n (begins is_blank us) (begins_with (codes "//") us) (begins_with (codes "/*") us) (ltb (before_close (drop 2 us)) (length (drop 2 us))) refl refl refl refl e
+gap_finds us n e = finds_by us n (begins is_blank us) (is_prefix_of (codes "//") us) (is_prefix_of (codes "/*") us) (ltb (before_close (drop 2 us)) (length (drop 2 us))) refl refl refl refl e
 
 abbrev Known : List ℕ → List ℕ → Type 0
 Known t m = (0 < length t) × (gap_piece (t ++ m) ≡ length t)

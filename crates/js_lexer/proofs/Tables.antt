@@ -6,11 +6,11 @@ use Rattle.std.proofs.lemmas.List.{append-nil, length-drop}
 use Rattle.js_lexer.specs.declared.token.TokenKind.{TokenKind}
 use Rattle.js_lexer.specs.declared.token.TokenKind.TheVariants.{Name, Number, String}
 use Rattle.js_lexer.specs.Classes.{begins, is_word_part, is_quote}
-use Rattle.js_lexer.specs.Spellings.{begins_with, is_same, kind_in, first_in}
+use Rattle.js_lexer.specs.Spellings.{is_prefix_of, is_same, kind_in, first_in}
 use Rattle.js_lexer.specs.Words.{is_word, reserved_words}
 use Rattle.js_lexer.specs.Punctuators.{punctuators}
 use Rattle.js_lexer.specs.Tokens.{IsListed}
-use Rattle.js_lexer.proofs.Spellings.{begins_with_is, begins_with_self}
+use Rattle.js_lexer.proofs.Spellings.{prefix_is, prefix_self}
 
 abbrev Entry : Type 0
 Entry = TokenKind × List ℕ
@@ -32,11 +32,11 @@ empty_back t us l e = by_rest (drop (length t) us) e (omega (arith, length-drop 
 
 same_is : (t us : List ℕ) → is_same t us ≡ true → us ≡ t
 same_is t us e =
-    let a = and_parts (eqb (length us) (length t)) (begins_with t us) e in
-    empty_back t us (eqb-true (length us) (length t) a.0) (begins_with_is t us a.1)
+    let a = and_parts (eqb (length us) (length t)) (is_prefix_of t us) e in
+    empty_back t us (eqb-true (length us) (length t) a.0) (prefix_is t us a.1)
 
 same_self : (t : List ℕ) → is_same t t ≡ true
-same_self t = rw (eq-eqb (length t) (length t) refl) (ap (begins_with t) (sym (append-nil t)) ∙ begins_with_self t [])
+same_self t = rw (eq-eqb (length t) (length t) refl) (ap (is_prefix_of t) (sym (append-nil t)) ∙ prefix_self t [])
 
 -- the kind that a table gives a word stands there with it, or the word isn't there and is a name
 pub record IsKind (table : List Entry) (text : List ℕ) (kind : TokenKind) : Type 0 where
@@ -78,21 +78,21 @@ pub record IsFirst (table : List Entry) (us : List ℕ) (found : TokenKind × �
   pub listed : IsListed (found.0, text) table
   pub here : us ≡ text ++ drop (length text) us
   pub len : length text ≡ found.1
-  pub longest : descends table ≡ true → (e : Entry) → IsListed e table → begins_with e.1 us ≡ true → length e.1 ≤ found.1
+  pub longest : descends table ≡ true → (e : Entry) → IsListed e table → is_prefix_of e.1 us ≡ true → length e.1 ≤ found.1
 
 -- and where none stands here
 pub record IsNone (table : List Entry) (us : List ℕ) : Type 0 where
-  pub none : (e : Entry) → IsListed e table → begins_with e.1 us ≡ true → ⊥
+  pub none : (e : Entry) → IsListed e table → is_prefix_of e.1 us ≡ true → ⊥
 
 abbrev pub Firsts : List Entry → List ℕ → Option (TokenKind × ℕ) → Type 0
 Firsts table us None = IsNone table us
 Firsts table us (Some found) = IsFirst table us found
 
-first_here : (e : Entry) (es : List Entry) (us : List ℕ) → begins_with e.1 us ≡ true → IsFirst (e ∷ es) us (e.0, length e.1)
+first_here : (e : Entry) (es : List Entry) (us : List ℕ) → is_prefix_of e.1 us ≡ true → IsFirst (e ∷ es) us (e.0, length e.1)
 first_here e es us b = record {
   text = e.1;
   listed = inl refl;
-  here = begins_with_is e.1 us b;
+  here = prefix_is e.1 us b;
   len = refl;
   longest = λ d f l h. elim l [
     | inl q ↦ omega (arith, ap (λ (x : Entry). length x.1) q)
@@ -100,11 +100,11 @@ first_here e es us b = record {
   ];
 }
 
-first_below : (e : Entry) (es : List Entry) (us : List ℕ) → begins_with e.1 us ≡ false → (o : Option (TokenKind × ℕ)) → Firsts es us o → Firsts (e ∷ es) us o
+first_below : (e : Entry) (es : List Entry) (us : List ℕ) → is_prefix_of e.1 us ≡ false → (o : Option (TokenKind × ℕ)) → Firsts es us o → Firsts (e ∷ es) us o
 first_below e es us b None h = record {
   none = λ f l p. elim l [
     | inl q ↦ (
-        let g : begins_with f.1 us ≡ begins_with e.1 us = ap (λ (x : Entry). begins_with x.1 us) q in
+        let g : is_prefix_of f.1 us ≡ is_prefix_of e.1 us = ap (λ (x : Entry). is_prefix_of x.1 us) q in
         cc
         )
     | inr l ↦ h.none f l p
@@ -117,7 +117,7 @@ first_below e es us b (Some t) h = record {
   len = h.len;
   longest = λ d f l p. elim l [
     | inl q ↦ (
-        let g : begins_with f.1 us ≡ begins_with e.1 us = ap (λ (x : Entry). begins_with x.1 us) q in
+        let g : is_prefix_of f.1 us ≡ is_prefix_of e.1 us = ap (λ (x : Entry). is_prefix_of x.1 us) q in
         absurd cc
         )
     | inr l ↦ h.longest (and_parts (list_all (λ d. leb (length d.1) (length e.1)) es) (descends es) d).1 f l p
@@ -126,9 +126,9 @@ first_below e es us b (Some t) h = record {
 
 pub first_is : (table : List Entry) (us : List ℕ) → Firsts table us (first_in table us)
 first_is [] us = record { none = λ e l p. l }
-first_is (e ∷ es) us = by_test (first_is es us) (begins_with e.1 us) refl
+first_is (e ∷ es) us = by_test (first_is es us) (is_prefix_of e.1 us) refl
   where
-    by_test : Firsts es us (first_in es us) → (b : Bool) → begins_with e.1 us ≡ b → Firsts (e ∷ es) us (cond b (Some (e.0, length e.1)) (first_in es us))
+    by_test : Firsts es us (first_in es us) → (b : Bool) → is_prefix_of e.1 us ≡ b → Firsts (e ∷ es) us (cond b (Some (e.0, length e.1)) (first_in es us))
     by_test h true p = first_here e es us p
     by_test h false p = first_below e es us p (first_in es us) h
 

@@ -9,7 +9,7 @@ use Rattle.js_lexer.specs.contracts.token.TokenKind.{the_type}
 use Rattle.js_lexer.specs.declared.token.TokenKind.{TokenKind}
 use Rattle.js_lexer.specs.declared.token.TokenKind.TheVariants.{Name, Number, String}
 use Rattle.js_lexer.specs.Classes.{begins, is_blank, is_digit, is_quote, is_word_start, is_word_part, leading}
-use Rattle.js_lexer.specs.Spellings.{begins_with, kind_in}
+use Rattle.js_lexer.specs.Spellings.{is_prefix_of, kind_in}
 use Rattle.js_lexer.specs.Gaps.{opens_comment, has_line_terminator}
 use Rattle.js_lexer.specs.Words.{is_word, reserved_words}
 use Rattle.js_lexer.specs.Punctuators.{punctuators}
@@ -172,9 +172,9 @@ seen_before [] more some e = absurd (omega arith)
 seen_before (c ∷ t) more some e = e
 
 pub no_comment : (us : List ℕ) → opens_comment us ≡ false → begins is_blank us ≡ false → gap_piece us ≡ 0
-no_comment us o b = by_tests (begins_with (codes "//") us) refl (begins_with (codes "/*") us) refl o
+no_comment us o b = by_tests (is_prefix_of (codes "//") us) refl (is_prefix_of (codes "/*") us) refl o
   where
-    by_tests : (x : Bool) → begins_with (codes "//") us ≡ x → (y : Bool) → begins_with (codes "/*") us ≡ y → (x || y) ≡ false → gap_piece us ≡ 0
+    by_tests : (x : Bool) → is_prefix_of (codes "//") us ≡ x → (y : Bool) → is_prefix_of (codes "/*") us ≡ y → (x || y) ≡ false → gap_piece us ≡ 0
     by_tests true p y q e = absurd cc
     by_tests false p true q e = absurd cc
     by_tests false p false q e = rw (b, p, q) refl

@@ -4,7 +4,7 @@ use Rattle.std.specs.List.{list_any}
 use lib.Chars.{codes}
 use Rattle.cdp_text.specs.Position.{is_line_terminator}
 use Rattle.js_lexer.specs.Classes.{is_blank}
-use Rattle.js_lexer.specs.Spellings.{begins_with}
+use Rattle.js_lexer.specs.Spellings.{is_prefix_of}
 use Rattle.js_lexer.specs.Pieces.{AreMadeOf}
 
 -- a line terminator or the end comes next
@@ -27,7 +27,7 @@ pub record IsBlockComment (text : List ℕ) : Type 0 where
 
 -- // or /* stands here
 abbrev pub opens_comment : List ℕ → Bool
-opens_comment us = begins_with (codes "//") us || begins_with (codes "/*") us
+opens_comment us = is_prefix_of (codes "//") us || is_prefix_of (codes "/*") us
 
 -- one unit of white space, one line terminator, or a comment
 pub data IsGapPiece (text more : List ℕ) : Type 0 where

@@ -5,7 +5,7 @@ use Rattle.js_lexer.specs.declared.token.TokenKind.{TokenKind}
 use Rattle.js_lexer.specs.declared.token.TokenKind.TheVariants.{Number, String}
 use Rattle.cdp_text.specs.Position.{is_line_terminator}
 use Rattle.js_lexer.specs.Classes.{begins, is_blank, is_digit, is_quote, is_word_start, is_word_part, leading}
-use Rattle.js_lexer.specs.Spellings.{begins_with, kind_in, first_in}
+use Rattle.js_lexer.specs.Spellings.{is_prefix_of, kind_in, first_in}
 use Rattle.js_lexer.specs.Gaps.{has_line_terminator, opens_comment}
 use Rattle.js_lexer.specs.Words.{reserved_words}
 use Rattle.js_lexer.specs.Punctuators.{punctuators}
@@ -21,7 +21,7 @@ line_len us = leading (λ c. not (is_line_terminator c)) us
 -- how many units stand before the first */, or all where there is none
 abbrev pub before_close : List ℕ → ℕ
 before_close [] = 0
-before_close (u ∷ us) = if begins_with (codes "*/") (u ∷ us) then 0 else suc (before_close us)
+before_close (u ∷ us) = if is_prefix_of (codes "*/") (u ∷ us) then 0 else suc (before_close us)
 
 -- how long a comment is whose /* stands before these units, 0 where it isn't closed
 abbrev pub block_len : List ℕ → ℕ
@@ -31,8 +31,8 @@ block_len us = if nat_lt (before_close us) (length us) then before_close us + 4 
 abbrev pub gap_piece : List ℕ → ℕ
 gap_piece us =
     if begins is_blank us then 1
-    else (if begins_with (codes "//") us then line_len us
-    else (if begins_with (codes "/*") us then block_len (drop 2 us)
+    else (if is_prefix_of (codes "//") us then line_len us
+    else (if is_prefix_of (codes "/*") us then block_len (drop 2 us)
     else 0))
 
 -- how long the gap at the front is

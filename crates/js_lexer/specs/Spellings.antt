@@ -5,14 +5,14 @@ use Rattle.js_lexer.specs.declared.token.TokenKind.{TokenKind}
 use Rattle.js_lexer.specs.declared.token.TokenKind.TheVariants.{Name}
 
 -- the text stands at the front of the units
-abbrev pub begins_with : List ℕ → List ℕ → Bool
-begins_with [] us = true
-begins_with (c ∷ cs) [] = false
-begins_with (c ∷ cs) (u ∷ us) = (u == c) && begins_with cs us
+abbrev pub is_prefix_of : List ℕ → List ℕ → Bool
+is_prefix_of [] us = true
+is_prefix_of (c ∷ cs) [] = false
+is_prefix_of (c ∷ cs) (u ∷ us) = (u == c) && is_prefix_of cs us
 
 -- the text is the units
 abbrev pub is_same : List ℕ → List ℕ → Bool
-is_same text us = (length us == length text) && begins_with text us
+is_same text us = (length us == length text) && is_prefix_of text us
 
 -- the kind that a table gives a word, or `Name`
 abbrev pub kind_in : List (TokenKind × List ℕ) → List ℕ → TokenKind
@@ -22,7 +22,7 @@ kind_in (e ∷ es) us = if is_same e.1 us then e.0 else kind_in es us
 -- the first entry whose text stands at the front, with its length
 abbrev pub first_in : List (TokenKind × List ℕ) → List ℕ → Option (TokenKind × ℕ)
 first_in [] us = None
-first_in (e ∷ es) us = if begins_with e.1 us then Some (e.0, length e.1) else first_in es us
+first_in (e ∷ es) us = if is_prefix_of e.1 us then Some (e.0, length e.1) else first_in es us
 
 -- a table of the code
 abbrev pub entries : List (TokenKind × Bor (List ℕ)) → List (TokenKind × List ℕ)

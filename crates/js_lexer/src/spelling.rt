@@ -1,13 +1,13 @@
 //! Looking up a text in a table of tokens with one spelling each.
 
 ghost use Rattle.std.specs.Prelude.{◌≡◌, ◌≤◌, length, IfSome};
-ghost use Rattle.js_lexer.specs.Spellings.{begins_with, is_same, kind_in, first_in, entries};
+ghost use Rattle.js_lexer.specs.Spellings.{is_prefix_of, is_same, kind_in, first_in, entries};
 
 use crate::token::TokenKind;
 
 /// Whether these units begin with an ASCII text.
 pub fn begins_with(units: &[u16], text: &str) -> bool
-    ensures { result ≡ begins_with text.now units.now }
+    ensures { result ≡ is_prefix_of text.now units.now }
 {
     let mut rest = units;
     for b in text.as_bytes() {
@@ -42,7 +42,7 @@ pub fn kind_in(table: &[(TokenKind, &str)], text: &[u16]) -> TokenKind
 }
 
 /// The first entry of the table whose text stands at the front, with its length.
-#[tactic(auto, using(crate::proofs::Spellings::begins_with_fits))]
+#[tactic(auto, using(crate::proofs::Spellings::prefix_fits))]
 pub fn first_in(table: &[(TokenKind, &str)], units: &[u16]) -> Option<(TokenKind, usize)>
     ensures entry { result ≡ first_in (entries table.now) units.now }
     ensures within { IfSome result (λ t. t.1 ≤ length units.now) }

@@ -7,10 +7,10 @@ use Rattle.std.proofs.lemmas.Bool.{eqb-true}
 use Rattle.js_lexer.specs.declared.token.Token as lexer
 use Rattle.js_tree.specs.declared.node.Span.{Span}
 use Rattle.js_language.specs.Tokens.{Token, head_of, tail_of}
-use Rattle.js_language.specs.Places.{Place, stands, stands_maybe, opens, closes, AreSpans}
+use Rattle.js_language.specs.Places.{Place, stands, stands_maybe, opens, closes, end_of, AreSpans}
 use Rattle.js_tree.specs.Spans.{span_of}
 use Rattle.js_syntax.specs.Views.{tokens_view}
-use Rattle.js_syntax.specs.Places.{end_of, end_before, span_between}
+use Rattle.js_syntax.specs.Places.{end_before, span_between}
 use Rattle.js_syntax.specs.Placed.{GoesOn, AreNumbered, InPlace, Placed, AreInOrder, IsForward}
 use Rattle.js_syntax.proofs.LoopSteps.{append_nil}
 

@@ -1,17 +1,8 @@
 -- The places of what was read in the source.
-use Rattle.std.specs.Prelude.{ℕ, min, ◌-◌, List, length, Option, Some, None, slice_get}
+use Rattle.std.specs.Prelude.{ℕ, min, ◌-◌, List, length, slice_get}
 use Rattle.js_tree.specs.declared.node.Span.{Span}
 use Rattle.js_language.specs.Tokens.{Token, head_of}
-
--- where a token begins, and 0 without one
-abbrev pub start_of : Option Token → ℕ
-start_of None = 0
-start_of (Some t) = t.start
-
--- where it ends
-abbrev pub end_of : Option Token → ℕ
-end_of None = 0
-end_of (Some t) = t.end
+use Rattle.js_language.specs.Places.{start_of, end_of}
 
 -- where the last of the tokens before the rest ends
 abbrev pub end_before : List Token → List Token → ℕ

@@ -2,6 +2,7 @@
 
 ghost use Rattle.std.specs.Prelude.{◌≡◌, ◌∷◌, ◌++◌, [], length, map, All, IfOk, OnOk, OnErr, IfSome};
 ghost use Rattle.js_tree.specs.Spans.{IsWithin};
+ghost use Rattle.js_language.specs.Places as places;
 ghost use Rattle.js_language.specs.Tokens.{head_of};
 ghost use Rattle.js_syntax.specs.Places as spec;
 ghost use Rattle.js_syntax.specs.Views.{tokens_view};
@@ -30,7 +31,7 @@ impl Model for Nodes {
 
 /// Where the first token begins, and 0 where there is none.
 fn start_of(tokens: &[Token<'_>]) -> usize
-    ensures { result ≡ spec.start_of (head_of (tokens_view tokens.now)) }
+    ensures { result ≡ places.start_of (head_of (tokens_view tokens.now)) }
 {
     match tokens {
         [first, ..] => first.start,

@@ -1,8 +1,8 @@
 use Rattle.std.proofs.Common.{◌≡◌, ℕ, ◌<◌, List, [], ◌∷◌, length, drop, false, refl, arith, length-drop}
-use Rattle.js_lexer.specs.Spellings.{begins_with}
+use Rattle.js_lexer.specs.Spellings.{is_prefix_of}
 use Rattle.js_lexer.proofs.spelling.begins_with.Goals as goal
 
-nothing_left : (text us : List ℕ) → 0 < length text → length us ≡ 0 → begins_with text us ≡ false
+nothing_left : (text us : List ℕ) → 0 < length text → length us ≡ 0 → is_prefix_of text us ≡ false
 nothing_left [] us h z = absurd (omega arith)
 nothing_left (c ∷ cs) [] h z = refl
 nothing_left (c ∷ cs) (u ∷ us) h z = absurd (omega arith)
