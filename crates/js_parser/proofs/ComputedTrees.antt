@@ -1,5 +1,5 @@
 -- Trees of short texts, computed by the definition.
-use Rattle.std.proofs.Common.{◌≡◌, ℕ, List, [], ◌∷◌, Some, None, refl, codes, false}
+use Rattle.std.proofs.Common.{◌≡◌, [], Some, None, refl, codes}
 use Rattle.js_tree.specs.Trees as trees
 use Rattle.js_operators.specs.declared.operator.BinaryOperator.TheVariants as binaries
 use Rattle.js_lexer.specs.Punctuators.{punctuators}

@@ -1,5 +1,5 @@
 -- A text's tree as a function of the text is the tree that it has.
-use Rattle.std.proofs.Common.{◌≡◌, ℕ, ◌≤◌, Bool, true, false, List, length, Option, Some, None, Result, Ok, Err, refl, sym, ap, ◌∙◌, arith}
+use Rattle.std.proofs.Common.{◌≡◌, ℕ, ◌≤◌, Bool, true, false, List, length, Option, Some, None, Result, Ok, Err, refl, ap}
 use Rattle.std.specs.Prelude.{nat_le, if◌then◌else◌, IfErr}
 use Rattle.std.proofs.lemmas.Bool.{leb-true, le-leb}
 use Rattle.js_tree.specs.Trees.{Expression}
