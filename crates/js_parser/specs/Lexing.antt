@@ -3,9 +3,9 @@ use Rattle.std.specs.Prelude.{ℕ, zero, suc, List, [], ◌∷◌, length, ◌-�
 use Rattle.js_lexer.specs.State.{items_of}
 use Rattle.js_lexer.specs.Tokens.{Lent}
 use Rattle.js_language.specs.Tokens.{Token}
-use Rattle.js_parser.specs.declared.source.Lexed as source
-use Rattle.js_parser.specs.declared.source.Stop as declared
-use Rattle.js_parser.specs.declared.source.Stop.TheVariants as stops
+use Rattle.js_parser.specs.declared.lexing.Lexed as code
+use Rattle.js_parser.specs.declared.lexing.Stop as declared
+use Rattle.js_parser.specs.declared.lexing.Stop.TheVariants as stops
 use Rattle.js_parser.specs.Sources.{most_tokens, most_height, lent_view}
 use Rattle.js_syntax.specs.declared.fault.ParseError.{ParseError}
 use Rattle.js_syntax.specs.declared.fault.ParseError.TheVariants as errors
@@ -47,7 +47,7 @@ stop_view (Some (stops.Bad at)) = Some (bad at)
 stop_view (Some (stops.Many at)) = Some (many at)
 
 -- what the code reads of a source
-abbrev pub lexed_view : source.Lexed → Lexed
+abbrev pub lexed_view : code.Lexed → Lexed
 lexed_view l = record { tokens = tokens_view l.tokens.items; stop = stop_view l.stop }
 
 -- ---- what is told of a source

@@ -2,12 +2,12 @@
 #![tactic(auto)]
 
 mod earlier;
+mod faults;
 mod functions;
 mod kept;
 mod laws;
+mod lexing;
 pub mod node_text;
 pub mod parse;
-mod reading;
-pub mod source;
-mod trees;
-mod whole;
+mod source_trees;
+mod token_trees;

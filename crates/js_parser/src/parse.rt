@@ -15,7 +15,7 @@ ghost use Rattle.js_parser.specs.Spans.{AreSpansIn};
 ghost use Rattle.js_parser.specs.Texts.{BeginsText};
 
 use crate::kept::{spans_of, text_of, url_of};
-use crate::trees::{expression_tree, function_tree, script_tree};
+use crate::source_trees::{expression_tree, function_tree, script_tree};
 use cdp_text::units::Units;
 use js_syntax::fault::ParseFault;
 use js_syntax::nodes::Nodes;

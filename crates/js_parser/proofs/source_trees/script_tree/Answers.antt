@@ -12,7 +12,7 @@ use Rattle.js_language.specs.Places.{statements_places}
 use Rattle.js_parser.proofs.AnswerLemmas.{told_as}
 use Rattle.js_parser.proofs.SpanLemmas.{told_placed}
 use Rattle.js_parser.proofs.LanguageLemmas.{reads_script}
-use Rattle.js_parser.proofs.trees.script_tree.Goals as goal
+use Rattle.js_parser.proofs.source_trees.script_tree.Goals as goal
 
 pub returns-clause-answers : goal.returns-clause-answers
 returns-clause-answers c =

@@ -1,7 +1,7 @@
 use Rattle.std.proofs.Common.{rules, ◌≡◌, ◌∷◌, [], ◌++◌, Ok}
 use Rattle.js_lexer.specs.State.{tokens_left}
 use Rattle.js_parser.proofs.LexedLemmas.{Reads, begins, lent, one_more}
-use Rattle.js_parser.proofs.source.read_tokens.Goals as goal
+use Rattle.js_parser.proofs.lexing.read_tokens.Goals as goal
 
 pub loop-item-init : goal.loop-item-init
 loop-item-init c = rw (c.new-tokens.ensures.items, c.into_iter-item-iterator.ensures.into_iter_gives) (tt, tt, begins (tokens_left c.args.items))

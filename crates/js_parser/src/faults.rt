@@ -1,41 +1,14 @@
-//! Sources read whole: their tokens, and the faults that stand in them.
+//! What is told of a source: its tree, or the fault that stands in it.
 
-ghost use Rattle.std.specs.Prelude.{◌≡◌, ◌-◌, ◌≤◌, ◌<◌, length, nat_lt, slice_get, IfOk, IfErr};
-ghost use Rattle.js_syntax.specs.declared.fault.ParseFault.TheVariants.{Memory, TooLong};
+ghost use Rattle.std.specs.Prelude.{◌≡◌, ◌-◌, length, nat_lt, slice_get};
 ghost use Rattle.js_parser.specs.Lexing as spec;
-ghost use Rattle.js_parser.specs.Lexing.{lexed_of, lexed_view, stop_view};
-ghost use Rattle.js_parser.specs.Sources.{most_height, most_units};
+ghost use Rattle.js_parser.specs.Lexing.{lexed_view, stop_view};
+ghost use Rattle.js_parser.specs.Sources.{most_height};
 ghost use Rattle.js_syntax.specs.Views.{tokens_view};
 
-use crate::source::{Lexed, Stop, read_tokens};
-use js_lexer::tokens::Tokens;
+use crate::lexing::{Lexed, Stop};
+use js_descent::limits::MOST_HEIGHT;
 use js_syntax::fault::{ParseError, ParseFault};
-use std::alloc::Global;
-
-/// The greatest number of code units that a source may have.
-pub const MOST_UNITS: usize = 1_048_576;
-
-/// The greatest height that a tree may have.
-pub const MOST_HEIGHT: u32 = 200;
-
-/// The tokens of a source that isn't too long.
-///
-/// # Errors
-///
-/// `TooLong`, or no memory.
-pub fn lexed<'s>(alloc: Global, source: &'s [u16]) -> Result<Lexed<'s>, ParseFault>
-    ensures long { most_units < length source.now → result ≡ Err (TooLong (length source.now)) }
-    ensures short { IfOk result (λ l. length source.now ≤ most_units) }
-    ensures tokens { IfOk result (λ l. lexed_view l ≡ lexed_of source.now) }
-    ensures fault { length source.now ≤ most_units → IfErr result (λ f. f ≡ Memory) }
-{
-    if source.len() > MOST_UNITS {
-        return Err(ParseFault::TooLong {
-            units: source.len(),
-        });
-    }
-    read_tokens(alloc, Tokens::new(source)).map_err(|_| ParseFault::Memory)
-}
 
 /// The fault for want of further tokens, or else at the end of the source.
 fn stop_fault(end: usize, stop: Option<Stop>) -> ParseFault

@@ -1,6 +1,6 @@
 use Rattle.js_syntax.proofs.PlacedLemmas.{no_tokens, whole_source}
 use Rattle.std.proofs.Common.{sym, ◌∙◌}
-use Rattle.js_parser.proofs.whole.function_of.Goals as goal
+use Rattle.js_parser.proofs.token_trees.expression_of.Goals as goal
 
 pub returns-clause-placed : goal.returns-clause-placed
 returns-clause-placed c = rw c.into_inner.ensures (whole_source c.in_ok-tree.ensures.placed (no_tokens c.in_ok-tree.rest.now (sym c.is_empty.ensures ∙ c.if-not-is_empty.false)))

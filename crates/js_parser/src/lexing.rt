@@ -1,14 +1,20 @@
 //! The tokens of a source, within the limits.
 
-ghost use Rattle.std.specs.Prelude.{◌≡◌, IfOk};
+ghost use Rattle.std.specs.Prelude.{◌≡◌, ◌≤◌, ◌<◌, length, IfOk, IfErr};
 ghost use Rattle.js_syntax.specs.Views.{tokens_view};
+ghost use Rattle.js_syntax.specs.declared.fault.ParseFault.TheVariants.{Memory, TooLong};
 ghost use Rattle.js_lexer.specs.State.{tokens_left};
-ghost use Rattle.js_parser.specs.Lexing.{lexed, stop_view};
-ghost use Rattle.js_parser.specs.Sources.{most_tokens};
+ghost use Rattle.js_parser.specs.Lexing as spec;
+ghost use Rattle.js_parser.specs.Lexing.{lexed_of, lexed_view, stop_view};
+ghost use Rattle.js_parser.specs.Sources.{most_tokens, most_units};
 
 use js_lexer::token::Token;
 use js_lexer::tokens::Tokens;
+use js_syntax::fault::ParseFault;
 use std::alloc::{AllocError, Global};
+
+/// The greatest number of code units that a source may have.
+pub const MOST_UNITS: usize = 1_048_576;
 
 /// The greatest number of tokens that a source may have.
 pub const MOST_TOKENS: usize = 200_000;
@@ -31,8 +37,8 @@ pub struct Lexed<'s> {
 
 /// Reads tokens up to a bad one or one too many.
 pub fn read_tokens<'s>(alloc: Global, items: Tokens<'s>) -> Result<Lexed<'s>, AllocError>
-    ensures tokens { IfOk result (λ l. tokens_view l.tokens.items ≡ (lexed most_tokens (tokens_left items.entry)).tokens) }
-    ensures stop { IfOk result (λ l. stop_view l.stop ≡ (lexed most_tokens (tokens_left items.entry)).stop) }
+    ensures tokens { IfOk result (λ l. tokens_view l.tokens.items ≡ (spec.lexed most_tokens (tokens_left items.entry)).tokens) }
+    ensures stop { IfOk result (λ l. stop_view l.stop ≡ (spec.lexed most_tokens (tokens_left items.entry)).stop) }
 {
     let mut tokens = Vec::new(alloc);
     for item in items {
@@ -52,4 +58,23 @@ pub fn read_tokens<'s>(alloc: Global, items: Tokens<'s>) -> Result<Lexed<'s>, Al
         }
     }
     Ok(Lexed { tokens, stop: None })
+}
+
+/// The tokens of a source that isn't too long.
+///
+/// # Errors
+///
+/// `TooLong`, or no memory.
+pub fn lexed<'s>(alloc: Global, source: &'s [u16]) -> Result<Lexed<'s>, ParseFault>
+    ensures long { most_units < length source.now → result ≡ Err (TooLong (length source.now)) }
+    ensures short { IfOk result (λ l. length source.now ≤ most_units) }
+    ensures tokens { IfOk result (λ l. lexed_view l ≡ lexed_of source.now) }
+    ensures fault { length source.now ≤ most_units → IfErr result (λ f. f ≡ Memory) }
+{
+    if source.len() > MOST_UNITS {
+        return Err(ParseFault::TooLong {
+            units: source.len(),
+        });
+    }
+    read_tokens(alloc, Tokens::new(source)).map_err(|_| ParseFault::Memory)
 }

@@ -1,4 +1,4 @@
-//! The trees of whole sources.
+//! The trees of sources.
 
 ghost use Rattle.std.specs.Prelude.{◌≡◌, IfErr, IfOk};
 ghost use Rattle.js_tree.specs.Height.{height, height_of_statements};
@@ -10,8 +10,9 @@ ghost use Rattle.js_parser.specs.Answers.{Answers};
 ghost use Rattle.js_parser.specs.Spans.{Stands};
 
 use crate::earlier::earlier_names;
-use crate::reading::{lexed, told};
-use crate::whole::{expression_of, function_of, script_of};
+use crate::faults::told;
+use crate::lexing::lexed;
+use crate::token_trees::{expression_of, function_of, script_of};
 use cdp_text::units::Units;
 use js_syntax::fault::ParseFault;
 use js_syntax::name_set::NameSet;

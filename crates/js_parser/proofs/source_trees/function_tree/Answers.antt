@@ -11,7 +11,7 @@ use Rattle.js_language.specs.Places.{expression_places}
 use Rattle.js_parser.proofs.AnswerLemmas.{told_as}
 use Rattle.js_parser.proofs.SpanLemmas.{told_placed}
 use Rattle.js_parser.proofs.LanguageLemmas.{reads_function}
-use Rattle.js_parser.proofs.trees.function_tree.Goals as goal
+use Rattle.js_parser.proofs.source_trees.function_tree.Goals as goal
 
 pub returns-clause-answers : goal.returns-clause-answers
 returns-clause-answers c =

@@ -1,6 +1,6 @@
 use Rattle.js_lexer.specs.State.{tokens_left}
 use Rattle.js_parser.proofs.LexedLemmas.{Reads}
-use Rattle.js_parser.proofs.source.read_tokens.Given as goal
+use Rattle.js_parser.proofs.lexing.read_tokens.Given as goal
 
 abbrev pub invariant-loop-item : goal.invariant-loop-item
 invariant-loop-item l =
