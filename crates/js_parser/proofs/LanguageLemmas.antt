@@ -9,8 +9,7 @@ use Rattle.js_grammar.proofs.Soundness.{expression_read, function_read, script_r
 use Rattle.js_grammar.proofs.Completeness.{expression_again_whole, function_again_whole, script_again_whole, one_expression, one_function, one_script}
 use Rattle.js_grammar.proofs.DeepWhole.{expression_too_deep, function_too_deep, script_too_deep}
 use Rattle.js_grammar.proofs.Exactness.{expression_leaves_at, function_leaves_at, script_leaves_at}
-use Rattle.js_descent.specs.declared.limits.TheConstants.{MOST_ROOM}
-use Rattle.js_parser.specs.Sources.{most_height}
+use Rattle.js_descent.specs.declared.limits.TheConstants.{MOST_HEIGHT, MOST_ROOM}
 use Rattle.js_parser.proofs.AnswerLemmas.{ReadsExactly}
 
 pub reads_expression : (ts : List Token) → ReadsExactly IsExpression height MOST_ROOM ts (parse_expression MOST_ROOM ts)
@@ -19,7 +18,7 @@ reads_expression ts = record {
   complete = λ t i l. expression_again_whole MOST_ROOM ts t i l;
   one = λ t u i j. one_expression ts t u i j;
   leaves = λ left e. expression_leaves_at MOST_ROOM ts left e;
-  deepens = λ left e. expression_too_deep most_height ts left e;
+  deepens = λ left e. expression_too_deep MOST_HEIGHT ts left e;
 }
 
 pub reads_function : (ts : List Token) → ReadsExactly IsFunction height MOST_ROOM ts (parse_function MOST_ROOM ts)
@@ -28,7 +27,7 @@ reads_function ts = record {
   complete = λ t i l. function_again_whole MOST_ROOM ts t i l;
   one = λ t u i j. one_function ts t u i j;
   leaves = λ left e. function_leaves_at MOST_ROOM ts left e;
-  deepens = λ left e. function_too_deep most_height ts left e;
+  deepens = λ left e. function_too_deep MOST_HEIGHT ts left e;
 }
 
 pub reads_script : (earlier : List Identifier) (ts : List Token) → ReadsExactly (IsScript earlier) height_of_statements MOST_ROOM ts (parse_script MOST_ROOM earlier ts)
@@ -37,5 +36,5 @@ reads_script earlier ts = record {
   complete = λ t i l. script_again_whole MOST_ROOM earlier ts t i l;
   one = λ t u i j. one_script earlier ts t u i j;
   leaves = λ left e. script_leaves_at MOST_ROOM earlier ts left e;
-  deepens = λ left e. script_too_deep most_height earlier ts left e;
+  deepens = λ left e. script_too_deep MOST_HEIGHT earlier ts left e;
 }

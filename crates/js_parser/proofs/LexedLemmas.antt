@@ -6,7 +6,8 @@ use Rattle.js_lexer.specs.Tokens.{Lent}
 use Rattle.js_language.specs.Tokens.{Token}
 use Rattle.js_syntax.specs.Views.{tokens_view, token_view}
 use Rattle.js_parser.specs.Lexing.{Lexed, lexed}
-use Rattle.js_parser.specs.Sources.{lent_view, most_tokens}
+use Rattle.js_parser.specs.declared.limits.TheConstants.{MOST_TOKENS}
+use Rattle.js_parser.specs.Sources.{lent_view}
 
 abbrev with_front : List Token → Lexed → Lexed
 with_front ts l = record { tokens = ts ++ l.tokens; stop = l.stop }
@@ -14,14 +15,14 @@ with_front ts l = record { tokens = ts ++ l.tokens; stop = l.stop }
 -- what was read, and what is left
 pub record Reads (all : List (Result Lent ℕ)) (tokens : List lexer.Token) (left : List (Result Lent ℕ)) : Type 0 where
   pub room : ℕ
-  pub fits : length tokens + room ≡ most_tokens
-  pub same : lexed most_tokens all ≡ with_front (tokens_view tokens) (lexed room left)
+  pub fits : length tokens + room ≡ MOST_TOKENS
+  pub same : lexed MOST_TOKENS all ≡ with_front (tokens_view tokens) (lexed room left)
 
 front_nil : (l : Lexed) → l ≡ with_front [] l
 front_nil l = refl
 
 pub begins : (all : List (Result Lent ℕ)) → Reads all [] all
-begins all = record { room = most_tokens; fits = refl; same = front_nil (lexed most_tokens all) }
+begins all = record { room = MOST_TOKENS; fits = refl; same = front_nil (lexed MOST_TOKENS all) }
 
 abbrev pub lent : lexer.Token → Lent
 lent t = record { kind = t.kind; text = t.text.now; start = t.start; newline_before = t.newline_before }
@@ -33,10 +34,10 @@ regroup ts t l = ap (λ (us : List Token). record { tokens = us; stop = l.stop }
     moves [] = refl
     moves (x ∷ ts) = ap (λ (us : List Token). token_view x ∷ us) (moves ts)
 
-pub one_more : (all : List (Result Lent ℕ)) (ts : List lexer.Token) (t : lexer.Token) (left rest : List (Result Lent ℕ)) → Reads all ts left → left ≡ Ok (lent t) ∷ rest → (length ts ≡ most_tokens → ⊥) → Reads all (ts ++ t ∷ []) rest
+pub one_more : (all : List (Result Lent ℕ)) (ts : List lexer.Token) (t : lexer.Token) (left rest : List (Result Lent ℕ)) → Reads all ts left → left ≡ Ok (lent t) ∷ rest → (length ts ≡ MOST_TOKENS → ⊥) → Reads all (ts ++ t ∷ []) rest
 one_more all ts t left rest r e n = by_room r.room r.fits r.same
   where
-    by_room : (room : ℕ) → length ts + room ≡ most_tokens → lexed most_tokens all ≡ with_front (tokens_view ts) (lexed room left) → Reads all (ts ++ t ∷ []) rest
+    by_room : (room : ℕ) → length ts + room ≡ MOST_TOKENS → lexed MOST_TOKENS all ≡ with_front (tokens_view ts) (lexed room left) → Reads all (ts ++ t ∷ []) rest
     by_room zero f s = absurd (n (omega arith))
     by_room (suc k) f s = record {
       room = k;

@@ -5,7 +5,8 @@ use Rattle.js_lexer.specs.State.{items_of}
 use Rattle.js_lexer.specs.Tokens.{Lent}
 use Rattle.js_language.specs.Tokens.{Token}
 use Rattle.js_parser.specs.Lexing.{Stop, bad, many, lexed, lexed_of}
-use Rattle.js_parser.specs.Sources.{most_tokens, lent_view, tokens_in, bad_in, tokens_of, bad_place}
+use Rattle.js_parser.specs.declared.limits.TheConstants.{MOST_TOKENS}
+use Rattle.js_parser.specs.Sources.{lent_view, tokens_in, bad_in, tokens_of, bad_place}
 
 -- the first of all tokens are read, and of those behind them the one that begins here
 pub record IsCut (n : ℕ) (all read : List Token) (at : ℕ) : Type 0 where
@@ -44,10 +45,10 @@ is_read (suc n) (Ok t ∷ is) = with_one (lent_view t) n (tokens_in is) (bad_in 
 
 -- what is read of a source
 abbrev pub IsReadOf : List ℕ → List Token → Option Stop → Type 0
-IsReadOf source read stop = IsRead most_tokens (tokens_of source) (bad_place source) read stop
+IsReadOf source read stop = IsRead MOST_TOKENS (tokens_of source) (bad_place source) read stop
 
 pub is_read_of : (source : List ℕ) → IsReadOf source (lexed_of source).tokens (lexed_of source).stop
-is_read_of source = is_read most_tokens (items_of source)
+is_read_of source = is_read MOST_TOKENS (items_of source)
 
 -- what is read are first tokens of all, and at most one too many
 pub record AreFirst (n : ℕ) (all read : List Token) : Type 0 where

@@ -3,7 +3,8 @@ use Rattle.std.specs.Prelude.{◌≡◌, ◌<◌, ℕ, List, length, Result, Ok,
 use Rattle.js_language.specs.Tokens.{Token}
 use Rattle.js_syntax.specs.declared.fault.ParseFault.{ParseFault}
 use Rattle.js_syntax.specs.declared.fault.ParseFault.TheVariants as faults
-use Rattle.js_parser.specs.Sources.{most_units, IsSource}
+use Rattle.js_parser.specs.declared.limits.TheConstants.{MOST_UNITS}
+use Rattle.js_parser.specs.Sources.{IsSource}
 use Rattle.js_parser.specs.Faults.{Stands, Caused, IsCause, ComesFirst}
 
 -- the answer is this, or memory ran out
@@ -22,7 +23,7 @@ FailsBy f (Err g) = g ≡ f
 pub record Answers {A Tree : Type 0} (Is : List Token → Tree → Type 0) (height_of : Tree → ℕ) (source : List ℕ) (look : A → Tree) (answer : Result A ParseFault) : Type 0 where
   pub found : IfOk answer (λ x. IsSource Is height_of source (look x))
   pub only : (t : Tree) → IsSource Is height_of source t → OkOrMemory (λ x. look x ≡ t) answer
-  pub long : most_units < length source → answer ≡ Err (faults.TooLong (length source))
+  pub long : MOST_UNITS < length source → answer ≡ Err (faults.TooLong (length source))
   pub caused : IfErr answer (λ f. Caused Is height_of source f)
   pub exact : (f : ParseFault) → Stands Is height_of source f → FailsBy f answer
   pub first : (g : ParseFault) → IsCause Is source g → IfErr answer (λ f. ComesFirst f g)

@@ -6,7 +6,9 @@ use Rattle.js_syntax.specs.declared.fault.ParseFault.{ParseFault}
 use Rattle.js_syntax.specs.declared.fault.ParseFault.TheVariants as faults
 use Rattle.js_syntax.specs.Reading.{Fault}
 use Rattle.js_syntax.specs.Parsing.{parse_expression, parse_function}
-use Rattle.js_parser.specs.Sources.{most_units, most_tokens, most_height, tokens_of, bad_place}
+use Rattle.js_descent.specs.declared.limits.TheConstants.{MOST_HEIGHT}
+use Rattle.js_parser.specs.declared.limits.TheConstants.{MOST_UNITS, MOST_TOKENS}
+use Rattle.js_parser.specs.Sources.{tokens_of, bad_place}
 
 -- what reads a tree from all of some tokens
 abbrev pub TreeReader : Type 0
@@ -19,20 +21,20 @@ if_read (Err f) = None
 
 -- the tree of a source's tokens, of which none is bad and none is too many
 abbrev pub tree_of_tokens : TreeReader → Option ℕ → List Token → Option Expression
-tree_of_tokens read None ts = if (nat_le (length ts) most_tokens) then if_read (read ts) else None
+tree_of_tokens read None ts = if (nat_le (length ts) MOST_TOKENS) then if_read (read ts) else None
 tree_of_tokens read (Some at) ts = None
 
 -- the tree of a source that isn't too long
 abbrev pub tree_by : TreeReader → List ℕ → Option Expression
-tree_by read source = if (nat_le (length source) most_units) then tree_of_tokens read (bad_place source) (tokens_of source) else None
+tree_by read source = if (nat_le (length source) MOST_UNITS) then tree_of_tokens read (bad_place source) (tokens_of source) else None
 
 -- The tree of the expression that a text is, without numbers and places; None where the text is no expression within the limits.
 unfoldable pub expression_of : List ℕ → Option Expression
-expression_of source = tree_by (parse_expression most_height) source
+expression_of source = tree_by (parse_expression MOST_HEIGHT) source
 
 -- The tree of the function expression or arrow function that a text is; None where it is none within the limits.
 unfoldable pub function_of : List ℕ → Option Expression
-function_of source = tree_by (parse_function most_height) source
+function_of source = tree_by (parse_function MOST_HEIGHT) source
 
 -- the claim, unless memory ran out
 abbrev pub UnlessMemory : Type 0 → ParseFault → Type 0

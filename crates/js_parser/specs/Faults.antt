@@ -5,7 +5,9 @@ use Rattle.js_language.specs.Language.{Begins}
 use Rattle.js_syntax.specs.declared.fault.ParseFault.{ParseFault}
 use Rattle.js_syntax.specs.declared.fault.ParseFault.TheVariants as faults
 use Rattle.js_grammar.specs.Exact.{Leaves, TooDeepFrom}
-use Rattle.js_parser.specs.Sources.{most_units, most_tokens, most_height, tokens_of, bad_place, HasDeepTree}
+use Rattle.js_descent.specs.declared.limits.TheConstants.{MOST_HEIGHT}
+use Rattle.js_parser.specs.declared.limits.TheConstants.{MOST_UNITS, MOST_TOKENS}
+use Rattle.js_parser.specs.Sources.{tokens_of, bad_place, HasDeepTree}
 
 -- ---- causes
 -- Tokens begin a language where some tokens behind them, of whatever number, make them one of its sources (Begins). The greatest numbers of tokens and of code units play no part in that. Of the first tokens of a source that says as much as that a text of the language begins with them (BeginsText, and the clause texts of each call).
@@ -31,18 +33,18 @@ pub record PassesLimit (source : List ℕ) (at : ℕ) : Type 0 where
   pub left : List Token
   pub parts : tokens_of source ≡ before ++ next ∷ left
   pub place : at ≡ next.start
-  pub counted : length before ≡ most_tokens
+  pub counted : length before ≡ MOST_TOKENS
 
 -- ---- faults
 -- Each is its cause, with nothing wrong before it.
 
 -- a bad token, behind tokens that begin the language and aren't too many
 abbrev pub HasBadToken : {Tree : Type 0} → (List Token → Tree → Type 0) → List ℕ → ℕ → Type 0
-HasBadToken Is source at = (bad_place source ≡ Some at) × (length (tokens_of source) ≤ most_tokens) × Begins Is (tokens_of source)
+HasBadToken Is source at = (bad_place source ≡ Some at) × (length (tokens_of source) ≤ MOST_TOKENS) × Begins Is (tokens_of source)
 
 -- the place where the language is left, behind no more tokens than a source may have
 abbrev pub HasSyntaxFault : {Tree : Type 0} → (List Token → Tree → Type 0) → List ℕ → ℕ → Type 0
-HasSyntaxFault Is source at = (l : LeavesLanguage Is source at) × (length l.before ≤ most_tokens)
+HasSyntaxFault Is source at = (l : LeavesLanguage Is source at) × (length l.before ≤ MOST_TOKENS)
 
 -- a token that is one too many, and the tokens through it begin the language
 abbrev pub HasTooMany : {Tree : Type 0} → (List Token → Tree → Type 0) → List ℕ → ℕ → Type 0
@@ -50,16 +52,16 @@ HasTooMany Is source at = (p : PassesLimit source at) × Begins Is (p.before ++ 
 
 -- This fault stands in the source. In a source that isn't too long that is the first of these: a bad token, a syntax fault, a token too many. A tree is too deep where none of these stands.
 abbrev pub Stands : {Tree : Type 0} → (List Token → Tree → Type 0) → (Tree → ℕ) → List ℕ → ParseFault → Type 0
-Stands Is height_of source (faults.TooLong units) = (most_units < length source) × (units ≡ length source)
-Stands Is height_of source (faults.Token at) = (length source ≤ most_units) × HasBadToken Is source at
-Stands Is height_of source (faults.Syntax at) = (length source ≤ most_units) × HasSyntaxFault Is source at
-Stands Is height_of source (faults.TooMany at) = (length source ≤ most_units) × HasTooMany Is source at
+Stands Is height_of source (faults.TooLong units) = (MOST_UNITS < length source) × (units ≡ length source)
+Stands Is height_of source (faults.Token at) = (length source ≤ MOST_UNITS) × HasBadToken Is source at
+Stands Is height_of source (faults.Syntax at) = (length source ≤ MOST_UNITS) × HasSyntaxFault Is source at
+Stands Is height_of source (faults.TooMany at) = (length source ≤ MOST_UNITS) × HasTooMany Is source at
 Stands Is height_of source faults.TooDeep = HasDeepTree Is height_of source
 Stands Is height_of source faults.Memory = ⊥
 
 -- The source isn't too long, and some of its first tokens begin the language, but only trees that are deeper than a source's may be.
 abbrev pub BeginsTooDeep : {Tree : Type 0} → (List Token → Tree → Type 0) → (Tree → ℕ) → List ℕ → Type 0
-BeginsTooDeep Is height_of source = (length source ≤ most_units) × TooDeepFrom Is height_of (tokens_of source) most_height
+BeginsTooDeep Is height_of source = (length source ≤ MOST_UNITS) × TooDeepFrom Is height_of (tokens_of source) MOST_HEIGHT
 
 -- What each fault says of a source. A tree is too deep where the source is in the language with a tree that is deeper than may be, or where its first tokens begin only such trees; such a source that has another fault besides may get either.
 abbrev pub Caused : {Tree : Type 0} → (List Token → Tree → Type 0) → (Tree → ℕ) → List ℕ → ParseFault → Type 0

@@ -6,7 +6,9 @@ use Rattle.js_language.specs.Tokens.{Token}
 use Rattle.js_parser.specs.declared.lexing.Lexed as code
 use Rattle.js_parser.specs.declared.lexing.Stop as declared
 use Rattle.js_parser.specs.declared.lexing.Stop.TheVariants as stops
-use Rattle.js_parser.specs.Sources.{most_tokens, most_height, lent_view}
+use Rattle.js_descent.specs.declared.limits.TheConstants.{MOST_HEIGHT}
+use Rattle.js_parser.specs.declared.limits.TheConstants.{MOST_TOKENS}
+use Rattle.js_parser.specs.Sources.{lent_view}
 use Rattle.js_syntax.specs.declared.fault.ParseError.{ParseError}
 use Rattle.js_syntax.specs.declared.fault.ParseError.TheVariants as errors
 use Rattle.js_syntax.specs.declared.fault.ParseFault.{ParseFault}
@@ -36,7 +38,7 @@ lexed (suc n) (Ok t ∷ is) = with_token t (lexed n is)
 
 -- what is read of a source
 abbrev pub lexed_of : List ℕ → Lexed
-lexed_of source = lexed most_tokens (items_of source)
+lexed_of source = lexed MOST_TOKENS (items_of source)
 
 -- ---- how the code's values are seen
 
@@ -77,7 +79,7 @@ unless_deep false x = Ok x
 
 -- what is told of a source whose tokens were read as a tree of this height: where there are no further tokens for a cause, that cause
 abbrev pub complete : {A : Type 0} → ℕ → Option Stop → A → ℕ → Result A ParseFault
-complete end None x height = unless_deep (nat_lt most_height height) x
+complete end None x height = unless_deep (nat_lt MOST_HEIGHT height) x
 complete end (Some stop) x height = Err (stop_fault end (Some stop))
 
 -- what is told of a source: of the tree that was read with its height, or of why reading stopped

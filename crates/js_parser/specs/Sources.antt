@@ -1,21 +1,11 @@
--- Sources: their tokens, and their trees within the limits.
+-- Sources: their tokens, and their trees within the limits, which are constants of the code.
 use Rattle.std.specs.Prelude.{◌≡◌, ◌≤◌, ◌<◌, ℕ, ◌+◌, List, [], ◌∷◌, length, Option, Some, None, Result, Ok, Err}
 use Rattle.js_lexer.specs.State.{items_of}
 use Rattle.js_lexer.specs.Tokens.{Lent}
 use Rattle.js_language.specs.Tokens.{Token}
 use Rattle.js_syntax.specs.Views.{string_value_of, numeric_value_of}
-
--- the most code units of a source
-abbrev pub most_units : ℕ
-most_units = 1048576
-
--- the most tokens of a source
-abbrev pub most_tokens : ℕ
-most_tokens = 200000
-
--- the greatest height of a source's tree
-abbrev pub most_height : ℕ
-most_height = 200
+use Rattle.js_descent.specs.declared.limits.TheConstants.{MOST_HEIGHT}
+use Rattle.js_parser.specs.declared.limits.TheConstants.{MOST_UNITS, MOST_TOKENS}
 
 -- ---- tokens
 
@@ -54,14 +44,14 @@ bad_place source = bad_in (items_of source)
 
 -- The source isn't too long, no token of it is bad and none is too many, and its tokens are those of this tree.
 pub record IsTreeOf {Tree : Type 0} (Is : List Token → Tree → Type 0) (source : List ℕ) (t : Tree) : Type 0 where
-  pub short : length source ≤ most_units
+  pub short : length source ≤ MOST_UNITS
   pub all_good : bad_place source ≡ None
-  pub few : length (tokens_of source) ≤ most_tokens
+  pub few : length (tokens_of source) ≤ MOST_TOKENS
   pub is : Is (tokens_of source) t
 
 -- the source is one of the language, with this tree, within the limits
 abbrev pub IsSource : {Tree : Type 0} → (List Token → Tree → Type 0) → (Tree → ℕ) → List ℕ → Tree → Type 0
-IsSource Is height_of source t = IsTreeOf Is source t × (height_of t ≤ most_height)
+IsSource Is height_of source t = IsTreeOf Is source t × (height_of t ≤ MOST_HEIGHT)
 
 -- a source of this language within the limits
 abbrev pub HasTree : {Tree : Type 0} → (List Token → Tree → Type 0) → (Tree → ℕ) → List ℕ → Type 0
@@ -69,4 +59,4 @@ HasTree {Tree} Is height_of source = (t : Tree) × IsSource Is height_of source 
 
 -- a source of this language whose tree alone passes a limit
 abbrev pub HasDeepTree : {Tree : Type 0} → (List Token → Tree → Type 0) → (Tree → ℕ) → List ℕ → Type 0
-HasDeepTree {Tree} Is height_of source = (t : Tree) × (IsTreeOf Is source t × (most_height < height_of t))
+HasDeepTree {Tree} Is height_of source = (t : Tree) × (IsTreeOf Is source t × (MOST_HEIGHT < height_of t))

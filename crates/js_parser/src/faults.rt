@@ -3,7 +3,6 @@
 ghost use Rattle.std.specs.Prelude.{◌≡◌, ◌-◌, length, nat_lt, slice_get};
 ghost use Rattle.js_parser.specs.Lexing as spec;
 ghost use Rattle.js_parser.specs.Lexing.{lexed_view, stop_view};
-ghost use Rattle.js_parser.specs.Sources.{most_height};
 ghost use Rattle.js_syntax.specs.Views.{tokens_view};
 
 use crate::lexing::{Lexed, Stop};
@@ -47,7 +46,7 @@ pub fn fault_of(lexed: &Lexed<'_>, end: usize, error: ParseError) -> ParseFault
 
 /// A tree of this height, unless it is too deep.
 fn unless_deep<T: Drop>(tree: T, height: u32) -> Result<T, ParseFault>
-    ensures { result ≡ spec.unless_deep (nat_lt most_height height) tree }
+    ensures { result ≡ spec.unless_deep (nat_lt MOST_HEIGHT height) tree }
 {
     if height > MOST_HEIGHT {
         Err(ParseFault::TooDeep)

@@ -6,18 +6,12 @@ ghost use Rattle.js_syntax.specs.declared.fault.ParseFault.TheVariants.{Memory, 
 ghost use Rattle.js_lexer.specs.State.{tokens_left};
 ghost use Rattle.js_parser.specs.Lexing as spec;
 ghost use Rattle.js_parser.specs.Lexing.{lexed_of, lexed_view, stop_view};
-ghost use Rattle.js_parser.specs.Sources.{most_tokens, most_units};
 
+use crate::limits::{MOST_TOKENS, MOST_UNITS};
 use js_lexer::token::Token;
 use js_lexer::tokens::Tokens;
 use js_syntax::fault::ParseFault;
 use std::alloc::{AllocError, Global};
-
-/// The greatest number of code units that a source may have.
-pub const MOST_UNITS: usize = 1_048_576;
-
-/// The greatest number of tokens that a source may have.
-pub const MOST_TOKENS: usize = 200_000;
 
 /// Why a source has no further tokens. A place counts the code units before it.
 #[derive(Clone, Copy, Debug, PartialEq, Eq)]
@@ -37,8 +31,8 @@ pub struct Lexed<'s> {
 
 /// Reads tokens up to a bad one or one too many.
 pub fn read_tokens<'s>(alloc: Global, items: Tokens<'s>) -> Result<Lexed<'s>, AllocError>
-    ensures tokens { IfOk result (λ l. tokens_view l.tokens.items ≡ (spec.lexed most_tokens (tokens_left items.entry)).tokens) }
-    ensures stop { IfOk result (λ l. stop_view l.stop ≡ (spec.lexed most_tokens (tokens_left items.entry)).stop) }
+    ensures tokens { IfOk result (λ l. tokens_view l.tokens.items ≡ (spec.lexed MOST_TOKENS (tokens_left items.entry)).tokens) }
+    ensures stop { IfOk result (λ l. stop_view l.stop ≡ (spec.lexed MOST_TOKENS (tokens_left items.entry)).stop) }
 {
     let mut tokens = Vec::new(alloc);
     for item in items {
@@ -66,10 +60,10 @@ pub fn read_tokens<'s>(alloc: Global, items: Tokens<'s>) -> Result<Lexed<'s>, Al
 ///
 /// `TooLong`, or no memory.
 pub fn lexed<'s>(alloc: Global, source: &'s [u16]) -> Result<Lexed<'s>, ParseFault>
-    ensures long { most_units < length source.now → result ≡ Err (TooLong (length source.now)) }
-    ensures short { IfOk result (λ l. length source.now ≤ most_units) }
+    ensures long { MOST_UNITS < length source.now → result ≡ Err (TooLong (length source.now)) }
+    ensures short { IfOk result (λ l. length source.now ≤ MOST_UNITS) }
     ensures tokens { IfOk result (λ l. lexed_view l ≡ lexed_of source.now) }
-    ensures fault { length source.now ≤ most_units → IfErr result (λ f. f ≡ Memory) }
+    ensures fault { length source.now ≤ MOST_UNITS → IfErr result (λ f. f ≡ Memory) }
 {
     if source.len() > MOST_UNITS {
         return Err(ParseFault::TooLong {

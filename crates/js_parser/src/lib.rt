@@ -7,6 +7,7 @@ mod functions;
 mod kept;
 mod laws;
 mod lexing;
+pub mod limits;
 pub mod node_text;
 pub mod parse;
 mod source_trees;

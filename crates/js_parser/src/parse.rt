@@ -10,11 +10,12 @@ ghost use Rattle.js_tree.specs.Views.{expression_view, statements_view};
 ghost use Rattle.js_syntax.specs.declared.fault.ParseFault.TheVariants.{TooLong};
 ghost use Rattle.js_parser.specs.Answers.{FailsBy, OkOrMemory};
 ghost use Rattle.js_parser.specs.Faults.{Caused, ComesFirst, IsCause, Stands};
-ghost use Rattle.js_parser.specs.Sources.{IsSource, most_units, tokens_of};
+ghost use Rattle.js_parser.specs.Sources.{IsSource, tokens_of};
 ghost use Rattle.js_parser.specs.Spans.{AreSpansIn};
 ghost use Rattle.js_parser.specs.Texts.{BeginsText};
 
 use crate::kept::{spans_of, text_of, url_of};
+use crate::limits::MOST_UNITS;
 use crate::source_trees::{expression_tree, function_tree, script_tree};
 use cdp_text::units::Units;
 use js_syntax::fault::ParseFault;
@@ -40,7 +41,7 @@ pub fn parse_expression(alloc: Global, source: &[u16]) -> Result<Expression, Par
     ensures only { (e : _) → IsSource IsExpression height source.now e → OkOrMemory (λ x. expression_view x.tree ≡ e) result }
     // A source has at most one tree.
     ensures one { (ts : _) (e f : _) → IsExpression ts e → IsExpression ts f → e ≡ f }
-    ensures long { most_units < length source.now → result ≡ Err (TooLong (length source.now)) }
+    ensures long { MOST_UNITS < length source.now → result ≡ Err (TooLong (length source.now)) }
     // A fault that is answered stands in the source.
     ensures faults { IfErr result (λ f. Caused IsExpression height source.now f) }
     // Where first tokens of the source begin the language, the source, cut where the last of them ends, begins a text that is in it.
@@ -80,7 +81,7 @@ pub fn parse_function(alloc: Global, source: &[u16]) -> Result<FunctionCode, Par
     ensures only { (e : _) → IsSource IsFunction height source.now e → OkOrMemory (λ x. expression_view x.tree ≡ e) result }
     // A source has at most one tree.
     ensures one { (ts : _) (e f : _) → IsFunction ts e → IsFunction ts f → e ≡ f }
-    ensures long { most_units < length source.now → result ≡ Err (TooLong (length source.now)) }
+    ensures long { MOST_UNITS < length source.now → result ≡ Err (TooLong (length source.now)) }
     // A fault that is answered stands in the source.
     ensures faults { IfErr result (λ f. Caused IsFunction height source.now f) }
     // Where first tokens of the source begin the language, the source, cut where the last of them ends, begins a text that is in it.
@@ -126,7 +127,7 @@ pub fn parse_script(
     ensures only { (body : _) → IsSource (IsScript declared.now) height_of_statements source.now body → OkOrMemory (λ x. statements_view x.body ≡ body) result }
     // A source has at most one tree.
     ensures one { (ts : _) (a b : _) → IsScript declared.now ts a → IsScript declared.now ts b → a ≡ b }
-    ensures long { most_units < length source.now → result ≡ Err (TooLong (length source.now)) }
+    ensures long { MOST_UNITS < length source.now → result ≡ Err (TooLong (length source.now)) }
     // A fault that is answered stands in the source.
     ensures faults { IfErr result (λ f. Caused (IsScript declared.now) height_of_statements source.now f) }
     // Where first tokens of the source begin the language, the source, cut where the last of them ends, begins a text that is in it.
