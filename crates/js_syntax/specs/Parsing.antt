@@ -232,7 +232,7 @@ joined_by b n t no_joint ts = Ok (t, ts)
 unfoldable pub joined : Below → ℕ → Expression → Reader Expression
 joined b n t ts = joined_by b n t (joint (head_of ts)) ts
 
--- an arrow function where the tokens begin one, else an operation with what goes on with it
+-- an arrow function where the tokens begin one, else an operation, whose operators bind as `||` at least (3, an_operation of the levels), with what goes on with it
 abbrev pub assignment_by : Below → ℕ → Head → Reader Expression
 assignment_by b n one_parameter ts = arrow_of_one b ts
 assignment_by b n (listed only) ts = arrow_of_list b only ts
