@@ -12,7 +12,7 @@ use Rattle.js_syntax.specs.Reading.{Fault, stuck, deep}
 use Rattle.js_syntax.specs.Parsing.{parse_script, parse_expression, parse_function}
 use Rattle.js_grammar.specs.Exact.{AreAlike, BeginsWritten, Leaves, TooDeepFrom}
 use Rattle.js_grammar.proofs.Soundness.{expression_read, function_read, script_read}
-use Rattle.js_grammar.proofs.Alive.{LivesIn, expression_alive, script_alive, function_alive}
+use Rattle.js_grammar.proofs.Alive.Whole.{LivesIn, expression_alive, script_alive, function_alive}
 use Rattle.js_grammar.proofs.Leaving.{expression_leaves, script_leaves, function_leaves}
 use Rattle.js_grammar.proofs.DeepWhole.{expression_too_deep, script_too_deep, function_too_deep}
 

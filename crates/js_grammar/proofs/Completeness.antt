@@ -9,14 +9,14 @@ use Rattle.js_tree.specs.Height.{height, height_of_statement, height_of_statemen
 use Rattle.js_language.specs.Language.{IsScript, IsExpression, IsFunction}
 use Rattle.js_syntax.specs.Parsing.{below, parse_script, parse_expression, parse_function}
 use Rattle.js_grammar.specs.Laws.{AgainBelow}
-use Rattle.js_grammar.proofs.ExpressionAgain.{assignment_again, expression_again, operation_again, unary_again, call_again}
-use Rattle.js_grammar.proofs.AssignmentAgain.{function_code_again, stops_at_end}
-use Rattle.js_grammar.proofs.PartAgain.{statements_again}
-use Rattle.js_grammar.proofs.ProductionAgain.{seq_again}
+use Rattle.js_grammar.proofs.Again.Expression.{assignment_again, expression_again, operation_again, unary_again, call_again}
+use Rattle.js_grammar.proofs.Again.Assignment.{function_code_again, stops_at_end}
+use Rattle.js_grammar.proofs.Again.Part.{statements_again}
+use Rattle.js_grammar.proofs.Again.Production.{seq_again}
 use Rattle.js_tree.specs.Trees as trees
-use Rattle.js_grammar.proofs.LevelAgain.{height_positive}
-use Rattle.js_grammar.proofs.PartAgain.{braces_again, code_again}
-use Rattle.js_grammar.proofs.StatementAgain.{statement_again, item_again}
+use Rattle.js_grammar.proofs.Again.Level.{height_positive}
+use Rattle.js_grammar.proofs.Again.Part.{braces_again, code_again}
+use Rattle.js_grammar.proofs.Again.Statement.{statement_again, item_again}
 
 statement_positive : (s : Statement) → 1 ≤ height_of_statement s
 statement_positive (trees.block ss) = omega arith

@@ -14,20 +14,20 @@ use Rattle.js_syntax.specs.Classes.{Start, start}
 use Rattle.js_syntax.specs.Productions.{Below, parameters_at, items_at}
 use Rattle.js_syntax.specs.Parsing.{arrow_rest, arrow_of_one, function_at, below, ended_by, whole, parse_script, parse_expression, parse_function, function_code_by}
 use Rattle.js_grammar.specs.Exact.{TooDeepFrom}
-use Rattle.js_grammar.proofs.LevelAgain.{height_positive}
+use Rattle.js_grammar.proofs.Again.Level.{height_positive}
 use Rattle.js_grammar.proofs.Completeness.{expression_again_whole, function_again_whole, script_again_whole}
-use Rattle.js_grammar.proofs.FollowsTools.{Follows, sticks_again}
-use Rattle.js_grammar.proofs.FollowsParts.{Pair, name_follows, parameters_follows, items_at_follows}
-use Rattle.js_grammar.proofs.AliveParts.{items_at_lives}
-use Rattle.js_grammar.proofs.AliveAssignments.{function_code_lives}
-use Rattle.js_grammar.proofs.Alive.{LivesIn, begins_so, function_alive}
+use Rattle.js_grammar.proofs.Follows.Tools.{Follows, sticks_again}
+use Rattle.js_grammar.proofs.Follows.Parts.{Pair, name_follows, parameters_follows, items_at_follows}
+use Rattle.js_grammar.proofs.Alive.Parts.{items_at_lives}
+use Rattle.js_grammar.proofs.Alive.Assignments.{function_code_lives}
+use Rattle.js_grammar.proofs.Alive.Whole.{LivesIn, begins_so, function_alive}
 use Rattle.js_grammar.proofs.Leaving.{same_front}
 use Rattle.js_grammar.proofs.Locality.{function_code_follows}
-use Rattle.js_grammar.proofs.DeepTools.{DeepAt, Deepens, deep_sticks, deep_past, deep_peeks_all, deep_then}
-use Rattle.js_grammar.proofs.DeepParts.{DeepBelow, name_deepens, parameters_deepens, items_at_deepens}
-use Rattle.js_grammar.proofs.DeepExpressions.{function_deepens, arrow_rest_deepens}
-use Rattle.js_grammar.proofs.DeepBottom.{answers_so}
-use Rattle.js_grammar.proofs.DeepRooms.{raised, room, Kept, kept, pair_own, pair_up, pair_down, room_sound}
+use Rattle.js_grammar.proofs.Deep.Tools.{DeepAt, Deepens, deep_sticks, deep_past, deep_peeks_all, deep_then}
+use Rattle.js_grammar.proofs.Deep.Parts.{DeepBelow, name_deepens, parameters_deepens, items_at_deepens}
+use Rattle.js_grammar.proofs.Deep.Expressions.{function_deepens, arrow_rest_deepens}
+use Rattle.js_grammar.proofs.Deep.Bottom.{answers_so}
+use Rattle.js_grammar.proofs.Deep.Rooms.{raised, room, Kept, kept, pair_own, pair_up, pair_down, room_sound}
 use Rattle.js_grammar.proofs.Soundness.{whole_ok}
 
 -- ---- readers of whole sources

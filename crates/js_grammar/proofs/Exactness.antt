@@ -6,7 +6,7 @@ use Rattle.js_language.specs.Language.{IsScript, IsExpression, IsFunction}
 use Rattle.js_syntax.specs.Reading.{stuck}
 use Rattle.js_syntax.specs.Parsing.{parse_script, parse_expression, parse_function}
 use Rattle.js_grammar.specs.Exact.{LeavesAt}
-use Rattle.js_grammar.proofs.Alive.{expression_alive, script_alive, function_alive}
+use Rattle.js_grammar.proofs.Alive.Whole.{expression_alive, script_alive, function_alive}
 use Rattle.js_grammar.proofs.Leaving.{expression_leaves, script_leaves, function_leaves}
 
 pub expression_leaves_at : (n : ℕ) (ts : List Token) (k : ℕ) → parse_expression n ts ≡ Err (stuck k) → LeavesAt IsExpression ts k

@@ -9,7 +9,7 @@ use Rattle.js_language.specs.Tokens.{fixed, identifier, identifier_name, Mark, t
 use Rattle.js_language.specs.Flat as flats
 use Rattle.js_language.specs.Flat.{unary_kind, update_kind, binary_kind, assign_kind, flat, flat_expressions, more_expressions, trailing, flat_optional_name, flat_names, flat_parameters, flat_arrow_parameters, flat_key, flat_property, flat_properties, trailing_property, flat_declarator, flat_declarators, more_declarators, flat_statements}
 use Rattle.js_language.specs.Well.{Well, WellProperty, is_some_declarator, WellDeclarators, is_two_expressions, AreAssignments}
-use Rattle.js_grammar.proofs.AliveTools.{is_firm, firm_behind, firm_append}
+use Rattle.js_grammar.proofs.Alive.Tools.{is_firm, firm_behind, firm_append}
 
 -- with nothing behind them
 pub firm_nil : (ms : List Mark) → is_firm ms ≡ true → is_firm (ms ++ []) ≡ true

@@ -15,7 +15,7 @@ use Rattle.js_language.specs.Well.{strength, takes}
 use Rattle.js_syntax.specs.Classes.{a_boolean, start, update_by, update_near, a_unary, prefix_by, prefix}
 use Rattle.js_syntax.specs.Parsing.{operator_from}
 use Rattle.js_syntax.proofs.ClassLemmas.{boolean_by, updated_by}
-use Rattle.js_grammar.proofs.LevelAgain.{strength_low}
+use Rattle.js_grammar.proofs.Again.Level.{strength_low}
 
 -- ---- what begins a primary expression
 

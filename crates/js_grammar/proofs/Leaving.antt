@@ -12,7 +12,7 @@ use Rattle.js_syntax.specs.Classes.{start}
 use Rattle.js_syntax.specs.Productions.{items_at}
 use Rattle.js_syntax.specs.Parsing.{below, ended_by, whole, parse_script, parse_expression, parse_function, function_code_by}
 use Rattle.js_grammar.specs.Exact.{Leaves}
-use Rattle.js_grammar.proofs.FollowsTools.{moved, Seen, FollowsAt, Follows, deepens, same_left, same_count}
+use Rattle.js_grammar.proofs.Follows.Tools.{moved, Seen, FollowsAt, Follows, deepens, same_left, same_count}
 use Rattle.js_grammar.proofs.Completeness.{expression_again_whole, function_again_whole, script_again_whole}
 use Rattle.js_grammar.proofs.Locality.{follows_below, pair_below, items_follows_below, function_code_follows}
 

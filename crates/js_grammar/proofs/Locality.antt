@@ -10,12 +10,12 @@ use Rattle.js_syntax.specs.Classes.{Start, start}
 use Rattle.js_syntax.specs.Productions.{Below, parameters_at, items_at, braces, code_at}
 use Rattle.js_syntax.specs.Parsing.{call, unary, operation, arrow_rest, arrow_of_one, assignment, expression, function_at, statement, item, below, function_code_by}
 use Rattle.js_grammar.proofs.Soundness.{sound_below}
-use Rattle.js_grammar.proofs.FrontAgain.{statement_starts}
-use Rattle.js_grammar.proofs.FollowsTools.{Follows, sticks, deepens, past, peeks, binds, Takes}
-use Rattle.js_grammar.proofs.FollowsParts.{FollowsBelow, Pair, name_follows, parameters_follows, items_at_follows, braces_follows, code_follows}
-use Rattle.js_grammar.proofs.FollowsExpressions.{call_follows, unary_follows, operation_follows, arrow_rest_follows, function_follows}
-use Rattle.js_grammar.proofs.FollowsAssignments.{Spans, assignment_follows, expression_follows, assignment_names, expression_closes}
-use Rattle.js_grammar.proofs.FollowsStatements.{statement_follows, list_item_follows}
+use Rattle.js_grammar.proofs.Again.Front.{statement_starts}
+use Rattle.js_grammar.proofs.Follows.Tools.{Follows, sticks, deepens, past, peeks, binds, Takes}
+use Rattle.js_grammar.proofs.Follows.Parts.{FollowsBelow, Pair, name_follows, parameters_follows, items_at_follows, braces_follows, code_follows}
+use Rattle.js_grammar.proofs.Follows.Expressions.{call_follows, unary_follows, operation_follows, arrow_rest_follows, function_follows}
+use Rattle.js_grammar.proofs.Follows.Assignments.{Spans, assignment_follows, expression_follows, assignment_names, expression_closes}
+use Rattle.js_grammar.proofs.Follows.Statements.{statement_follows, list_item_follows}
 
 -- a statement takes a token at least
 pub item_takes : (n : ℕ) (context : Context) (taken : List Identifier) → Takes (λ ts. (below n).item context taken ts)

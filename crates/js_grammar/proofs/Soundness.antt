@@ -11,11 +11,11 @@ use Rattle.js_syntax.specs.Productions.{items_at}
 use Rattle.js_syntax.specs.Parsing.{below, ended_by, whole, parse_script, parse_expression, parse_function, function_code_by}
 use Rattle.js_grammar.specs.Laws.{SoundBelow}
 use Rattle.js_grammar.proofs.TokenLaws.{got}
-use Rattle.js_grammar.proofs.PartSound.{seq_sound, items_at_sound}
-use Rattle.js_grammar.proofs.OperatorSound.{unary_sound, operation_sound}
-use Rattle.js_grammar.proofs.PrimarySound.{call_sound}
-use Rattle.js_grammar.proofs.ExpressionSound.{assignment_sound, expression_sound, function_code_sound}
-use Rattle.js_grammar.proofs.StatementSound.{statement_sound, list_item_sound, counted_block_sound, counted_function_sound}
+use Rattle.js_grammar.proofs.Sound.Part.{seq_sound, items_at_sound}
+use Rattle.js_grammar.proofs.Sound.Operator.{unary_sound, operation_sound}
+use Rattle.js_grammar.proofs.Sound.Primary.{call_sound}
+use Rattle.js_grammar.proofs.Sound.Expression.{assignment_sound, expression_sound, function_code_sound}
+use Rattle.js_grammar.proofs.Sound.Statement.{statement_sound, list_item_sound, counted_block_sound, counted_function_sound}
 
 pub sound_below : (n : ℕ) → SoundBelow n (below n)
 unfolding below
