@@ -9,7 +9,7 @@ use Rattle.std.proofs.lemmas.Option.{option_and_then_some, none-some, same_Some}
 use Rattle.std.proofs.lemmas.Slice.Eq.{bytes_eq-Decides}
 use Rattle.cdp_text.specs.Decimal.{decimal_value}
 use Rattle.cdp_text.specs.Parts.{behind, halves}
-use Rattle.cdp_text.proofs.Decimals.{decimal_value-some, decimal_value-decimal}
+use Rattle.cdp_text.proofs.DecimalLemmas.{decimal_value-some, decimal_value-decimal}
 use Rattle.cdp_text.proofs.PartsLemmas.{behind-some, halves-some, halves-decimal}
 use Rattle.cdp_journal.specs.declared.line.Line.{Line as Held}
 use Rattle.cdp_journal.specs.Escapes.{escaped, unescaped}

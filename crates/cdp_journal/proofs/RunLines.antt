@@ -6,7 +6,7 @@ use Rattle.std.proofs.lemmas.List.Elements.{All-head, All-tail}
 use Rattle.std.proofs.lemmas.Option.{none-some, option_and_then_some, same_Some}
 use Rattle.cdp_text.specs.Decimal.{decimal_value}
 use Rattle.cdp_text.specs.Parts.{behind, Halves, halves}
-use Rattle.cdp_text.proofs.Decimals.{decimal_value-decimal, decimal_value-some}
+use Rattle.cdp_text.proofs.DecimalLemmas.{decimal_value-decimal, decimal_value-some}
 use Rattle.cdp_text.proofs.PartsLemmas.{behind-some, halves-decimal, halves-some}
 use Rattle.cdp_journal.specs.Fronts.{behind_each}
 use Rattle.cdp_journal.specs.Summaries.{Ran, printed_lines, ran_in, ran_of, ran_text, runs_of}

@@ -9,7 +9,7 @@ use Rattle.std.proofs.lemmas.Option.{none-some, option_and_then_some, same_Some}
 use Rattle.cdp_text.specs.Decimal.{decimal_value}
 use Rattle.cdp_text.specs.Lines.{begun_with, ended, lines_of}
 use Rattle.cdp_text.specs.Parts.{behind, halves}
-use Rattle.cdp_text.proofs.Decimals.{decimal_value-some}
+use Rattle.cdp_text.proofs.DecimalLemmas.{decimal_value-some}
 use Rattle.cdp_journal.specs.Fronts.{behind_each}
 use Rattle.cdp_journal.specs.Summaries.{IsInRange, Ran, Tally, both, is_paused, printed_lines, ran_in, ran_of, runs_of, summary, tally_of, tally_text}
 use Rattle.cdp_journal.proofs.DrillLemmas.{ended-append}

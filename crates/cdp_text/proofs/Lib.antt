@@ -1,4 +1,4 @@
-pub mod Decimals
+pub mod DecimalLemmas
 pub mod LineTableLemmas
 pub mod LinesLemmas
 pub mod PartsLemmas

@@ -13,7 +13,7 @@ pub fn read_decimal(text: &str) -> Option<u64>
 }
 
 /// The number whose shortest decimal text these bytes are, as `read_decimal` reads it.
-#[tactic(auto, using(crate::proofs::Decimals::told_by_value), unfolding(crate::specs::Decimal::decimal_value))]
+#[tactic(auto, using(crate::proofs::DecimalLemmas::told_by_value), unfolding(crate::specs::Decimal::decimal_value))]
 pub fn read_decimal_bytes(digits: &[u8]) -> Option<u64>
     ensures value { result ≡ decimal_value digits.now }
     ensures shortest { IfSome result (λ n. digits.now ≡ decimal n) }
@@ -27,7 +27,7 @@ pub fn read_decimal_bytes(digits: &[u8]) -> Option<u64>
 }
 
 // The number of these digits, leading zeros allowed.
-#[tactic(auto, using(crate::proofs::Decimals::digits_number_past))]
+#[tactic(auto, using(crate::proofs::DecimalLemmas::digits_number_past))]
 fn read_digits(digits: &[u8]) -> Option<u64>
     ensures { result ≡ digits_number digits.now }
 {

@@ -16,7 +16,7 @@ use Rattle.js_tree.specs.declared.tree.Expr.TheViews as tree
 use Rattle.js_tree.specs.Trees as trees
 use Rattle.js_tree.specs.Trees.{Expression, Expressions, Property, Properties, Key, Statement, Statements, Handler}
 use Rattle.js_tree.specs.Views.{expressions, statements, properties, declarators, optional_view, expression_view, property_view, key_view, statement_view, block_view, catch_view, declarator_view, declarators_view, expressions_view, properties_view, statements_view, expression_step, property_step, key_step, statement_step, block_step, catch_step, declarator_step, declarators_step, expressions_step, properties_step, statements_step}
-use Rattle.js_tree.proofs.Views.{view_if_then, view_if_else, view_this, view_name, view_number, view_string, view_boolean, view_null, view_array, view_object, view_function, view_arrow, view_arrow_block, view_parenthesized, view_member, view_index, view_call, view_postfix, view_prefix, view_unary, view_binary, view_conditional, view_assign, view_comma}
+use Rattle.js_tree.proofs.ViewLemmas.{view_if_then, view_if_else, view_this, view_name, view_number, view_string, view_boolean, view_null, view_array, view_object, view_function, view_arrow, view_arrow_block, view_parenthesized, view_member, view_index, view_call, view_postfix, view_prefix, view_unary, view_binary, view_conditional, view_assign, view_comma}
 use Rattle.js_semantics.specs.Literals.{expression_literals, statement_literals, declared_literals}
 use Rattle.expressions.specs.Items.{alternate_literals}
 

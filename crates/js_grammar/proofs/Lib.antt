@@ -1,12 +1,12 @@
 pub mod Again
-pub mod MarkLaws
-pub mod TokenLaws
+pub mod MarkLemmas
+pub mod TokenLemmas
 pub mod Sound
-pub mod HeadLaws
+pub mod HeadLemmas
 pub mod Follows
-pub mod SpelledKinds
+pub mod SpelledKindLemmas
 pub mod Alive
-pub mod FirmTrees
+pub mod FirmTreeLemmas
 pub mod Soundness
 pub mod Completeness
 pub mod Locality

@@ -39,7 +39,7 @@ pub fn value_of(boxed: Option<Box<Expr>>) -> Option<Expr>
 }
 
 /// `this`.
-#[tactic(auto, using(js_tree::proofs::Views::view_this, crate::proofs::PlaceLemmas::places_this))]
+#[tactic(auto, using(js_tree::proofs::ViewLemmas::view_this, crate::proofs::PlaceLemmas::places_this))]
 pub fn this(node: NodeId) -> Expr
     ensures view { expression_view result ≡ trees.this }
     ensures places { expression_places result ≡ node_of node (plain (a kinds.This) ∷ []) }
@@ -48,7 +48,7 @@ pub fn this(node: NodeId) -> Expr
 }
 
 /// A name.
-#[tactic(auto, using(js_tree::proofs::Views::view_name, crate::proofs::PlaceLemmas::places_name))]
+#[tactic(auto, using(js_tree::proofs::ViewLemmas::view_name, crate::proofs::PlaceLemmas::places_name))]
 pub fn name(node: NodeId, name: Units) -> Expr
     ensures view { expression_view result ≡ trees.name name }
     ensures places { expression_places result ≡ node_of node (plain (an_identifier name) ∷ []) }
@@ -57,7 +57,7 @@ pub fn name(node: NodeId, name: Units) -> Expr
 }
 
 /// A numeric literal of this value.
-#[tactic(auto, using(js_tree::proofs::Views::view_number, crate::proofs::PlaceLemmas::places_number))]
+#[tactic(auto, using(js_tree::proofs::ViewLemmas::view_number, crate::proofs::PlaceLemmas::places_number))]
 pub fn number(node: NodeId, value: SafeInteger) -> Expr
     ensures view { expression_view result ≡ trees.number value.value }
     ensures places { expression_places result ≡ node_of node (plain (a_symbol (numeric_literal value.value)) ∷ []) }
@@ -66,7 +66,7 @@ pub fn number(node: NodeId, value: SafeInteger) -> Expr
 }
 
 /// A string literal that stands for these units.
-#[tactic(auto, using(js_tree::proofs::Views::view_string, crate::proofs::PlaceLemmas::places_string))]
+#[tactic(auto, using(js_tree::proofs::ViewLemmas::view_string, crate::proofs::PlaceLemmas::places_string))]
 pub fn string(node: NodeId, value: Units) -> Expr
     ensures view { expression_view result ≡ trees.string value }
     ensures places { expression_places result ≡ node_of node (plain (a_symbol (string_literal value)) ∷ []) }
@@ -75,7 +75,7 @@ pub fn string(node: NodeId, value: Units) -> Expr
 }
 
 /// `true` or `false`.
-#[tactic(auto, using(js_tree::proofs::Views::view_boolean, crate::proofs::PlaceLemmas::places_boolean))]
+#[tactic(auto, using(js_tree::proofs::ViewLemmas::view_boolean, crate::proofs::PlaceLemmas::places_boolean))]
 pub fn boolean(node: NodeId, value: bool) -> Expr
     ensures view { expression_view result ≡ trees.boolean value }
     ensures places { expression_places result ≡ node_of node (plain (flat_boolean value) ∷ []) }
@@ -84,7 +84,7 @@ pub fn boolean(node: NodeId, value: bool) -> Expr
 }
 
 /// `null`.
-#[tactic(auto, using(js_tree::proofs::Views::view_null, crate::proofs::PlaceLemmas::places_null))]
+#[tactic(auto, using(js_tree::proofs::ViewLemmas::view_null, crate::proofs::PlaceLemmas::places_null))]
 pub fn null(node: NodeId) -> Expr
     ensures view { expression_view result ≡ trees.null }
     ensures places { expression_places result ≡ node_of node (plain (a kinds.Null) ∷ []) }
@@ -93,7 +93,7 @@ pub fn null(node: NodeId) -> Expr
 }
 
 /// `[elements]`.
-#[tactic(auto, using(js_tree::proofs::Views::view_array, crate::proofs::PlaceLemmas::places_array))]
+#[tactic(auto, using(js_tree::proofs::ViewLemmas::view_array, crate::proofs::PlaceLemmas::places_array))]
 pub fn array(node: NodeId, elements: Exprs) -> Expr
     ensures view { expression_view result ≡ trees.array (expressions_view elements) }
     ensures places { expression_places result ≡ node_of node (plain (a kinds.LeftBracket) ∷ (expressions_places elements) ∷ may_stand kinds.Comma ∷ plain (a kinds.RightBracket) ∷ []) }
@@ -102,7 +102,7 @@ pub fn array(node: NodeId, elements: Exprs) -> Expr
 }
 
 /// `{properties}`.
-#[tactic(auto, using(js_tree::proofs::Views::view_object, crate::proofs::PlaceLemmas::places_object))]
+#[tactic(auto, using(js_tree::proofs::ViewLemmas::view_object, crate::proofs::PlaceLemmas::places_object))]
 pub fn object(node: NodeId, properties: PropertyDefinitions) -> Expr
     ensures view { expression_view result ≡ trees.object (properties_view properties) }
     ensures places { expression_places result ≡ node_of node (plain (a kinds.LeftBrace) ∷ (properties_places properties) ∷ may_stand kinds.Comma ∷ plain (a kinds.RightBrace) ∷ []) }
@@ -111,7 +111,7 @@ pub fn object(node: NodeId, properties: PropertyDefinitions) -> Expr
 }
 
 /// `function name(parameters) { body }`.
-#[tactic(auto, using(js_tree::proofs::Views::view_function, crate::proofs::PlaceLemmas::places_function))]
+#[tactic(auto, using(js_tree::proofs::ViewLemmas::view_function, crate::proofs::PlaceLemmas::places_function))]
 pub fn function(node: NodeId, name: Option<Units>, parameters: Names, body: Stmts) -> Expr
     ensures view { expression_view result ≡ trees.function name parameters (statements_view body) }
     ensures places { expression_places result ≡ node_of node (plain (a kinds.Function) ∷ plain (flat_optional_name name) ∷ plain (flat_parameters parameters) ∷ in_braces (statements_places body) ∷ []) }
@@ -125,7 +125,7 @@ pub fn function(node: NodeId, name: Option<Units>, parameters: Names, body: Stmt
 }
 
 /// `parameters => body` with an expression.
-#[tactic(auto, using(js_tree::proofs::Views::view_arrow, crate::proofs::PlaceLemmas::places_arrow))]
+#[tactic(auto, using(js_tree::proofs::ViewLemmas::view_arrow, crate::proofs::PlaceLemmas::places_arrow))]
 pub fn arrow(
     alloc: Global,
     node: NodeId,
@@ -146,7 +146,7 @@ pub fn arrow(
 }
 
 /// `parameters => { body }`.
-#[tactic(auto, using(js_tree::proofs::Views::view_arrow_block, crate::proofs::PlaceLemmas::places_arrow_block))]
+#[tactic(auto, using(js_tree::proofs::ViewLemmas::view_arrow_block, crate::proofs::PlaceLemmas::places_arrow_block))]
 pub fn arrow_block(
     alloc: Global,
     node: NodeId,
@@ -167,7 +167,7 @@ pub fn arrow_block(
 }
 
 /// `(inner)`.
-#[tactic(auto, using(js_tree::proofs::Views::view_parenthesized, crate::proofs::PlaceLemmas::places_parenthesized))]
+#[tactic(auto, using(js_tree::proofs::ViewLemmas::view_parenthesized, crate::proofs::PlaceLemmas::places_parenthesized))]
 pub fn parenthesized(node: NodeId, inner: Box<Expr>) -> Expr
     ensures view { expression_view result ≡ trees.parenthesized (expression_view inner.value) }
     ensures places { expression_places result ≡ node_of node (plain (a kinds.LeftParenthesis) ∷ (expression_places inner.value) ∷ plain (a kinds.RightParenthesis) ∷ []) }
@@ -176,7 +176,7 @@ pub fn parenthesized(node: NodeId, inner: Box<Expr>) -> Expr
 }
 
 /// `object.name`.
-#[tactic(auto, using(js_tree::proofs::Views::view_member, crate::proofs::PlaceLemmas::places_member))]
+#[tactic(auto, using(js_tree::proofs::ViewLemmas::view_member, crate::proofs::PlaceLemmas::places_member))]
 pub fn member(
     alloc: Global,
     node: NodeId,
@@ -190,7 +190,7 @@ pub fn member(
 }
 
 /// `object[key]`.
-#[tactic(auto, using(js_tree::proofs::Views::view_index, crate::proofs::PlaceLemmas::places_index))]
+#[tactic(auto, using(js_tree::proofs::ViewLemmas::view_index, crate::proofs::PlaceLemmas::places_index))]
 pub fn index(
     alloc: Global,
     node: NodeId,
@@ -205,7 +205,7 @@ pub fn index(
 }
 
 /// `callee(arguments)`. `parentheses` is the node of the arguments with their parentheses.
-#[tactic(auto, using(js_tree::proofs::Views::view_call, crate::proofs::PlaceLemmas::places_call))]
+#[tactic(auto, using(js_tree::proofs::ViewLemmas::view_call, crate::proofs::PlaceLemmas::places_call))]
 pub fn call(
     alloc: Global,
     node: NodeId,
@@ -229,7 +229,7 @@ pub fn call(
 }
 
 /// `operand++` or `operand--`.
-#[tactic(auto, using(js_tree::proofs::Views::view_postfix, crate::proofs::PlaceLemmas::places_postfix))]
+#[tactic(auto, using(js_tree::proofs::ViewLemmas::view_postfix, crate::proofs::PlaceLemmas::places_postfix))]
 pub fn postfix(
     alloc: Global,
     node: NodeId,
@@ -250,7 +250,7 @@ pub fn postfix(
 }
 
 /// `++operand` or `--operand`.
-#[tactic(auto, using(js_tree::proofs::Views::view_prefix, crate::proofs::PlaceLemmas::places_prefix))]
+#[tactic(auto, using(js_tree::proofs::ViewLemmas::view_prefix, crate::proofs::PlaceLemmas::places_prefix))]
 pub fn prefix(
     alloc: Global,
     node: NodeId,
@@ -271,7 +271,7 @@ pub fn prefix(
 }
 
 /// `-operand` and its like.
-#[tactic(auto, using(js_tree::proofs::Views::view_unary, crate::proofs::PlaceLemmas::places_unary))]
+#[tactic(auto, using(js_tree::proofs::ViewLemmas::view_unary, crate::proofs::PlaceLemmas::places_unary))]
 pub fn unary(
     alloc: Global,
     node: NodeId,
@@ -292,7 +292,7 @@ pub fn unary(
 }
 
 /// `left + right` and its like.
-#[tactic(auto, using(js_tree::proofs::Views::view_binary, crate::proofs::PlaceLemmas::places_binary))]
+#[tactic(auto, using(js_tree::proofs::ViewLemmas::view_binary, crate::proofs::PlaceLemmas::places_binary))]
 pub fn binary(
     alloc: Global,
     node: NodeId,
@@ -316,7 +316,7 @@ pub fn binary(
 }
 
 /// `test ? consequent : alternate`.
-#[tactic(auto, using(js_tree::proofs::Views::view_conditional, crate::proofs::PlaceLemmas::places_conditional))]
+#[tactic(auto, using(js_tree::proofs::ViewLemmas::view_conditional, crate::proofs::PlaceLemmas::places_conditional))]
 pub fn conditional(
     alloc: Global,
     node: NodeId,
@@ -340,7 +340,7 @@ pub fn conditional(
 }
 
 /// `target = value` and its like.
-#[tactic(auto, using(js_tree::proofs::Views::view_assign, crate::proofs::PlaceLemmas::places_assign))]
+#[tactic(auto, using(js_tree::proofs::ViewLemmas::view_assign, crate::proofs::PlaceLemmas::places_assign))]
 pub fn assign(
     alloc: Global,
     node: NodeId,
@@ -364,7 +364,7 @@ pub fn assign(
 }
 
 /// `a, b, c`.
-#[tactic(auto, using(js_tree::proofs::Views::view_comma, crate::proofs::PlaceLemmas::places_comma))]
+#[tactic(auto, using(js_tree::proofs::ViewLemmas::view_comma, crate::proofs::PlaceLemmas::places_comma))]
 pub fn comma(alloc: Global, node: NodeId, expressions: Exprs) -> Result<Box<Expr>, AllocError>
     ensures view { IfOk result (λ tree. expression_view tree.value ≡ trees.comma (expressions_view expressions)) }
     ensures places { IfOk result (λ tree. expression_places tree.value ≡ node_of node ((expressions_places expressions) ∷ [])) }

@@ -32,7 +32,7 @@ pub fn boxed_key(alloc: Global, key: PropertyName) -> Result<Box<PropertyName>, 
 }
 
 /// A name or a reserved word.
-#[tactic(auto, using(js_tree::proofs::Views::view_word_key, crate::proofs::PlaceLemmas::places_word_key))]
+#[tactic(auto, using(js_tree::proofs::ViewLemmas::view_word_key, crate::proofs::PlaceLemmas::places_word_key))]
 pub fn word_key(name: Units) -> PropertyName
     ensures view { key_view result ≡ trees.word_key name }
     ensures places { key_places result ≡ plain (a_symbol (identifier_name name)) }
@@ -41,7 +41,7 @@ pub fn word_key(name: Units) -> PropertyName
 }
 
 /// A string literal that stands for these units.
-#[tactic(auto, using(js_tree::proofs::Views::view_string_key, crate::proofs::PlaceLemmas::places_string_key))]
+#[tactic(auto, using(js_tree::proofs::ViewLemmas::view_string_key, crate::proofs::PlaceLemmas::places_string_key))]
 pub fn string_key(value: Units) -> PropertyName
     ensures view { key_view result ≡ trees.string_key value }
     ensures places { key_places result ≡ plain (a_symbol (string_literal value)) }
@@ -50,7 +50,7 @@ pub fn string_key(value: Units) -> PropertyName
 }
 
 /// A numeric literal of this value.
-#[tactic(auto, using(js_tree::proofs::Views::view_number_key, crate::proofs::PlaceLemmas::places_number_key))]
+#[tactic(auto, using(js_tree::proofs::ViewLemmas::view_number_key, crate::proofs::PlaceLemmas::places_number_key))]
 pub fn number_key(value: SafeInteger) -> PropertyName
     ensures view { key_view result ≡ trees.number_key value.value }
     ensures places { key_places result ≡ plain (a_symbol (numeric_literal value.value)) }
@@ -59,7 +59,7 @@ pub fn number_key(value: SafeInteger) -> PropertyName
 }
 
 /// `[key]`.
-#[tactic(auto, using(js_tree::proofs::Views::view_computed_key, crate::proofs::PlaceLemmas::places_computed_key))]
+#[tactic(auto, using(js_tree::proofs::ViewLemmas::view_computed_key, crate::proofs::PlaceLemmas::places_computed_key))]
 pub fn computed_key(key: Box<Expr>) -> PropertyName
     ensures view { key_view result ≡ trees.computed_key (expression_view key.value) }
     ensures places { key_places result ≡ in_turn (plain (a kinds.LeftBracket) ∷ (expression_places key.value) ∷ plain (a kinds.RightBracket) ∷ []) }
@@ -68,7 +68,7 @@ pub fn computed_key(key: Box<Expr>) -> PropertyName
 }
 
 /// `name`, which is short for `name: name`.
-#[tactic(auto, using(js_tree::proofs::Views::view_shorthand_property, crate::proofs::PlaceLemmas::places_shorthand_property))]
+#[tactic(auto, using(js_tree::proofs::ViewLemmas::view_shorthand_property, crate::proofs::PlaceLemmas::places_shorthand_property))]
 pub fn shorthand_property(name: Units) -> PropertyDefinition
     ensures view { property_view result ≡ trees.shorthand name }
     ensures places { property_places result ≡ plain (an_identifier name) }
@@ -77,7 +77,7 @@ pub fn shorthand_property(name: Units) -> PropertyDefinition
 }
 
 /// `key: value`.
-#[tactic(auto, using(js_tree::proofs::Views::view_property, crate::proofs::PlaceLemmas::places_property))]
+#[tactic(auto, using(js_tree::proofs::ViewLemmas::view_property, crate::proofs::PlaceLemmas::places_property))]
 pub fn property(key: Box<PropertyName>, value: Box<Expr>) -> PropertyDefinition
     ensures view { property_view result ≡ trees.value (key_view key.value) (expression_view value.value) }
     ensures places { property_places result ≡ in_turn ((key_places key.value) ∷ plain (a kinds.Colon) ∷ (expression_places value.value) ∷ []) }
@@ -90,7 +90,7 @@ pub fn property(key: Box<PropertyName>, value: Box<Expr>) -> PropertyDefinition
 }
 
 /// `key(parameters) { body }`.
-#[tactic(auto, using(js_tree::proofs::Views::view_method, crate::proofs::PlaceLemmas::places_method))]
+#[tactic(auto, using(js_tree::proofs::ViewLemmas::view_method, crate::proofs::PlaceLemmas::places_method))]
 pub fn method(
     node: NodeId,
     key: Box<PropertyName>,
@@ -110,7 +110,7 @@ pub fn method(
 }
 
 /// A declared name with its first value.
-#[tactic(auto, using(js_tree::proofs::Views::view_declarator, crate::proofs::PlaceLemmas::places_declarator))]
+#[tactic(auto, using(js_tree::proofs::ViewLemmas::view_declarator, crate::proofs::PlaceLemmas::places_declarator))]
 pub fn declarator(name: Units, initializer: Option<Box<Expr>>) -> Declarator
     ensures view { declarator_view result ≡ trees.declarator name (optional_view (unboxed initializer)) }
     ensures places { declarator_places result ≡ plain (an_identifier name) ++ assign_if_some (option_map expression_places (unboxed initializer)) }
@@ -122,7 +122,7 @@ pub fn declarator(name: Units, initializer: Option<Box<Expr>>) -> Declarator
 }
 
 /// `{ body }`.
-#[tactic(auto, using(js_tree::proofs::Views::view_block, crate::proofs::PlaceLemmas::places_block))]
+#[tactic(auto, using(js_tree::proofs::ViewLemmas::view_block, crate::proofs::PlaceLemmas::places_block))]
 pub fn block(node: NodeId, body: Stmts) -> Block
     ensures view { block_view result ≡ statements_view body }
     ensures places { block_places result ≡ node_of node (in_braces (statements_places body) ∷ []) }
@@ -131,7 +131,7 @@ pub fn block(node: NodeId, body: Stmts) -> Block
 }
 
 /// `catch (parameter) block`.
-#[tactic(auto, using(js_tree::proofs::Views::view_catch, crate::proofs::PlaceLemmas::places_catch))]
+#[tactic(auto, using(js_tree::proofs::ViewLemmas::view_catch, crate::proofs::PlaceLemmas::places_catch))]
 pub fn catch_clause(parameter: Option<Units>, block: Block) -> Catch
     ensures view { catch_view result ≡ trees.catch parameter (block_view block) }
     ensures places { catch_places result ≡ in_turn (plain (a kinds.Catch) ∷ plain (flat_catch_parameter parameter) ∷ block_places block ∷ []) }
@@ -140,7 +140,7 @@ pub fn catch_clause(parameter: Option<Units>, block: Block) -> Catch
 }
 
 /// Expressions in order, in the memory of the vector.
-#[tactic(auto, using(js_tree::proofs::Views::view_expressions, crate::proofs::PlaceLemmas::places_expressions))]
+#[tactic(auto, using(js_tree::proofs::ViewLemmas::view_expressions, crate::proofs::PlaceLemmas::places_expressions))]
 pub fn expressions_of(items: Vec<Expr>) -> Exprs
     ensures view { expressions_view result ≡ expressions (map expression_view items.items) }
     ensures places { expressions_places result ≡ with_commas (map expression_places items.items) }
@@ -149,7 +149,7 @@ pub fn expressions_of(items: Vec<Expr>) -> Exprs
 }
 
 /// Statements in order, in the memory of the vector.
-#[tactic(auto, using(js_tree::proofs::Views::view_statements, crate::proofs::PlaceLemmas::places_statements))]
+#[tactic(auto, using(js_tree::proofs::ViewLemmas::view_statements, crate::proofs::PlaceLemmas::places_statements))]
 pub fn statements_of(items: Vec<Stmt>) -> Stmts
     ensures view { statements_view result ≡ statements (map statement_view items.items) }
     ensures places { statements_places result ≡ in_turn (map statement_places items.items) }
@@ -158,7 +158,7 @@ pub fn statements_of(items: Vec<Stmt>) -> Stmts
 }
 
 /// Members of an object literal in order, in the memory of the vector.
-#[tactic(auto, using(js_tree::proofs::Views::view_properties, crate::proofs::PlaceLemmas::places_properties))]
+#[tactic(auto, using(js_tree::proofs::ViewLemmas::view_properties, crate::proofs::PlaceLemmas::places_properties))]
 pub fn properties_of(items: Vec<PropertyDefinition>) -> PropertyDefinitions
     ensures view { properties_view result ≡ properties (map property_view items.items) }
     ensures places { properties_places result ≡ with_commas (map property_places items.items) }
@@ -167,7 +167,7 @@ pub fn properties_of(items: Vec<PropertyDefinition>) -> PropertyDefinitions
 }
 
 /// Declared names in order, in the memory of the vector.
-#[tactic(auto, using(js_tree::proofs::Views::view_declarators, crate::proofs::PlaceLemmas::places_declarators))]
+#[tactic(auto, using(js_tree::proofs::ViewLemmas::view_declarators, crate::proofs::PlaceLemmas::places_declarators))]
 pub fn declarators_of(items: Vec<Declarator>) -> Declarators
     ensures view { declarators_view result ≡ declarators (map declarator_view items.items) }
     ensures places { declarators_places result ≡ with_commas (map declarator_places items.items) }

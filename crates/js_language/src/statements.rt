@@ -28,7 +28,7 @@ pub fn boxed(alloc: Global, statement: Stmt) -> Result<Box<Stmt>, AllocError>
 }
 
 /// `{ body }`.
-#[tactic(auto, using(js_tree::proofs::Views::view_block_statement, crate::proofs::PlaceLemmas::places_block_statement))]
+#[tactic(auto, using(js_tree::proofs::ViewLemmas::view_block_statement, crate::proofs::PlaceLemmas::places_block_statement))]
 pub fn block_statement(block: Block) -> Stmt
     ensures view { statement_view result ≡ trees.block (block_view block) }
     ensures places { statement_places result ≡ block_places block }
@@ -37,7 +37,7 @@ pub fn block_statement(block: Block) -> Stmt
 }
 
 /// `if (test) consequent`.
-#[tactic(auto, using(js_tree::proofs::Views::view_if_then, crate::proofs::PlaceLemmas::places_if_then))]
+#[tactic(auto, using(js_tree::proofs::ViewLemmas::view_if_then, crate::proofs::PlaceLemmas::places_if_then))]
 pub fn if_statement(node: NodeId, test: Box<Expr>, consequent: Box<Stmt>) -> Stmt
     ensures view { statement_view result ≡ trees.if_then (expression_view test.value) (statement_view consequent.value) }
     ensures places { statement_places result ≡ node_of node (plain (a kinds.If) ∷ in_parentheses (expression_places test.value) ∷ (statement_places consequent.value) ∷ []) }
@@ -52,7 +52,7 @@ pub fn if_statement(node: NodeId, test: Box<Expr>, consequent: Box<Stmt>) -> Stm
 }
 
 /// `if (test) consequent else alternate`.
-#[tactic(auto, using(js_tree::proofs::Views::view_if_else, crate::proofs::PlaceLemmas::places_if_else))]
+#[tactic(auto, using(js_tree::proofs::ViewLemmas::view_if_else, crate::proofs::PlaceLemmas::places_if_else))]
 pub fn if_else_statement(
     node: NodeId,
     test: Box<Expr>,
@@ -72,7 +72,7 @@ pub fn if_else_statement(
 }
 
 /// `let` or, where it is constant, `const` with its names.
-#[tactic(auto, using(js_tree::proofs::Views::view_lexical_declaration, crate::proofs::PlaceLemmas::places_lexical_declaration))]
+#[tactic(auto, using(js_tree::proofs::ViewLemmas::view_lexical_declaration, crate::proofs::PlaceLemmas::places_lexical_declaration))]
 pub fn lexical_declaration(node: NodeId, constant: bool, declarators: Declarators) -> Stmt
     ensures view { statement_view result ≡ trees.lexical constant (declarators_view declarators) }
     ensures places { statement_places result ≡ node_of node (plain (let_or_const constant) ∷ (declarators_places declarators) ∷ may_stand kinds.Semicolon ∷ []) }
@@ -85,7 +85,7 @@ pub fn lexical_declaration(node: NodeId, constant: bool, declarators: Declarator
 }
 
 /// `;`.
-#[tactic(auto, using(js_tree::proofs::Views::view_empty_statement, crate::proofs::PlaceLemmas::places_empty_statement))]
+#[tactic(auto, using(js_tree::proofs::ViewLemmas::view_empty_statement, crate::proofs::PlaceLemmas::places_empty_statement))]
 pub fn empty_statement(node: NodeId) -> Stmt
     ensures view { statement_view result ≡ trees.empty }
     ensures places { statement_places result ≡ node_of node (plain (a kinds.Semicolon) ∷ []) }
@@ -94,7 +94,7 @@ pub fn empty_statement(node: NodeId) -> Stmt
 }
 
 /// `expression;`.
-#[tactic(auto, using(js_tree::proofs::Views::view_expression_statement, crate::proofs::PlaceLemmas::places_expression_statement))]
+#[tactic(auto, using(js_tree::proofs::ViewLemmas::view_expression_statement, crate::proofs::PlaceLemmas::places_expression_statement))]
 pub fn expression_statement(node: NodeId, expression: Box<Expr>) -> Stmt
     ensures view { statement_view result ≡ trees.expression (expression_view expression.value) }
     ensures places { statement_places result ≡ node_of node ((expression_places expression.value) ∷ may_stand kinds.Semicolon ∷ []) }
@@ -106,7 +106,7 @@ pub fn expression_statement(node: NodeId, expression: Box<Expr>) -> Stmt
 }
 
 /// `do body while (test);`.
-#[tactic(auto, using(js_tree::proofs::Views::view_do_while_statement, crate::proofs::PlaceLemmas::places_do_while_statement))]
+#[tactic(auto, using(js_tree::proofs::ViewLemmas::view_do_while_statement, crate::proofs::PlaceLemmas::places_do_while_statement))]
 pub fn do_while_statement(node: NodeId, body: Box<Stmt>, test: Box<Expr>) -> Stmt
     ensures view { statement_view result ≡ trees.do_while (statement_view body.value) (expression_view test.value) }
     ensures places { statement_places result ≡ node_of node (plain (a kinds.Do) ∷ (statement_places body.value) ∷ plain (a kinds.While) ∷ in_parentheses (expression_places test.value) ∷ may_stand kinds.Semicolon ∷ []) }
@@ -120,7 +120,7 @@ pub fn do_while_statement(node: NodeId, body: Box<Stmt>, test: Box<Expr>) -> Stm
 }
 
 /// `while (test) body`.
-#[tactic(auto, using(js_tree::proofs::Views::view_while_statement, crate::proofs::PlaceLemmas::places_while_statement))]
+#[tactic(auto, using(js_tree::proofs::ViewLemmas::view_while_statement, crate::proofs::PlaceLemmas::places_while_statement))]
 pub fn while_statement(node: NodeId, test: Box<Expr>, body: Box<Stmt>) -> Stmt
     ensures view { statement_view result ≡ trees.while (expression_view test.value) (statement_view body.value) }
     ensures places { statement_places result ≡ node_of node (plain (a kinds.While) ∷ in_parentheses (expression_places test.value) ∷ (statement_places body.value) ∷ []) }
@@ -134,7 +134,7 @@ pub fn while_statement(node: NodeId, test: Box<Expr>, body: Box<Stmt>) -> Stmt
 }
 
 /// `for (initializer; test; update) body`.
-#[tactic(auto, using(js_tree::proofs::Views::view_for_statement, crate::proofs::PlaceLemmas::places_for_statement))]
+#[tactic(auto, using(js_tree::proofs::ViewLemmas::view_for_statement, crate::proofs::PlaceLemmas::places_for_statement))]
 pub fn for_statement(
     node: NodeId,
     initializer: Option<Box<Expr>>,
@@ -156,7 +156,7 @@ pub fn for_statement(
 }
 
 /// `for (let declarators; test; update) body`, or with `const`.
-#[tactic(auto, using(js_tree::proofs::Views::view_for_lexical_statement, crate::proofs::PlaceLemmas::places_for_lexical_statement))]
+#[tactic(auto, using(js_tree::proofs::ViewLemmas::view_for_lexical_statement, crate::proofs::PlaceLemmas::places_for_lexical_statement))]
 pub fn for_lexical_statement(
     node: NodeId,
     constant: bool,
@@ -180,7 +180,7 @@ pub fn for_lexical_statement(
 }
 
 /// `for (let name of list) body`, or with `const`.
-#[tactic(auto, using(js_tree::proofs::Views::view_for_of_statement, crate::proofs::PlaceLemmas::places_for_of_statement))]
+#[tactic(auto, using(js_tree::proofs::ViewLemmas::view_for_of_statement, crate::proofs::PlaceLemmas::places_for_of_statement))]
 pub fn for_of_statement(
     node: NodeId,
     constant: bool,
@@ -202,7 +202,7 @@ pub fn for_of_statement(
 }
 
 /// `continue;`.
-#[tactic(auto, using(js_tree::proofs::Views::view_continue_statement, crate::proofs::PlaceLemmas::places_continue_statement))]
+#[tactic(auto, using(js_tree::proofs::ViewLemmas::view_continue_statement, crate::proofs::PlaceLemmas::places_continue_statement))]
 pub fn continue_statement(node: NodeId) -> Stmt
     ensures view { statement_view result ≡ trees.continue }
     ensures places { statement_places result ≡ node_of node (plain (a kinds.Continue) ∷ may_stand kinds.Semicolon ∷ []) }
@@ -211,7 +211,7 @@ pub fn continue_statement(node: NodeId) -> Stmt
 }
 
 /// `break;`.
-#[tactic(auto, using(js_tree::proofs::Views::view_break_statement, crate::proofs::PlaceLemmas::places_break_statement))]
+#[tactic(auto, using(js_tree::proofs::ViewLemmas::view_break_statement, crate::proofs::PlaceLemmas::places_break_statement))]
 pub fn break_statement(node: NodeId) -> Stmt
     ensures view { statement_view result ≡ trees.break }
     ensures places { statement_places result ≡ node_of node (plain (a kinds.Break) ∷ may_stand kinds.Semicolon ∷ []) }
@@ -220,7 +220,7 @@ pub fn break_statement(node: NodeId) -> Stmt
 }
 
 /// `return value;`.
-#[tactic(auto, using(js_tree::proofs::Views::view_return_statement, crate::proofs::PlaceLemmas::places_return_statement))]
+#[tactic(auto, using(js_tree::proofs::ViewLemmas::view_return_statement, crate::proofs::PlaceLemmas::places_return_statement))]
 pub fn return_statement(node: NodeId, value: Option<Box<Expr>>) -> Stmt
     ensures view { statement_view result ≡ trees.return (optional_view (unboxed value)) }
     ensures places { statement_places result ≡ node_of node (plain (a kinds.Return) ∷ (optional_places (unboxed value)) ∷ may_stand kinds.Semicolon ∷ []) }
@@ -232,7 +232,7 @@ pub fn return_statement(node: NodeId, value: Option<Box<Expr>>) -> Stmt
 }
 
 /// `throw value;`.
-#[tactic(auto, using(js_tree::proofs::Views::view_throw_statement, crate::proofs::PlaceLemmas::places_throw_statement))]
+#[tactic(auto, using(js_tree::proofs::ViewLemmas::view_throw_statement, crate::proofs::PlaceLemmas::places_throw_statement))]
 pub fn throw_statement(node: NodeId, value: Box<Expr>) -> Stmt
     ensures view { statement_view result ≡ trees.throw (expression_view value.value) }
     ensures places { statement_places result ≡ node_of node (plain (a kinds.Throw) ∷ (expression_places value.value) ∷ may_stand kinds.Semicolon ∷ []) }
@@ -244,7 +244,7 @@ pub fn throw_statement(node: NodeId, value: Box<Expr>) -> Stmt
 }
 
 /// `try block catch (parameter) block finally block`.
-#[tactic(auto, using(js_tree::proofs::Views::view_try_statement, crate::proofs::PlaceLemmas::places_try_statement))]
+#[tactic(auto, using(js_tree::proofs::ViewLemmas::view_try_statement, crate::proofs::PlaceLemmas::places_try_statement))]
 pub fn try_statement(
     node: NodeId,
     block: Block,
@@ -264,7 +264,7 @@ pub fn try_statement(
 }
 
 /// `debugger;`.
-#[tactic(auto, using(js_tree::proofs::Views::view_debugger_statement, crate::proofs::PlaceLemmas::places_debugger_statement))]
+#[tactic(auto, using(js_tree::proofs::ViewLemmas::view_debugger_statement, crate::proofs::PlaceLemmas::places_debugger_statement))]
 pub fn debugger_statement(node: NodeId) -> Stmt
     ensures view { statement_view result ≡ trees.debugger }
     ensures places { statement_places result ≡ node_of node (plain (a kinds.Debugger) ∷ may_stand kinds.Semicolon ∷ []) }
@@ -273,7 +273,7 @@ pub fn debugger_statement(node: NodeId) -> Stmt
 }
 
 /// `function name(parameters) { body }`.
-#[tactic(auto, using(js_tree::proofs::Views::view_function_declaration, crate::proofs::PlaceLemmas::places_function_declaration))]
+#[tactic(auto, using(js_tree::proofs::ViewLemmas::view_function_declaration, crate::proofs::PlaceLemmas::places_function_declaration))]
 pub fn function_declaration(node: NodeId, name: Units, parameters: Names, body: Stmts) -> Stmt
     ensures view { statement_view result ≡ trees.declared_function name parameters (statements_view body) }
     ensures places { statement_places result ≡ node_of node (plain (a kinds.Function) ∷ plain (an_identifier name) ∷ plain (flat_parameters parameters) ∷ in_braces (statements_places body) ∷ []) }

@@ -20,14 +20,14 @@ use Rattle.js_lexer.specs.Tokens.{IsListed, Lent}
 use Rattle.js_lexer.specs.Scanning.{gap_piece, gap_len, number_of, word_token, number_token, string_token, token_at, items}
 use Rattle.js_lexer.specs.State.{items_of}
 use Rattle.js_lexer.specs.Written.{Written, AreTokens, blank_before, written, lent, tokens_then, end_after}
-use Rattle.js_lexer.proofs.Leading.{leading_all, leading_stops, leading_exact}
-use Rattle.js_lexer.proofs.Runs.{run_exact}
-use Rattle.js_lexer.proofs.Gaps.{gap_knows}
-use Rattle.js_lexer.proofs.Spellings.{prefix_is, prefix_self}
-use Rattle.js_lexer.proofs.Tables.{Firsts, first_is, all_listed, punctuators_descend}
-use Rattle.js_lexer.proofs.Literals.{literal_found}
-use Rattle.js_lexer.proofs.Fronts.{longest_here}
-use Rattle.js_lexer.proofs.Tiling.{gap_is, gap_within, no_more, bad_one, one_more}
+use Rattle.js_lexer.proofs.LeadingLemmas.{leading_all, leading_stops, leading_exact}
+use Rattle.js_lexer.proofs.RunLemmas.{run_exact}
+use Rattle.js_lexer.proofs.GapLemmas.{gap_knows}
+use Rattle.js_lexer.proofs.SpellingLemmas.{prefix_is, prefix_self}
+use Rattle.js_lexer.proofs.TableLemmas.{Firsts, first_is, all_listed, punctuators_descend}
+use Rattle.js_lexer.proofs.LiteralLemmas.{literal_found}
+use Rattle.js_lexer.proofs.FrontLemmas.{longest_here}
+use Rattle.js_lexer.proofs.TilingLemmas.{gap_is, gap_within, no_more, bad_one, one_more}
 use Rattle.js_lexer.proofs.WrittenLaws.{Breaks, breaks, found, string_alone, mark_alone, not_true, no_comment, written_are}
 
 -- ---- units that are the same up to a blank

@@ -20,13 +20,13 @@ use Rattle.js_lexer.specs.Tokens.IsToken.{name, reserved, number, string, punctu
 use Rattle.js_lexer.specs.Scanning.{gap_piece, gap_len, token_at, items}
 use Rattle.js_lexer.specs.State.{items_of}
 use Rattle.js_lexer.specs.Written.{Written, AreTokens, blank_before, written, lent}
-use Rattle.js_lexer.proofs.Leading.{leading_exact}
-use Rattle.js_lexer.proofs.Runs.{run_stops, run_more}
-use Rattle.js_lexer.proofs.Numbers.{number_begins, number_parts, number_some}
-use Rattle.js_lexer.proofs.Tables.{kind_is, all_listed, reserved_is_word}
-use Rattle.js_lexer.proofs.Literals.{literal_known, literal_begins}
-use Rattle.js_lexer.proofs.Fronts.{begins_front, word_begins, word_parts, start_no_digit, quote_first, longest_here}
-use Rattle.js_lexer.proofs.Tiling.{no_more, one_more}
+use Rattle.js_lexer.proofs.LeadingLemmas.{leading_exact}
+use Rattle.js_lexer.proofs.RunLemmas.{run_stops, run_more}
+use Rattle.js_lexer.proofs.NumberLemmas.{number_begins, number_parts, number_some}
+use Rattle.js_lexer.proofs.TableLemmas.{kind_is, all_listed, reserved_is_word}
+use Rattle.js_lexer.proofs.LiteralLemmas.{literal_known, literal_begins}
+use Rattle.js_lexer.proofs.FrontLemmas.{begins_front, word_begins, word_parts, start_no_digit, quote_first, longest_here}
+use Rattle.js_lexer.proofs.TilingLemmas.{no_more, one_more}
 
 -- nothing, a line feed or a space comes next
 abbrev pub Breaks : List ℕ → Type 0

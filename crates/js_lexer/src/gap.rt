@@ -39,7 +39,7 @@ fn before_close(units: &[u16]) -> usize
 }
 
 /// How long the white space, line terminator or comment at the front is; 0 where none is there.
-#[tactic(auto, using(crate::proofs::Gaps::close_fits))]
+#[tactic(auto, using(crate::proofs::GapLemmas::close_fits))]
 fn piece(units: &[u16]) -> usize
     ensures value { result ≡ gap_piece units.now }
     ensures within { result ≤ length units.now }
@@ -56,7 +56,7 @@ fn piece(units: &[u16]) -> usize
 }
 
 /// How long the gap at the front is.
-#[tactic(auto, using(crate::proofs::Runs::run_steps), unfolding(crate::specs::Scanning::gap_len))]
+#[tactic(auto, using(crate::proofs::RunLemmas::run_steps), unfolding(crate::specs::Scanning::gap_len))]
 pub fn gap_len(units: &[u16]) -> usize
     ensures value { result ≡ gap_len units.now }
     ensures within { result ≤ length units.now }

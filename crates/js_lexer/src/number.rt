@@ -77,7 +77,7 @@ fn is_decimal(digits: &[u16]) -> bool
 }
 
 /// What digits are worth, or `None` where that is above the greatest number.
-#[tactic(auto, using(crate::proofs::Numbers::digits_value_grows))]
+#[tactic(auto, using(crate::proofs::NumberLemmas::digits_value_grows))]
 pub fn digits_value(base: u64, digits: &[u16]) -> Option<u64>
     requires some { 1 ≤ base }
     requires small { base ≤ 16 }

@@ -42,7 +42,7 @@ pub fn kind_in(table: &[(TokenKind, &str)], text: &[u16]) -> TokenKind
 }
 
 /// The first entry of the table whose text stands at the front, with its length.
-#[tactic(auto, using(crate::proofs::Spellings::prefix_fits))]
+#[tactic(auto, using(crate::proofs::SpellingLemmas::prefix_fits))]
 pub fn first_in(table: &[(TokenKind, &str)], units: &[u16]) -> Option<(TokenKind, usize)>
     ensures entry { result ≡ first_in (entries table.now) units.now }
     ensures within { IfSome result (λ t. t.1 ≤ length units.now) }

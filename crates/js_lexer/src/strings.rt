@@ -195,7 +195,7 @@ fn character_at(quote: u16, units: &[u16]) -> Option<Character>
 }
 
 /// How many units at the front are characters of a string literal in this quote.
-#[tactic(auto, using(crate::proofs::Runs::run_steps))]
+#[tactic(auto, using(crate::proofs::RunLemmas::run_steps))]
 pub fn characters_len(quote: u16, units: &[u16]) -> usize
     ensures value { result ≡ run (character_len quote) 0 units.now }
     ensures within { result ≤ length units.now }
@@ -229,7 +229,7 @@ fn push_code_point(units: &mut Vec<u16>, value: Option<u32>) -> Result<(), Alloc
 
 /// The units that a token of the kind `String` stands for (ECMA-262, 12.9.4.2), from its text. Of
 /// a text that is no string literal it decodes what begins one.
-#[tactic(auto, using(crate::proofs::Literals::decoded_steps))]
+#[tactic(auto, using(crate::proofs::LiteralLemmas::decoded_steps))]
 pub fn string_value(alloc: Global, text: &[u16]) -> Result<Units, AllocError>
     ensures value { IfOk result (λ u. u ≡ string_value text.now) }
     ensures meaning { IsStringLiteral text.now → IsString text.now (string_value text.now) }

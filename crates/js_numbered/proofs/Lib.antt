@@ -1,4 +1,4 @@
-pub mod Counts
+pub mod CountLemmas
 pub mod NodeSpanLemmas
 pub mod NumberedLaws
 pub mod NumberedPlaceLaws

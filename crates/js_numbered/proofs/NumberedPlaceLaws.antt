@@ -20,7 +20,7 @@ use Rattle.js_tree.specs.declared.tree.Expr.TheViews as views
 use Rattle.js_tree.specs.Trees as trees
 use Rattle.js_tree.specs.Trees.{Expression, Expressions, Key, Property, Properties, Statement, Statements, Handler}
 use Rattle.js_tree.specs.Views.{parameters_view, expressions, statements, properties, declarators, handler, finalizer, expression_step, property_step, key_step, statement_step, block_step, catch_step, declarator_step, declarators_step, expressions_step, properties_step, statements_step, expression_view, property_view, key_view, statement_view, block_view, catch_view, declarator_view, declarators_view, expressions_view, properties_view, statements_view}
-use Rattle.js_tree.proofs.Views.{expression_roll, property_roll, key_roll, statement_roll, block_roll, catch_roll, declarator_roll, declarators_roll, expressions_roll, properties_roll, statements_roll}
+use Rattle.js_tree.proofs.ViewLemmas.{expression_roll, property_roll, key_roll, statement_roll, block_roll, catch_roll, declarator_roll, declarators_roll, expressions_roll, properties_roll, statements_roll}
 use Rattle.js_language.specs.Tokens.{identifier_name, numeric_literal, string_literal}
 use Rattle.js_language.specs.Flat.{a, an_identifier, unary_kind, update_kind, binary_kind, assign_kind, flat_parameters, flat_arrow_parameters, flat_optional_name, flat_catch_parameter, flat_boolean, let_or_const}
 use Rattle.js_language.specs.Places.{Place, a_symbol, may_stand, in_braces, in_parentheses, numbers_of, if_some, finally_if_some, plain, node_of, expression_places, property_places, key_places, statement_places, block_places, catch_places, declarator_places, declarators_places, expressions_places, properties_places, statements_places, expression_pieces, property_pieces, key_pieces, statement_pieces, block_pieces, catch_pieces, declarator_pieces, declarators_pieces, expressions_pieces, properties_pieces, statements_pieces}
@@ -28,7 +28,7 @@ use Rattle.js_language.proofs.PlaceLemmas as standing
 use Rattle.js_semantics.proofs.TreeFolds.{Former, Mapper, Level, Claims, Known, known_trees, Grows, every-expression}
 use Rattle.js_numbered.specs.Numbering.{Counted}
 use Rattle.js_numbered.specs.NumberedPlaces.{in_row, node_placed, braced, comma_separated, expression_placed, expressions_placed, key_placed, property_placed, properties_placed, declarator_placed, declarators_placed, statement_placed, handler_placed, statements_placed, numbered_places}
-use Rattle.js_numbered.proofs.Counts.{range_counts}
+use Rattle.js_numbered.proofs.CountLemmas.{range_counts}
 use Rattle.js_numbered.proofs.PlacingLemmas.{Stand, AllStand, tokens-stand, may-stand, nothing-stands, before-stands, row-stands, node-stands, braces-stand, parentheses-stand, commas-stand, carried}
 
 -- ---- what is claimed of a tree of each type

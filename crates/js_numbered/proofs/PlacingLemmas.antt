@@ -9,7 +9,7 @@ use Rattle.js_language.specs.Flat.{a}
 use Rattle.js_language.specs.Places.{Place, stands, stands_maybe, opens, closes, numbers_of, in_turn, plain, may_stand, node_of, in_braces, in_parentheses, behind_commas, with_commas}
 use Rattle.js_numbered.specs.Numbering.{both}
 use Rattle.js_numbered.specs.NumberedPlaces.{Placing, tokens, optional_token, before, in_row, enclosed, node_placed, braced, parenthesized, each_behind_comma, comma_separated}
-use Rattle.js_numbered.proofs.Counts.{Fits, give_fits, both_fits, of_part_fits, node_fits, numbers_append, quiet}
+use Rattle.js_numbered.proofs.CountLemmas.{Fits, give_fits, both_fits, of_part_fits, node_fits, numbers_append, quiet}
 
 -- ---- numbers of nodes that begin, and of nodes that end
 

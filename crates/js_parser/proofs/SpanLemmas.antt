@@ -8,8 +8,8 @@ use Rattle.js_lexer.specs.Gaps.{has_line_terminator}
 use Rattle.js_lexer.specs.Scanning.{gap_len, token_at, item_by, items}
 use Rattle.js_lexer.specs.State.{items_of}
 use Rattle.js_lexer.specs.Tokens.{Lent}
-use Rattle.js_lexer.proofs.Fronts.{longest_here}
-use Rattle.js_lexer.proofs.Tiling.{gap_within}
+use Rattle.js_lexer.proofs.FrontLemmas.{longest_here}
+use Rattle.js_lexer.proofs.TilingLemmas.{gap_within}
 use Rattle.js_tree.specs.declared.node.Span.{Span}
 use Rattle.js_language.specs.Tokens.{Token, head_of, tail_of}
 use Rattle.js_language.specs.Places.{Place, stands, stands_maybe, opens, closes, start_of, end_of, AreSpans}

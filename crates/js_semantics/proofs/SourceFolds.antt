@@ -19,7 +19,7 @@ use Rattle.js_tree.specs.declared.tree.Expr.TheViews as views
 use Rattle.js_tree.specs.Trees as trees
 use Rattle.js_tree.specs.Trees.{Parameters, Expression, Expressions, OptionalExpression, Key, Property, Properties, Statement, Statements, Handler, Finalizer}
 use Rattle.js_tree.specs.Views.{parameters_view, expressions, statements, properties, declarators, optional, expression_step, property_step, key_step, statement_step, block_step, catch_step, declarator_step, declarators_step, expressions_step, properties_step, statements_step, expression_view, property_view, key_view, statement_view, block_view, catch_view, declarator_view, declarators_view, expressions_view, properties_view, statements_view}
-use Rattle.js_tree.proofs.Views.{expression_roll, property_roll, key_roll, statement_roll, block_roll, catch_roll, declarator_roll, declarators_roll, expressions_roll, properties_roll, statements_roll}
+use Rattle.js_tree.proofs.ViewLemmas.{expression_roll, property_roll, key_roll, statement_roll, block_roll, catch_roll, declarator_roll, declarators_roll, expressions_roll, properties_roll, statements_roll}
 use Rattle.js_operators.specs.declared.operator.UnaryOperator.{UnaryOperator}
 use Rattle.js_operators.specs.declared.operator.UpdateOperator.{UpdateOperator}
 use Rattle.js_operators.specs.declared.operator.BinaryOperator.{BinaryOperator}

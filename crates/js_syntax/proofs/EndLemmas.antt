@@ -12,7 +12,7 @@ use Rattle.js_tree.specs.Trees as trees
 use Rattle.js_tree.specs.Trees.{Expression, Expressions, Property, Properties, Key, Statement, Statements, Handler}
 use Rattle.js_language.specs.Flat.{edge, edge_of_last, end_of_declarators}
 use Rattle.js_tree.specs.Views.{expressions, declarators, optional_view, expression_view, property_view, key_view, statement_view, block_view, catch_view, declarator_view, declarators_view, expressions_view, properties_view, statements_view, expression_step, property_step, key_step, statement_step, block_step, catch_step, declarator_step, declarators_step, expressions_step, properties_step, statements_step}
-use Rattle.js_tree.proofs.Views.{view_expressions, view_declarator}
+use Rattle.js_tree.proofs.ViewLemmas.{view_expressions, view_declarator}
 
 pub of_expressions : (es : Exprs) → expressions_view es ≡ expressions (map expression_view es.items.items)
 of_expressions es = view_expressions es.items

@@ -5,9 +5,9 @@ pub mod FreshLemmas
 pub mod SpanLemmas
 pub mod ViewLemmas
 pub mod LinkLemmas
-pub mod LoopSteps
-pub mod Leaves
-pub mod ListReads
+pub mod LoopStepLemmas
+pub mod LeafLemmas
+pub mod ListReadLemmas
 pub mod LoopLemmas
 pub mod EndLemmas
 pub mod NewNameLemmas
@@ -17,6 +17,6 @@ pub mod ParameterLemmas
 pub mod StatementLemmas
 pub mod ClassLemmas
 pub mod PlacedLemmas
-pub mod PlacedTokens
-pub mod PlacedNames
-pub mod PlacedLists
+pub mod PlacedTokenLemmas
+pub mod PlacedNameLemmas
+pub mod PlacedListLemmas

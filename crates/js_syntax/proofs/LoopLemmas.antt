@@ -8,7 +8,7 @@ use Rattle.js_syntax.specs.declared.fault.ParseError.TheVariants as errors
 use Rattle.js_syntax.specs.Giving.{Fails}
 use Rattle.js_syntax.specs.Kinds.{is_kind}
 use Rattle.js_syntax.specs.Reading.{Fault, stuck, deep, Read, Reader, ◌>>=◌, goes_on, ends, neither, after, go_after, elements, others, ends_list, items}
-use Rattle.js_syntax.proofs.LoopSteps.{with_nothing, append_nil}
+use Rattle.js_syntax.proofs.LoopStepLemmas.{with_nothing, append_nil}
 
 -- what was read, in front of what is still read
 abbrev pub with_front : {A : Type 0} → List A → Read (List A) → Read (List A)

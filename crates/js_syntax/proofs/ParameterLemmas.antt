@@ -10,7 +10,7 @@ use Rattle.js_syntax.specs.Reading.{goes_on, ends, after, elements, fresh_name, 
 use Rattle.js_syntax.proofs.LoopLemmas.{ReadsElements, elements_go_on, elements_end_after}
 use Rattle.js_syntax.proofs.ListLemmas.{with_names_push}
 use Rattle.js_syntax.proofs.ShorterLemmas.{fresh_shorter}
-use Rattle.js_syntax.proofs.LoopSteps.{tail_shorter, length_view}
+use Rattle.js_syntax.proofs.LoopStepLemmas.{tail_shorter, length_view}
 
 -- these names were read and are taken
 pub record ReadsParameters (ts : List Token) (xs names : List Identifier) (rest : List Token) : Type 0 where

@@ -12,7 +12,7 @@ use Rattle.js_tree.specs.Spans.{span_of}
 use Rattle.js_syntax.specs.Views.{tokens_view}
 use Rattle.js_syntax.specs.Places.{end_before, span_between}
 use Rattle.js_syntax.specs.Placed.{GoesOn, AreNumbered, InPlace, Placed, AreInOrder, IsForward}
-use Rattle.js_syntax.proofs.LoopSteps.{append_nil}
+use Rattle.js_syntax.proofs.LoopStepLemmas.{append_nil}
 
 -- ---- lists of spans
 

@@ -12,9 +12,9 @@ use Rattle.js_syntax.specs.Classes.{First, first, ForHead, for_head, ends_return
 use Rattle.js_syntax.specs.Productions.{Below, Item, Values, seq, made, tok, a_statement, a_block, in_braces, an_end, ended, initializer_by, declarator_at, with_declared}
 use Rattle.js_syntax.specs.Parsing as parsing
 use Rattle.js_syntax.specs.Parsing.{below, statement, statement_by}
-use Rattle.js_syntax.proofs.Leaves.{short, shorter, name_short}
+use Rattle.js_syntax.proofs.LeafLemmas.{short, shorter, name_short}
 use Rattle.js_syntax.proofs.NewNameLemmas.{name_of_fresh}
-use Rattle.js_syntax.proofs.LoopSteps.{tail_shorter}
+use Rattle.js_syntax.proofs.LoopStepLemmas.{tail_shorter}
 
 pub bind_ok : {A B : Type 0} (r : Read A) (f : A × List Token → Read B) (y : B × List Token) → (r >>= f) ≡ Ok y → (x : A × List Token) × (r ≡ Ok x) × (f x ≡ Ok y)
 bind_ok (Ok x) f y e = (x, refl, e)

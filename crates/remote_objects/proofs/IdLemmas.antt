@@ -9,7 +9,7 @@ use Rattle.std.proofs.lemmas.List.{get_or-take, drop_more, take_all, take-append
 use Rattle.std.proofs.lemmas.Option.{same_Some}
 use Rattle.cdp_text.specs.Decimal.{decimal_value}
 use Rattle.cdp_text.specs.Parts.{Halves, halves}
-use Rattle.cdp_text.proofs.Decimals.{decimal_value-some, decimal_value-decimal}
+use Rattle.cdp_text.proofs.DecimalLemmas.{decimal_value-some, decimal_value-decimal}
 use Rattle.cdp_text.proofs.PartsLemmas.{halves-append, halves-decimal, halves-some}
 use Rattle.remote_objects.specs.Ids.{IsObjectId, number_behind, number_in_id}
 

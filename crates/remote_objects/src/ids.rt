@@ -29,7 +29,7 @@ pub fn frame_id(alloc: Global, session: u64, stop: u64, depth: u64) -> Result<Un
 }
 
 /// The number of these digits, leading zeros allowed; none from 2^64 on.
-#[tactic(auto, using(cdp_text::proofs::Decimals::digits_number_past))]
+#[tactic(auto, using(cdp_text::proofs::DecimalLemmas::digits_number_past))]
 fn digits_number(digits: &[u16]) -> Option<u64>
     ensures { result ≡ digits_number digits.now }
 {

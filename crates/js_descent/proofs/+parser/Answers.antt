@@ -9,10 +9,10 @@ use Rattle.js_syntax.specs.Reading.{no_state, after, goes_on, ends}
 use Rattle.js_syntax.specs.Productions.{braces, one_of}
 use Rattle.js_syntax.specs.Parsing.{below, property_at, if_at, statement}
 use Rattle.js_syntax.specs.Views.{tokens_view}
-use Rattle.js_syntax.proofs.Leaves.{short, shorter}
+use Rattle.js_syntax.proofs.LeafLemmas.{short, shorter}
 use Rattle.js_syntax.proofs.LinkLemmas.{links_deep, links_more, chain_deep, chain_more}
-use Rattle.js_syntax.proofs.ListReads.{elements_init, elements_next, others_init, others_next, others_smaller, members_init, members_next, member_shorter, last_height, last_property_height}
-use Rattle.js_syntax.proofs.LoopSteps.{elements_none, elements_fail, elements_end, elements_stop, others_none, others_fail, map_push, less_by_view, length_view, less_in_view}
+use Rattle.js_syntax.proofs.ListReadLemmas.{elements_init, elements_next, others_init, others_next, others_smaller, members_init, members_next, member_shorter, last_height, last_property_height}
+use Rattle.js_syntax.proofs.LoopStepLemmas.{elements_none, elements_fail, elements_end, elements_stop, others_none, others_fail, map_push, less_by_view, length_view, less_in_view}
 use Rattle.js_descent.proofs.+parser.Goals as goal
 use Rattle.js_descent.proofs.+parser.Goals.{primaries::function_at-then-is_name_next+in_ok-text+in_ok-from_slice, primaries::function_at-else-is_name_next}
 use Rattle.js_syntax.specs.Context.{context_view}
@@ -21,9 +21,9 @@ use Rattle.js_syntax.proofs.ShorterLemmas.{item_shorter}
 use Rattle.js_syntax.proofs.StatementLemmas.{expect_found, names_kept, no_finalizer}
 use Rattle.js_syntax.proofs.ClassLemmas.{first_function, first_lexical, first_semicolon, from_next, key_number, key_string, key_word, link_dot, prefix_delete, prefix_unary, prefix_update, start_brace, start_function, update_next}
 use Rattle.js_syntax.proofs.PlacedLemmas.{closed, closed_twice, loosely, nothing, then, then_both}
-use Rattle.js_syntax.proofs.PlacedLists.{element_last, element_more, elements_over, listed_more, other_more, turn_next}
-use Rattle.js_syntax.proofs.PlacedNames.{listed, parameters_placed}
-use Rattle.js_syntax.proofs.PlacedTokens.{ended_so, expected, expected_near, let_expected, let_here, named, named_freshly, named_so, symbol, tested, worded}
+use Rattle.js_syntax.proofs.PlacedListLemmas.{element_last, element_more, elements_over, listed_more, other_more, turn_next}
+use Rattle.js_syntax.proofs.PlacedNameLemmas.{listed, parameters_placed}
+use Rattle.js_syntax.proofs.PlacedTokenLemmas.{ended_so, expected, expected_near, let_expected, let_here, named, named_freshly, named_so, symbol, tested, worded}
 use Rattle.js_syntax.specs.Placed.{Placed}
 use Rattle.js_language.specs.Flat.{a, flat_arrow_parameters, flat_optional_name}
 use Rattle.js_language.specs.Boxes.{unboxed}

@@ -1,11 +1,11 @@
 use Rattle.std.proofs.Common.{◌*◌, ◌+◌, false, length, map, true}
 use Rattle.js_syntax.specs.Views.{tokens_view}
-use Rattle.js_syntax.proofs.ListReads.{ReadsElements, ReadsOthers, ReadsMembers}
+use Rattle.js_syntax.proofs.ListReadLemmas.{ReadsElements, ReadsOthers, ReadsMembers}
 use Rattle.js_descent.proofs.+parser.Given as goal
 use Rattle.js_tree.specs.Views.{declarator_view, statement_view}
 use Rattle.js_syntax.specs.Context.{context_view}
 use Rattle.js_syntax.proofs.ListLemmas.{ReadsStatements, ReadsDeclarators}
-use Rattle.js_syntax.proofs.PlacedLists.{before_commas}
+use Rattle.js_syntax.proofs.PlacedListLemmas.{before_commas}
 use Rattle.js_syntax.specs.Placed.{Placed}
 use Rattle.js_language.specs.Places.{behind_commas, declarator_places, expression_places, in_turn, property_places, statement_places, with_commas}
 

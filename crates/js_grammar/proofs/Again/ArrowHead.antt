@@ -16,7 +16,7 @@ use Rattle.js_language.specs.Well.{level, Well, AreAssignments}
 use Rattle.js_syntax.specs.Kinds.{is_same_kind}
 use Rattle.js_syntax.specs.Classes as classes
 use Rattle.js_syntax.specs.Classes.{operator_by, joint_by, assigns_by, is_arrow, past_names, one_parameter, listed, no_arrow, listed_by, arrow_head}
-use Rattle.js_grammar.proofs.MarkLaws.{parts}
+use Rattle.js_grammar.proofs.MarkLemmas.{parts}
 use Rattle.js_grammar.proofs.Again.Head.{start_fixed, start_name, IsOperator, operator_again, IsAssignment, assignment_again, no_arrow_fixed, kind_of_identifier, kind_of_number, kind_of_string}
 use Rattle.js_grammar.proofs.Again.Level.{strength_high, target_level}
 

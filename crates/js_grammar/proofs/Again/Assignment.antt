@@ -20,8 +20,8 @@ use Rattle.js_syntax.specs.Productions.{Below, tok, an_assignment, in_braces}
 use Rattle.js_syntax.specs.Parsing.{operation, arrow_rest, are_fresh, arrow_of_one, arrow_of_list, joined, assignment, expression, function_code_by}
 use Rattle.js_syntax.proofs.KindLemmas.{next_again}
 use Rattle.js_grammar.specs.Laws.{AgainBelow, SeqAgain, Stops, StopsOperation, NoComma}
-use Rattle.js_grammar.proofs.MarkLaws.{parts}
-use Rattle.js_grammar.proofs.TokenLaws.{expect_again, expect_near_again, name_again}
+use Rattle.js_grammar.proofs.MarkLemmas.{parts}
+use Rattle.js_grammar.proofs.TokenLemmas.{expect_again, expect_near_again, name_again}
 use Rattle.js_grammar.proofs.Again.Front.{expression_front, front_no_brace, comma_stops}
 use Rattle.js_grammar.proofs.Again.Part.{names_again, parameters_again, more_again, fresh_behind}
 use Rattle.js_grammar.proofs.Again.Head.{start_fixed, start_name, link_fixed, no_update_fixed, operator_fixed, joint_fixed, no_arrow_fixed, arrow_fixed, IsAssignment, assignment_again}

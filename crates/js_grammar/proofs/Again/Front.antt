@@ -18,7 +18,7 @@ use Rattle.js_syntax.specs.Classes.{link_by, no_link, update_by, operator_by, jo
 use Rattle.js_syntax.proofs.KindLemmas.{kind_is, kind_not, next_again}
 use Rattle.js_grammar.specs.Laws.{Stops, NoComma, follows_by, follows_statement, closes}
 use Rattle.js_grammar.proofs.Again.List.{matches_shorter}
-use Rattle.js_syntax.proofs.PlacedTokens.{next_shorter}
+use Rattle.js_syntax.proofs.PlacedTokenLemmas.{next_shorter}
 
 -- ---- the first token of an expression
 

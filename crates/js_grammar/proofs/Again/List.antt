@@ -6,9 +6,9 @@ use Rattle.js_language.specs.Tokens.{Token, fixed, Mark, token, beside, semicolo
 use Rattle.js_syntax.specs.Kinds.{is_kind, is_same_kind}
 use Rattle.js_syntax.specs.Reading.{Reader, elements, others, items, ends_list}
 use Rattle.js_syntax.proofs.KindLemmas.{next_again, kind_not}
-use Rattle.js_grammar.proofs.MarkLaws.{parts}
-use Rattle.js_syntax.proofs.LoopSteps.{tail_shorter}
-use Rattle.js_syntax.proofs.PlacedTokens.{next_shorter}
+use Rattle.js_grammar.proofs.MarkLemmas.{parts}
+use Rattle.js_syntax.proofs.LoopStepLemmas.{tail_shorter}
+use Rattle.js_syntax.proofs.PlacedTokenLemmas.{next_shorter}
 
 -- ---- marks of lists
 

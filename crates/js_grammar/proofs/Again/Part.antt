@@ -18,8 +18,8 @@ use Rattle.js_syntax.specs.Reading.{expect, name_at, fresh_name, elements, other
 use Rattle.js_syntax.specs.Productions.{Code, Below, one_of, arguments_before, more_assignments, names_before, parameters_at, with_declared, items_at, braces, code_at, declarator_at, name_of, with_declarator, declarators_at, optional_before, ended_expression}
 use Rattle.js_syntax.proofs.KindLemmas.{next_again, kind_not}
 use Rattle.js_grammar.specs.Laws.{Stops, NoComma, follows_statement, Follows, closes, AgainBelow}
-use Rattle.js_grammar.proofs.MarkLaws.{parts}
-use Rattle.js_grammar.proofs.TokenLaws.{expect_again, name_again, fresh_again, semicolon_again}
+use Rattle.js_grammar.proofs.MarkLemmas.{parts}
+use Rattle.js_grammar.proofs.TokenLemmas.{expect_again, name_again, fresh_again, semicolon_again}
 use Rattle.js_grammar.proofs.Again.List.{behind_commas, with_commas, comma_behind, all_marks, AllGood, elements_again, LastEnds, others_again, items_again}
 use Rattle.js_grammar.proofs.Again.Front.{expression_opens, opens_not, closes_opens, closes_stops, comma_closes, comma_stops, semicolon_stops, word_stops, statement_starts, starts_follows, ends_follows}
 use Rattle.js_grammar.proofs.Sound.Part.{more_names_is}

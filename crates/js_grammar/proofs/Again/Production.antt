@@ -11,8 +11,8 @@ use Rattle.js_syntax.specs.Classes.{is_name}
 use Rattle.js_syntax.specs.Productions.{Below, Item, tok, near, a_name, the_name, an_assignment, an_expression, optional, arguments, ended, an_end, declared, a_statement, a_block, in_braces, code, Value, Values, expect_name, item, seq, made}
 use Rattle.js_syntax.proofs.KindLemmas.{next_again, kind_not}
 use Rattle.js_grammar.specs.Laws.{Stops, NoComma, follows_statement, Follows, AgainBelow, marks_of, marks, Sane, AllSane, height_at, height_all, EndsLast, fits, all_fit, SeqAgain}
-use Rattle.js_grammar.proofs.MarkLaws.{parts}
-use Rattle.js_grammar.proofs.TokenLaws.{expect_again, expect_near_again, name_again, text_is, semicolon_again}
+use Rattle.js_grammar.proofs.MarkLemmas.{parts}
+use Rattle.js_grammar.proofs.TokenLemmas.{expect_again, expect_near_again, name_again, text_is, semicolon_again}
 use Rattle.js_grammar.proofs.Again.Front.{closes_stops}
 use Rattle.js_grammar.proofs.Again.Part.{arguments_again, braces_again, code_again, declarators_again, declarators_close, optional_again, ended_again}
 use Rattle.std.proofs.lemmas.Bool.{and_parts}

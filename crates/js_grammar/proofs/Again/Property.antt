@@ -21,8 +21,8 @@ use Rattle.js_syntax.specs.Productions.{Below, one_of, tok, an_assignment}
 use Rattle.js_syntax.specs.Parsing.{key_at, property_at, properties_at}
 use Rattle.js_syntax.proofs.KindLemmas.{kind_is}
 use Rattle.js_grammar.specs.Laws.{AgainBelow, SeqAgain, Stops}
-use Rattle.js_grammar.proofs.MarkLaws.{parts}
-use Rattle.js_grammar.proofs.TokenLaws.{name_again, text_is}
+use Rattle.js_grammar.proofs.MarkLemmas.{parts}
+use Rattle.js_grammar.proofs.TokenLemmas.{name_again, text_is}
 use Rattle.js_grammar.proofs.Again.List.{behind_commas, with_commas, comma_behind, AllGood, EndsElement, elements_again}
 use Rattle.js_grammar.proofs.Again.Front.{closes_stops, comma_stops}
 use Rattle.js_grammar.proofs.Again.Head.{other_kind, kind_of_identifier, kind_of_number, kind_of_string}

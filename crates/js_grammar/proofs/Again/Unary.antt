@@ -17,8 +17,8 @@ use Rattle.js_syntax.specs.Classes.{link, no_link, update_near, prefix, prefix_b
 use Rattle.js_syntax.specs.Productions.{Below, tok, an_expression, arguments}
 use Rattle.js_syntax.specs.Parsing.{links, call, postfix, unary}
 use Rattle.js_grammar.specs.Laws.{AgainBelow, SeqAgain, StopsUnary}
-use Rattle.js_grammar.proofs.MarkLaws.{parts}
-use Rattle.js_grammar.proofs.TokenLaws.{word_again}
+use Rattle.js_grammar.proofs.MarkLemmas.{parts}
+use Rattle.js_grammar.proofs.TokenLemmas.{word_again}
 use Rattle.js_grammar.proofs.Again.Head.{link_fixed, prefix_fixed, update_fixed, update_again, update_no_link, update_prefix, kind_of_identifier, kind_of_number, kind_of_string}
 use Rattle.js_grammar.proofs.Again.Level.{strength_low, target_level, property_level, call_edge, arms, arms_low}
 use Rattle.js_grammar.proofs.Again.Primary.{ObjectsAgain, is_primary, primary_again, before_nothing, and_nothing}

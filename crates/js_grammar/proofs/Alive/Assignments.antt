@@ -20,8 +20,8 @@ use Rattle.js_syntax.specs.Productions.{Below, one_of, more_assignments, names_b
 use Rattle.js_syntax.specs.Parsing.{if_low, operation, arrow_body_by, arrow_rest, are_fresh, arrow_of_names, arrow_of_one, arrow_of_list, joined_by, joined, assignment_by, assignment, comma_by, expression, function_code_by}
 use Rattle.js_syntax.proofs.KindLemmas.{kind_is, next_is}
 use Rattle.js_grammar.specs.Laws.{TakesExpression, SoundBelow}
-use Rattle.js_grammar.proofs.MarkLaws.{joins}
-use Rattle.js_grammar.proofs.TokenLaws.{faulty, ok_is, expect_sound, expect_again, expect_near_sound, name_again, name_sound}
+use Rattle.js_grammar.proofs.MarkLemmas.{joins}
+use Rattle.js_grammar.proofs.TokenLemmas.{faulty, ok_is, expect_sound, expect_again, expect_near_sound, name_again, name_sound}
 use Rattle.js_grammar.proofs.Sound.Part.{fresh_behind, names_before_sound, parameters_sound, seq_sound}
 use Rattle.js_grammar.proofs.Sound.Operator.{operation_sound}
 use Rattle.js_grammar.proofs.Sound.Primary.{call_sound}
@@ -29,7 +29,7 @@ use Rattle.js_grammar.proofs.Sound.Expression.{fresh_is, assignment_sound}
 use Rattle.js_grammar.proofs.Alive.Tools.{bind_err, cond_err, Counts, stuck_counts, Added, as_token, added, a_token, a_near_token, Anything, Nothing, IsZero, Starts, is_firm, firm_append, Lives, fills, anything, from_nothing, ends_in, around, stopped, renamed, behind}
 use Rattle.js_grammar.proofs.Alive.Parts.{Fits, AliveBelow, zero_marks, flat_block, expect_near_err, parameters_lives, more_lives, seq_lives, made_err}
 use Rattle.js_grammar.proofs.Alive.Expressions.{low_err, looser, whole_lives, token_lives, zero_token, IsFunctionOf, function_lives, operation_lives}
-use Rattle.js_grammar.proofs.FirmTrees.{expression_firm, firm_parameters}
+use Rattle.js_grammar.proofs.FirmTreeLemmas.{expression_firm, firm_parameters}
 use Rattle.js_syntax.proofs.ClassLemmas.{start_function, start_name}
 use Rattle.js_grammar.proofs.Follows.Assignments.{no_one, start_paren}
 use Rattle.js_grammar.proofs.Sound.Statement.{no_brace}

@@ -22,17 +22,17 @@ use Rattle.js_syntax.specs.Classes.{Start, start_by, start, Link, dot, key, no_l
 use Rattle.js_syntax.specs.Productions.{Code, Below, one_of, Item, Values, made, seq, tok, a_name, an_assignment, an_expression, arguments, code}
 use Rattle.js_syntax.specs.Parsing.{if_low, key_by, key_at, member_by, property_by, property_at, properties_at, is_name_next, function_by, function_at, primary_by, primary, linked_by, is_link, links_by, links, call, updated_by, postfix, unary_by, unary, operator_from, chain_by, chain, operation}
 use Rattle.js_grammar.specs.Laws.{TakesExpression, SoundBelow, marks}
-use Rattle.js_grammar.proofs.MarkLaws.{joins}
-use Rattle.js_grammar.proofs.TokenLaws.{ok_is}
+use Rattle.js_grammar.proofs.MarkLemmas.{joins}
+use Rattle.js_grammar.proofs.TokenLemmas.{ok_is}
 use Rattle.js_grammar.proofs.Sound.List.{AllGood, Reads}
 use Rattle.js_grammar.proofs.Sound.Part.{seq_sound}
-use Rattle.js_grammar.proofs.HeadLaws.{update_next, prefix_unary, from_is, from_past}
+use Rattle.js_grammar.proofs.HeadLemmas.{update_next, prefix_unary, from_is, from_past}
 use Rattle.js_grammar.proofs.Sound.Operator.{weaker, Ended, binary_takes, unary_sound}
 use Rattle.js_grammar.proofs.Sound.Primary.{TakesKey, key_sound, property_sound, properties_marks, primary_sound, linked_by_sound, call_sound}
 use Rattle.js_grammar.proofs.Alive.Tools.{bind_err, cond_err, Counts, stuck_counts, deep_counts, Added, added, a_token, a_name_token, Anything, Nothing, IsZero, firm_behind, firm_append, Lives, fills, anything, from_nothing, ends_in, around, stopped, renamed, behind}
 use Rattle.js_grammar.proofs.Alive.Lists.{elements_lives}
 use Rattle.js_grammar.proofs.Alive.Parts.{Fits, AliveBelow, zero_expression, zero_marks, flat_code, name_lives, seq_lives, known_lives, made_err}
-use Rattle.js_grammar.proofs.FirmTrees.{expression_firm, key_firm, property_firm}
+use Rattle.js_grammar.proofs.FirmTreeLemmas.{expression_firm, key_firm, property_firm}
 use Rattle.js_syntax.proofs.ClassLemmas.{start_brace, start_function, link_dot, prefix_delete, prefix_update, operator_next}
 use Rattle.js_grammar.proofs.Again.Level.{strength_low, from_none, height_positive}
 use Rattle.js_syntax.proofs.ShorterLemmas.{bind_ok}

@@ -13,7 +13,7 @@ use Rattle.js_syntax.specs.Reading.{deep}
 use Rattle.js_syntax.specs.Classes as classes
 use Rattle.js_syntax.specs.Classes.{Start, start, Prefix, deletes, a_unary, an_update, no_prefix, prefix, First}
 use Rattle.js_syntax.specs.Parsing.{let_kind}
-use Rattle.js_grammar.proofs.HeadLaws.{start_boolean, prefix_unary}
+use Rattle.js_grammar.proofs.HeadLemmas.{start_boolean, prefix_unary}
 use Rattle.js_grammar.proofs.Sound.Part.{initialized_present}
 use Rattle.js_grammar.proofs.Sound.Statement.{no_function, no_brace}
 use Rattle.js_grammar.proofs.Alive.Tools.{Added, added, a_token, a_near_token, a_name_token, Nothing, Starts, is_firm, Lives, stopped, ends_in}

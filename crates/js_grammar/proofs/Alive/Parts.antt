@@ -20,14 +20,14 @@ use Rattle.js_syntax.specs.Reading.{Fault, stuck, ◌>>=◌, expect, expect_near
 use Rattle.js_syntax.specs.Productions.{Code, Below, one_of, arguments_before, more_assignments, parameters_at, with_declared, items_at, braces, code_at, initializer_by, declarator_at, name_of, with_declarator, declarators_at, optional_by, optional_before, ended_expression, Item, tok, near, a_name, the_name, an_assignment, an_expression, optional, arguments, ended, an_end, declared, a_statement, a_block, in_braces, code, Value, Values, expect_name, item, seq, made}
 use Rattle.js_syntax.proofs.KindLemmas.{same_kind, next_is}
 use Rattle.js_grammar.specs.Laws.{SoundBelow, marks_of, marks, Sane, AllSane}
-use Rattle.js_grammar.proofs.MarkLaws.{joins}
-use Rattle.js_grammar.proofs.TokenLaws.{expect_sound, expect_again, fresh_sound}
+use Rattle.js_grammar.proofs.MarkLemmas.{joins}
+use Rattle.js_grammar.proofs.TokenLemmas.{expect_sound, expect_again, fresh_sound}
 use Rattle.js_grammar.proofs.Sound.List.{behind_commas, up_to, in_a_row, AllGood, Reads}
 use Rattle.js_grammar.proofs.Sound.Part.{fresh_behind, fresh_append, more_is, arguments_marks, names_marks, Differs, all_fresh, row_is, items_at_sound, parameters_sound, InitializedOne, initialized_present, declarator_sound, initialized_more, no_more_initialized, fresh_more, more_declarators_is, item_sound}
-use Rattle.js_grammar.proofs.SpelledKinds.{is_free}
+use Rattle.js_grammar.proofs.SpelledKindLemmas.{is_free}
 use Rattle.js_grammar.proofs.Alive.Tools.{bind_err, cond_err, Counts, stuck_counts, Added, as_token, added, added_append, a_token, a_near_token, a_name_token, Anything, Nothing, IsAdded, IsZero, Starts, zero_softer, while_softer, brace_softer, softens, is_firm, firm_append, Lives, fills, anything, from_nothing, ends_in, around, around_softly, stopped}
 use Rattle.js_grammar.proofs.Alive.Lists.{elements_lives, others_lives, items_lives}
-use Rattle.js_grammar.proofs.FirmTrees.{expression_firm, firm_last, firm_braces, firm_parameters, declarator_firm, declarators_firm}
+use Rattle.js_grammar.proofs.FirmTreeLemmas.{expression_firm, firm_last, firm_braces, firm_parameters, declarator_firm, declarators_firm}
 use Rattle.std.proofs.lemmas.Bool.{and_parts}
 
 -- ---- what lives below

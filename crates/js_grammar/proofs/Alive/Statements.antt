@@ -17,14 +17,14 @@ use Rattle.js_syntax.specs.Productions.{Below, braces, code_at, declarators_at, 
 use Rattle.js_syntax.specs.Parsing.{else_by, if_items, if_at, let_kind, do_items, while_items, for_items, for_lexical_items, for_of_items, for_by, for_at, return_by, throw_by, catch_by, handler_by, handler_at, finalizer_by, finalizer_at, try_at, statement_by, statement, lexical_at, declaration_at, item_by, item}
 use Rattle.js_syntax.proofs.KindLemmas.{next_is}
 use Rattle.js_grammar.specs.Laws.{SoundBelow, marks, AllSane, TakesAll}
-use Rattle.js_grammar.proofs.MarkLaws.{joins, parts}
-use Rattle.js_grammar.proofs.TokenLaws.{expect_sound, expect_again, fresh_sound}
+use Rattle.js_grammar.proofs.MarkLemmas.{joins, parts}
+use Rattle.js_grammar.proofs.TokenLemmas.{expect_sound, expect_again, fresh_sound}
 use Rattle.js_grammar.proofs.Sound.Part.{seq_sound, declarators_sound}
 use Rattle.js_grammar.proofs.Sound.Statement.{no_function, on_line_is, behind_if, no_open_if, let_is, tails_are, next_optional, given_on_line, catch_items, handler_sound, finally_handled, try_items, declares_none, no_brace}
 use Rattle.js_grammar.proofs.Alive.Tools.{bind_err, cond_err, Counts, stuck_counts, Added, added, a_token, a_near_token, Anything, Nothing, IsZero, Starts, nothing_softer, is_firm, firm_behind, firm_append, Lives, fills, grows, anything, from_nothing, ends_in, around, around_softly, stopped, renamed, behind, begun}
 use Rattle.js_grammar.proofs.Alive.Parts.{AliveBelow, IsStatement, IsItem, flat_block, zero_statement, fresh_lives, semicolon_err, opened_lives, code_lives, declarators_lives, flat_ended, ended_lives, seq_lives, lively, known_lives, made_err}
 use Rattle.js_grammar.proofs.Alive.Assignments.{other_kind}
-use Rattle.js_grammar.proofs.FirmTrees.{declarators_firm, firm_braces, firm_nil}
+use Rattle.js_grammar.proofs.FirmTreeLemmas.{declarators_firm, firm_braces, firm_nil}
 use Rattle.js_grammar.proofs.Again.Primary.{and_nothing}
 
 -- ---- what begins a statement

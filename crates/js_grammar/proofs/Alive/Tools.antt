@@ -7,9 +7,9 @@ use Rattle.js_lexer.specs.Written.{Written}
 use Rattle.js_language.specs.Tokens.{Token, Mark, token, beside, semicolon, trailing_comma, End, after_expression, after_word, after_do, plain, braces, update, absent, head_of, Matches}
 use Rattle.js_syntax.specs.Reading.{Fault, stuck, deep, Read, ◌>>=◌}
 use Rattle.js_grammar.specs.Exact.{written_view}
-use Rattle.js_grammar.proofs.MarkLaws.{joins}
-use Rattle.js_grammar.proofs.TokenLaws.{faulty}
-use Rattle.js_grammar.proofs.SpelledKinds.{text_of_kind, is_free}
+use Rattle.js_grammar.proofs.MarkLemmas.{joins}
+use Rattle.js_grammar.proofs.TokenLemmas.{faulty}
+use Rattle.js_grammar.proofs.SpelledKindLemmas.{text_of_kind, is_free}
 
 -- ---- faults
 

@@ -5,7 +5,7 @@ use Rattle.std.proofs.lemmas.List.{append-nil}
 use Rattle.js_lexer.specs.Written.{AreTokens}
 use Rattle.js_lexer.specs.Tokens.{IsToken}
 use Rattle.js_grammar.specs.Exact.{written_view, BeginsWritten}
-use Rattle.js_grammar.proofs.SpelledKinds.{kind_token, free_token}
+use Rattle.js_grammar.proofs.SpelledKindLemmas.{kind_token, free_token}
 use Rattle.js_tree.specs.Trees.{Identifier, Expression, Statements}
 use Rattle.js_language.specs.Tokens.{Token, Mark, head_of, Matches}
 use Rattle.js_language.specs.Flat.{flat, flat_statements}

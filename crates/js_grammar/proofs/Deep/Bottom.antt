@@ -13,7 +13,7 @@ use Rattle.js_syntax.specs.Productions.{Below}
 use Rattle.js_syntax.specs.Parsing.{assignment, comma_by, expression, below}
 use Rattle.js_syntax.proofs.KindLemmas.{next_is}
 use Rattle.js_grammar.specs.Laws.{SoundBelow}
-use Rattle.js_grammar.proofs.TokenLaws.{faulty}
+use Rattle.js_grammar.proofs.TokenLemmas.{faulty}
 use Rattle.js_grammar.proofs.Soundness.{sound_below}
 use Rattle.js_grammar.proofs.Follows.Tools.{Follows, binds, reads_again}
 use Rattle.js_grammar.proofs.Follows.Parts.{FollowsBelow, Pair}

@@ -15,7 +15,7 @@ use Rattle.js_syntax.specs.Productions.{Code, Below}
 use Rattle.js_syntax.specs.Parsing.{below}
 use Rattle.js_syntax.proofs.KindLemmas.{next_is}
 use Rattle.js_grammar.specs.Laws.{TakesExpression, SoundBelow}
-use Rattle.js_grammar.proofs.TokenLaws.{faulty}
+use Rattle.js_grammar.proofs.TokenLemmas.{faulty}
 use Rattle.js_grammar.proofs.Follows.Tools.{FollowsAt, Follows, Takes}
 use Rattle.js_grammar.proofs.Follows.Parts.{FollowsBelow, Pair}
 use Rattle.js_grammar.proofs.Alive.Tools.{Counts, fault_is, stuck_counts, a_token, Nothing, IsAdded, IsZero, Lives, from_nothing}

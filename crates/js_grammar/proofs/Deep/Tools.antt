@@ -3,7 +3,7 @@ use Rattle.std.proofs.Common.{◌≡◌, ℕ, zero, suc, ◌≤◌, Bool, true, 
 use Rattle.std.specs.Prelude.{nat_le}
 use Rattle.js_language.specs.Tokens.{Token, head_of, tail_of}
 use Rattle.js_syntax.specs.Reading.{stuck, deep, Read, Reader, ◌>>=◌}
-use Rattle.js_grammar.proofs.TokenLaws.{faulty}
+use Rattle.js_grammar.proofs.TokenLemmas.{faulty}
 use Rattle.js_grammar.proofs.Follows.Tools.{Follows, head_past, reads_again, shortens, Local, Turns, enough_of, one_turn}
 use Rattle.js_syntax.proofs.ShorterLemmas.{bind_ok}
 

@@ -16,7 +16,7 @@ use Rattle.js_syntax.specs.Reading.{stuck, Read, Reader, ◌>>=◌, expect, text
 use Rattle.js_syntax.specs.Productions.{Below, code_at, initializer_by, declarator_at, with_declarator, declarators_at, Item, tok, a_name, the_name, an_assignment, optional, ended, an_end, declared, a_statement, a_block, in_braces, Value, Values, seq, made}
 use Rattle.js_syntax.specs.Productions as productions
 use Rattle.js_syntax.specs.Parsing.{else_by, if_items, if_at, let_kind, do_items, while_items, for_by, for_at, return_by, throw_by, catch_by, handler_by, handler_at, finalizer_by, finalizer_at, try_at, statement_by, statement, lexical_at, declaration_at, item_by, item}
-use Rattle.js_grammar.proofs.TokenLaws.{expect_again}
+use Rattle.js_grammar.proofs.TokenLemmas.{expect_again}
 use Rattle.js_grammar.proofs.Follows.Tools.{Follows, gives, sticks, past, peeks, binds, makes, tests, alike, shortens}
 use Rattle.js_grammar.proofs.Follows.Parts.{Pair, on_right, expect_follows, name_follows, fresh_follows, semicolon_follows, others_follows, code_follows, initializer_follows, declarator_follows, declarators_follows, seq_follows, made_follows}
 

@@ -5,7 +5,7 @@ use Rattle.std.proofs.lemmas.List.{length-append}
 use Rattle.std.proofs.lemmas.Bool.{leb-true, le-leb}
 use Rattle.js_language.specs.Tokens.{Token, head_of, tail_of}
 use Rattle.js_syntax.specs.Reading.{stuck, deep, Read, Reader, ◌>>=◌}
-use Rattle.js_grammar.proofs.TokenLaws.{got, faulty}
+use Rattle.js_grammar.proofs.TokenLemmas.{got, faulty}
 
 -- the answer, with other tokens left
 abbrev pub moved : {A : Type 0} → Read A → List Token → Read A

@@ -6,8 +6,8 @@ use Rattle.js_language.specs.Tokens.{Token, fixed, Mark, token, trailing_comma, 
 use Rattle.js_syntax.specs.Kinds.{is_kind}
 use Rattle.js_syntax.specs.Reading.{Reader, ◌>>=◌, After, goes_on, ends, neither, after_by, after, go_after, elements_by, elements, others_by, others, ends_list, items_by, items}
 use Rattle.js_syntax.proofs.KindLemmas.{next_is}
-use Rattle.js_grammar.proofs.MarkLaws.{joins}
-use Rattle.js_grammar.proofs.TokenLaws.{ok_is}
+use Rattle.js_grammar.proofs.MarkLemmas.{joins}
+use Rattle.js_grammar.proofs.TokenLemmas.{ok_is}
 use Rattle.js_syntax.proofs.ShorterLemmas.{bind_ok}
 
 -- ---- the marks of lists

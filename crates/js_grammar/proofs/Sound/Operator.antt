@@ -16,9 +16,9 @@ use Rattle.js_syntax.specs.Classes.{update_near, Prefix, deletes, a_unary, an_up
 use Rattle.js_syntax.specs.Productions.{Below, Item, Values, seq, made}
 use Rattle.js_syntax.specs.Parsing.{if_low, call, updated_by, postfix, unary_by, unary, operator_from, chain_by, chain, operation}
 use Rattle.js_grammar.specs.Laws.{TakesExpression, SoundBelow, TakesAll, SeqSound}
-use Rattle.js_grammar.proofs.MarkLaws.{joins}
-use Rattle.js_grammar.proofs.TokenLaws.{got, ok_is, test_ok}
-use Rattle.js_grammar.proofs.HeadLaws.{update_next, prefix_unary, from_is, from_past}
+use Rattle.js_grammar.proofs.MarkLemmas.{joins}
+use Rattle.js_grammar.proofs.TokenLemmas.{got, ok_is, test_ok}
+use Rattle.js_grammar.proofs.HeadLemmas.{update_next, prefix_unary, from_is, from_past}
 use Rattle.js_syntax.proofs.ClassLemmas.{prefix_delete, prefix_update, operator_next}
 use Rattle.js_grammar.proofs.Again.Level.{strength_low, from_none}
 use Rattle.js_syntax.proofs.ShorterLemmas.{bind_ok}

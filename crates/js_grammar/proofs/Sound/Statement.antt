@@ -19,8 +19,8 @@ use Rattle.js_syntax.specs.Productions.{Code, Below, braces, code_at, declarator
 use Rattle.js_syntax.specs.Parsing.{else_by, if_items, if_at, let_kind, do_items, while_items, for_items, for_lexical_items, for_of_items, for_by, for_at, return_by, throw_by, catch_by, handler_by, handler_at, finalizer_by, finalizer_at, try_at, statement_by, statement, lexical_at, declaration_at, item_by, item}
 use Rattle.js_syntax.proofs.KindLemmas.{next_is, next_again}
 use Rattle.js_grammar.specs.Laws.{NoElse, TakesItem, TakesStatement, TakesBlock, TakesCode, SoundBelow, height_at, height_all, TakesAll}
-use Rattle.js_grammar.proofs.MarkLaws.{joins, parts}
-use Rattle.js_grammar.proofs.TokenLaws.{ok_is, test_ok, fresh_sound, semicolon_sound}
+use Rattle.js_grammar.proofs.MarkLemmas.{joins, parts}
+use Rattle.js_grammar.proofs.TokenLemmas.{ok_is, test_ok, fresh_sound, semicolon_sound}
 use Rattle.js_grammar.proofs.Sound.Part.{braces_sound, code_sound, declarators_sound, seq_sound}
 use Rattle.js_syntax.proofs.ClassLemmas.{first_semicolon, first_lexical, first_function}
 use Rattle.js_syntax.proofs.ShorterLemmas.{bind_ok}

@@ -1,6 +1,6 @@
 use Rattle.std.proofs.Common.{◌≡◌, None, rules}
 use Rattle.cdp_text.specs.Decimal.{decimal_value}
-use Rattle.cdp_text.proofs.Decimals.{none_from_value}
+use Rattle.cdp_text.proofs.DecimalLemmas.{none_from_value}
 use Rattle.cdp_text.proofs.decimal.read_decimal_bytes.Goals as goal
 
 pub returns-else-digits-ne48-clause-none : goal.returns-else-digits-ne48-clause-none

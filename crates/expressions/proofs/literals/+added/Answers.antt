@@ -1,7 +1,7 @@
 use Rattle.std.proofs.Common.{ap, refl, ◌∙◌}
 use Rattle.js_tree.specs.declared.tree.Expr.{Expr}
 use Rattle.js_tree.specs.Views.{expression_view, statement_view, key_view, property_view, optional_view, handler_view, finalizer_view}
-use Rattle.js_tree.proofs.Views.{view_this, view_name, view_number, view_string, view_boolean, view_null, view_array, view_object, view_function, view_arrow, view_arrow_block, view_parenthesized, view_member, view_index, view_call, view_postfix, view_prefix, view_unary, view_binary, view_conditional, view_assign, view_comma, view_lexical_declaration, view_empty_statement, view_expression_statement, view_do_while_statement, view_while_statement, view_for_statement, view_for_lexical_statement, view_for_of_statement, view_continue_statement, view_break_statement, view_return_statement, view_throw_statement, view_try_statement, view_debugger_statement, view_function_declaration, view_word_key, view_string_key, view_number_key, view_computed_key, view_shorthand_property, view_property, view_method, view_block_statement}
+use Rattle.js_tree.proofs.ViewLemmas.{view_this, view_name, view_number, view_string, view_boolean, view_null, view_array, view_object, view_function, view_arrow, view_arrow_block, view_parenthesized, view_member, view_index, view_call, view_postfix, view_prefix, view_unary, view_binary, view_conditional, view_assign, view_comma, view_lexical_declaration, view_empty_statement, view_expression_statement, view_do_while_statement, view_while_statement, view_for_statement, view_for_lexical_statement, view_for_of_statement, view_continue_statement, view_break_statement, view_return_statement, view_throw_statement, view_try_statement, view_debugger_statement, view_function_declaration, view_word_key, view_string_key, view_number_key, view_computed_key, view_shorthand_property, view_property, view_method, view_block_statement}
 use Rattle.js_semantics.specs.Literals as literals
 use Rattle.js_semantics.specs.Literals.{source_literals}
 use Rattle.expressions.specs.Items.{literals_of, alternate_literals}

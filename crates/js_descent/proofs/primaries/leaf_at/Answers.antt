@@ -2,7 +2,7 @@ use Rattle.std.proofs.Common.{sym}
 use Rattle.js_lexer.specs.declared.token.TokenKind.TheVariants as kinds
 use Rattle.js_language.specs.Tokens.{fixed, identifier, numeric_literal, string_literal}
 use Rattle.js_syntax.proofs.ClassLemmas.{start_boolean, start_name, start_null, start_number, start_string, start_this}
-use Rattle.js_syntax.proofs.PlacedTokens.{boolean_places}
+use Rattle.js_syntax.proofs.PlacedTokenLemmas.{boolean_places}
 use Rattle.js_descent.proofs.primaries.leaf_at.Goals as goal
 
 pub returns-in_ok-node-in-This-clause-placed : goal.returns-in_ok-node-in-This-clause-placed

@@ -1,5 +1,5 @@
 use Rattle.js_syntax.proofs.PlacedLemmas.{closed, then}
-use Rattle.js_syntax.proofs.PlacedTokens.{ended_so, expected}
+use Rattle.js_syntax.proofs.PlacedTokenLemmas.{ended_so, expected}
 use Rattle.js_descent.proofs.statements.debugger_at.Goals as goal
 
 pub returns-clause-placed : goal.returns-clause-placed

@@ -1,6 +1,6 @@
 use Rattle.std.proofs.Common.{◌≡◌, ◌^◌, false, ltb, get_or, arith}
 use Rattle.js_lexer.specs.Numbers.{digit_value, digits_value}
-use Rattle.js_lexer.proofs.Numbers.{too_great}
+use Rattle.js_lexer.proofs.NumberLemmas.{too_great}
 use Rattle.js_lexer.proofs.number.digits_value.Goals as goal
 
 pub returns-then-value-gt-MAX_NUMBER : goal.returns-then-value-gt-MAX_NUMBER

@@ -1,5 +1,5 @@
 use Rattle.js_syntax.proofs.ClassLemmas.{start_function}
-use Rattle.js_syntax.proofs.PlacedTokens.{symbol}
+use Rattle.js_syntax.proofs.PlacedTokenLemmas.{symbol}
 use Rattle.js_language.specs.Tokens.{fixed}
 use Rattle.std.proofs.Common.{sym}
 use Rattle.js_lexer.specs.declared.token.TokenKind.TheVariants as kinds

@@ -1,5 +1,5 @@
 use Rattle.std.proofs.Common.{sym, ◌∙◌}
-use Rattle.js_tree.proofs.Views.{view_comma}
+use Rattle.js_tree.proofs.ViewLemmas.{view_comma}
 use Rattle.js_syntax.proofs.EndLemmas.{of_expressions, last_edge, no_edge}
 use Rattle.js_syntax.proofs.endings.+edge_of.Goals as goal
 

@@ -7,7 +7,7 @@ use Rattle.js_syntax.specs.Views.{tokens_view}
 use Rattle.js_syntax.proofs.LoopLemmas.{elements_end, elements_fail, elements_stop}
 use Rattle.js_syntax.proofs.ParameterLemmas.{parameters_shorten, parameters_go_on, parameters_end_after, less_by_view}
 use Rattle.js_syntax.proofs.names.parameters_before.Goals as goal
-use Rattle.js_syntax.proofs.LoopSteps.{length_view}
+use Rattle.js_syntax.proofs.LoopStepLemmas.{length_view}
 
 pub returns-then-is_next-clause-gives : goal.returns-then-is_next-clause-gives
 returns-then-is_next-clause-gives c = rw (c.from_vec.ensures, c.tail.ensures) (elements_end fresh_name with_name kinds.RightParenthesis [] (tokens_view c.args.tokens.now) c.parameters.parameters.items c.parameters.names (tokens_view c.parameters.rest.now) c.parameters.invariant.reads (sym c.is_next.ensures ∙ c.if-is_next.true))

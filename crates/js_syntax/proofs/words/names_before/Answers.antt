@@ -5,8 +5,8 @@ use Rattle.js_language.specs.Tokens.{head_of}
 use Rattle.js_syntax.specs.Productions.{one_of, names_before}
 use Rattle.js_syntax.specs.Reading.{name_at, no_state, after, goes_on, ends}
 use Rattle.js_syntax.specs.Views.{tokens_view}
-use Rattle.js_syntax.proofs.Leaves.{name_short, shorter}
-use Rattle.js_syntax.proofs.LoopSteps.{elements_begin, elements_none, elements_fail, elements_more, elements_end, elements_stop, map_push, less_by_view, length_view}
+use Rattle.js_syntax.proofs.LeafLemmas.{name_short, shorter}
+use Rattle.js_syntax.proofs.LoopStepLemmas.{elements_begin, elements_none, elements_fail, elements_more, elements_end, elements_stop, map_push, less_by_view, length_view}
 use Rattle.js_syntax.proofs.words.names_before.Goals as goal
 
 pub names-init : goal.names-init

@@ -4,7 +4,7 @@ use Rattle.js_syntax.specs.Names.{texts}
 use Rattle.js_syntax.specs.Productions.{one_of, names_before}
 use Rattle.js_syntax.specs.Reading.{name_at, no_state}
 use Rattle.js_syntax.specs.Views.{tokens_view}
-use Rattle.js_syntax.proofs.LoopSteps.{Elements}
+use Rattle.js_syntax.proofs.LoopStepLemmas.{Elements}
 use Rattle.js_syntax.proofs.words.names_before.Given as goal
 
 abbrev pub invariant-names : goal.invariant-names

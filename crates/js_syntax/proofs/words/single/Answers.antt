@@ -1,5 +1,5 @@
 use Rattle.js_syntax.proofs.PlacedLemmas.{closed}
-use Rattle.js_syntax.proofs.PlacedTokens.{symbol}
+use Rattle.js_syntax.proofs.PlacedTokenLemmas.{symbol}
 use Rattle.std.proofs.Common.{refl}
 use Rattle.js_syntax.proofs.words.single.Goals as goal
 

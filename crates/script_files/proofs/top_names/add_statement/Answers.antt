@@ -1,6 +1,6 @@
 use Rattle.std.proofs.Common.{refl, ap, ◌∙◌}
 use Rattle.js_tree.specs.Views.{statement_view}
-use Rattle.js_tree.proofs.Views.{view_block_statement, view_empty_statement, view_expression_statement, view_do_while_statement, view_while_statement, view_for_statement, view_for_lexical_statement, view_for_of_statement, view_continue_statement, view_break_statement, view_return_statement, view_throw_statement, view_try_statement, view_debugger_statement}
+use Rattle.js_tree.proofs.ViewLemmas.{view_block_statement, view_empty_statement, view_expression_statement, view_do_while_statement, view_while_statement, view_for_statement, view_for_lexical_statement, view_for_of_statement, view_continue_statement, view_break_statement, view_return_statement, view_throw_statement, view_try_statement, view_debugger_statement}
 use Rattle.script_files.proofs.TopNameLemmas.{no_names, if_declares_none}
 use Rattle.script_files.proofs.top_names.add_statement.Goals as goal
 

@@ -1,4 +1,4 @@
-use Rattle.js_lexer.proofs.Tiling.{tiles}
+use Rattle.js_lexer.proofs.TilingLemmas.{tiles}
 use Rattle.js_lexer.proofs.tokens.Tokens.new.Goals as goal
 
 pub returns-clause-tile : goal.returns-clause-tile

@@ -2,8 +2,8 @@ use Rattle.std.proofs.Common.{◌≡◌, ℕ, ◌<◌, List, length, drop, Some,
 use Rattle.std.proofs.lemmas.Grind.{common_steps}
 use Rattle.js_lexer.specs.Tokens.{Lent}
 use Rattle.js_lexer.specs.Scanning.{token_at, gap_len}
-use Rattle.js_lexer.proofs.Tiling.{no_more, bad_one, one_more}
-use Rattle.js_lexer.proofs.Fronts.{number_here}
+use Rattle.js_lexer.proofs.TilingLemmas.{no_more, bad_one, one_more}
+use Rattle.js_lexer.proofs.FrontLemmas.{number_here}
 use Rattle.js_lexer.proofs.tokens.TokensIterator.next.Goals as goal
 
 pub returns-then-is_empty-clause-steps : goal.returns-then-is_empty-clause-steps

@@ -17,7 +17,7 @@ use Rattle.js_syntax.specs.Parsing as parsing
 use Rattle.js_syntax.specs.Parsing.{if_low}
 use Rattle.js_syntax.specs.Productions as productions
 use Rattle.js_syntax.specs.Productions.{tok, a_name, an_assignment, an_expression, arguments, ended, an_end, a_statement, a_block, in_braces, code, Below, Item, item, seq, made, one_of, arguments_before, more_assignments, names_before, parameters_at, items_at, braces, code_at, initializer_by, declarator_at, declarators_at, with_declarator, with_declared, optional_by, optional_before, ended_expression, expect_name}
-use Rattle.js_syntax.proofs.LoopSteps.{tail_shorter}
+use Rattle.js_syntax.proofs.LoopStepLemmas.{tail_shorter}
 
 -- what is read leaves fewer than n tokens
 abbrev pub Leaves : {A : Type 0} → ℕ → Read A → Type 0

@@ -10,8 +10,8 @@ use Rattle.js_lexer.specs.Pieces.{Each, run}
 use Rattle.js_lexer.specs.Strings.{IsCharacter, Spelled, spelling, AreCharacters, units_of, IsString, IsStringLiteral}
 use Rattle.js_lexer.specs.Strings.IsCharacter.{plain, continuation, both, single, nul, hex, unit, code_point}
 use Rattle.js_lexer.specs.Characters.{character_at, found_len, character_len, decoded, decoded_by, string_value}
-use Rattle.js_lexer.proofs.Runs.{IsRun, Finds, Knows, run_is, run_exact}
-use Rattle.js_lexer.proofs.Characters.{Good, good_character, first_is, character_known}
+use Rattle.js_lexer.proofs.RunLemmas.{IsRun, Finds, Knows, run_is, run_exact}
+use Rattle.js_lexer.proofs.CharacterLemmas.{Good, good_character, first_is, character_known}
 
 -- a piece of a string literal: a character, whatever it stands for
 abbrev pub IsPart : ℕ → List ℕ → List ℕ → Type 0

@@ -10,7 +10,7 @@ use Rattle.js_lexer.specs.Spellings.{is_prefix_of, is_same, kind_in, first_in}
 use Rattle.js_lexer.specs.Words.{is_word, reserved_words}
 use Rattle.js_lexer.specs.Punctuators.{punctuators}
 use Rattle.js_lexer.specs.Tokens.{IsListed}
-use Rattle.js_lexer.proofs.Spellings.{prefix_is, prefix_self}
+use Rattle.js_lexer.proofs.SpellingLemmas.{prefix_is, prefix_self}
 
 abbrev Entry : Type 0
 Entry = TokenKind × List ℕ

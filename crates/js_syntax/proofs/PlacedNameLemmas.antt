@@ -12,7 +12,7 @@ use Rattle.js_syntax.specs.Productions.{one_of, names_before, parameters_at}
 use Rattle.js_syntax.proofs.KindLemmas.{kind_not}
 use Rattle.js_syntax.specs.Placed.{Placed}
 use Rattle.js_syntax.proofs.PlacedLemmas.{then}
-use Rattle.js_syntax.proofs.PlacedTokens.{tested, expected, named, named_freshly, left_out, put_in}
+use Rattle.js_syntax.proofs.PlacedTokenLemmas.{tested, expected, named, named_freshly, left_out, put_in}
 use Rattle.js_syntax.proofs.ShorterLemmas.{bind_ok}
 
 -- names up to the parenthesis that ends them, and the same behind a name

@@ -12,7 +12,7 @@ use Rattle.js_lexer.specs.Numbers.{are_digits, digits_value}
 use Rattle.js_lexer.specs.Strings.{is_plain, is_hex, is_single, single_value, IsCharacter}
 use Rattle.js_lexer.specs.Strings.IsCharacter.{plain, continuation, both, single, nul, hex, unit, code_point}
 use Rattle.js_lexer.specs.Characters.{found, hex_at, unit_at, code_point_at, unicode_at, escape_at, character_at}
-use Rattle.js_lexer.proofs.Leading.{leading_all, leading_within, leading_exact}
+use Rattle.js_lexer.proofs.LeadingLemmas.{leading_all, leading_within, leading_exact}
 
 -- ---- what is found is a character
 

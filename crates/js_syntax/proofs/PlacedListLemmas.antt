@@ -10,8 +10,8 @@ use Rattle.js_syntax.specs.Reading.{goes_on, ends, after, after_by}
 use Rattle.js_syntax.proofs.KindLemmas.{kind_not}
 use Rattle.js_syntax.specs.Placed.{AreNumbered, Placed}
 use Rattle.js_syntax.proofs.PlacedLemmas.{same_spans, then, loosely}
-use Rattle.js_syntax.proofs.PlacedTokens.{tested, left_out}
-use Rattle.js_syntax.proofs.LoopSteps.{append_nil}
+use Rattle.js_syntax.proofs.PlacedTokenLemmas.{tested, left_out}
+use Rattle.js_syntax.proofs.LoopStepLemmas.{append_nil}
 
 -- ---- pieces
 

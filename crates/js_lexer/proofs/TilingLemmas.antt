@@ -5,9 +5,9 @@ use Rattle.js_lexer.specs.declared.token.TokenKind.{TokenKind}
 use Rattle.js_lexer.specs.Gaps.{IsGap, IsGapPiece, has_line_terminator}
 use Rattle.js_lexer.specs.Tokens.{Lent, IsBad, Tile}
 use Rattle.js_lexer.specs.Scanning.{gap_piece, gap_len, token_at, item_by, items}
-use Rattle.js_lexer.proofs.Runs.{run_is, run_within, IsRun}
-use Rattle.js_lexer.proofs.Gaps.{gap_finds, gap_knows}
-use Rattle.js_lexer.proofs.Fronts.{longest_here, none_here}
+use Rattle.js_lexer.proofs.RunLemmas.{run_is, run_within, IsRun}
+use Rattle.js_lexer.proofs.GapLemmas.{gap_finds, gap_knows}
+use Rattle.js_lexer.proofs.FrontLemmas.{longest_here, none_here}
 use Rattle.js_lexer.specs.Pieces.{run}
 
 pub gap_is : (us : List ℕ) → IsRun (λ text more. IsGapPiece text more) gap_piece us (gap_len us)

@@ -17,14 +17,14 @@ use Rattle.js_lexer.specs.Numbers.{IsNumber, goes_on}
 use Rattle.js_lexer.specs.Tokens.{IsListed, IsToken, BeginsAs, IsLongest}
 use Rattle.js_lexer.specs.Tokens.IsToken.{name, reserved, number, string, punctuator}
 use Rattle.js_lexer.specs.Scanning.{number_of, word_token, number_token, string_token, token_at}
-use Rattle.js_lexer.proofs.Leading.{leading_all, leading_within, leading_longest, leading_exact}
-use Rattle.js_lexer.proofs.Numbers.{number_begins, number_parts, number_some, number_is}
+use Rattle.js_lexer.proofs.LeadingLemmas.{leading_all, leading_within, leading_longest, leading_exact}
+use Rattle.js_lexer.proofs.NumberLemmas.{number_begins, number_parts, number_some, number_is}
 use Rattle.js_lexer.specs.Pieces.{run}
 use Rattle.js_lexer.specs.Strings.{IsStringLiteral}
 use Rattle.js_lexer.specs.Characters.{character_len}
-use Rattle.js_lexer.proofs.Literals.{literal_found, literal_known, literal_begins}
-use Rattle.js_lexer.proofs.Spellings.{prefix_self}
-use Rattle.js_lexer.proofs.Tables.{kind_is, IsKind, Firsts, first_is, is_mark, reserved_is_word, punctuator_is_mark, punctuators_descend, number_not_reserved, number_not_mark}
+use Rattle.js_lexer.proofs.LiteralLemmas.{literal_found, literal_known, literal_begins}
+use Rattle.js_lexer.proofs.SpellingLemmas.{prefix_self}
+use Rattle.js_lexer.proofs.TableLemmas.{kind_is, IsKind, Firsts, first_is, is_mark, reserved_is_word, punctuator_is_mark, punctuators_descend, number_not_reserved, number_not_mark}
 
 -- ---- what a token looks like
 

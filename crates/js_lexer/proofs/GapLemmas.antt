@@ -12,9 +12,9 @@ use Rattle.js_lexer.specs.Spellings.{is_prefix_of}
 use Rattle.js_lexer.specs.Gaps.{ends_line, IsGapPiece}
 use Rattle.js_lexer.specs.Gaps.IsGapPiece.{blank, line_comment, block_comment}
 use Rattle.js_lexer.specs.Scanning.{line_len, before_close, gap_piece}
-use Rattle.js_lexer.proofs.Leading.{leading_all, leading_stops, leading_within, leading_exact}
-use Rattle.js_lexer.proofs.Spellings.{prefix_is}
-use Rattle.js_lexer.proofs.Runs.{Finds, Knows}
+use Rattle.js_lexer.proofs.LeadingLemmas.{leading_all, leading_stops, leading_within, leading_exact}
+use Rattle.js_lexer.proofs.SpellingLemmas.{prefix_is}
+use Rattle.js_lexer.proofs.RunLemmas.{Finds, Knows}
 
 -- ---- what follows /* up to */
 

@@ -9,7 +9,7 @@ use Rattle.js_lexer.specs.Words.{is_word, reserved_words}
 use Rattle.js_lexer.specs.Punctuators.{punctuators}
 use Rattle.js_lexer.specs.Tokens.{IsListed, IsToken}
 use Rattle.js_lexer.specs.Tokens.IsToken.{name, reserved, number, string, punctuator}
-use Rattle.js_lexer.proofs.Tables.{all_listed}
+use Rattle.js_lexer.proofs.TableLemmas.{all_listed}
 use Rattle.js_syntax.specs.Kinds.{is_same_kind}
 use Rattle.js_syntax.proofs.KindLemmas.{same_kind}
 

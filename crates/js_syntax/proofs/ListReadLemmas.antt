@@ -15,8 +15,8 @@ use Rattle.js_syntax.specs.Kinds.{is_kind}
 use Rattle.js_syntax.specs.Reading.{elements, others, no_state, after, goes_on}
 use Rattle.js_syntax.specs.Productions.{one_of}
 use Rattle.js_syntax.specs.Parsing.{below, property_at}
-use Rattle.js_syntax.proofs.Leaves.{short, shorter, property_short}
-use Rattle.js_syntax.proofs.LoopSteps.{Elements, Others, elements_begin, elements_more, others_begin, others_more, map_push, tail_shorter, less_in_view}
+use Rattle.js_syntax.proofs.LeafLemmas.{short, shorter, property_short}
+use Rattle.js_syntax.proofs.LoopStepLemmas.{Elements, Others, elements_begin, elements_more, others_begin, others_more, map_push, tail_shorter, less_in_view}
 
 -- ---- expressions
 
