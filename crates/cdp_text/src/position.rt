@@ -16,14 +16,18 @@ const PARAGRAPH_SEPARATOR: u16 = 0x2029;
 /// A position in a text: a line and a column in UTF-16 units, both counted from 0. Ordered by line, then column.
 #[derive(Clone, Copy, Debug, PartialEq, Eq, PartialOrd, Ord)]
 pub struct Pos {
+    /// The line, counted from 0.
     pub line: u32,
+    /// The column in UTF-16 units, counted from 0.
     pub col: u32,
 }
 
 /// A position in one of several scripts. Ordered by script, then position.
 #[derive(Clone, Copy, Debug, PartialEq, Eq, PartialOrd, Ord)]
 pub struct Place {
+    /// The number of the script.
     pub script: u32,
+    /// The position in it.
     pub pos: Pos,
 }
 
@@ -56,7 +60,7 @@ pub fn is_line_terminator(unit: u16) -> bool
 }
 
 /// Whether an offset stands between a CR and its LF.
-pub fn is_inside_cr_lf(u: &[u16], offset: usize) -> bool
+pub(crate) fn is_inside_cr_lf(u: &[u16], offset: usize) -> bool
     ensures { result ≡ is_inside_cr_lf u.now offset }
 {
     0 < offset && offset < u.len() && u[offset - 1] == CARRIAGE_RETURN && u[offset] == LINE_FEED

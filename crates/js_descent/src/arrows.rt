@@ -34,7 +34,7 @@ use js_syntax::token::{expect, is_next};
 use js_syntax::words::{expect_near, name_at, names_before, names_of};
 use js_tree::tree::ArrowParameters;
 
-// An arrow function of one name without parentheses.
+/// An arrow function of one name without parentheses.
 #[cycle(parser)]
 #[tactic(auto, unfolding(js_syntax::specs::Parsing::arrow_of_one))]
 pub fn arrow_of_one<'t, 's>(nodes: &mut Nodes, room: u32, tokens: &'t [Token<'s>]) -> Parsed<'t, 's>
@@ -50,7 +50,7 @@ pub fn arrow_of_one<'t, 's>(nodes: &mut Nodes, room: u32, tokens: &'t [Token<'s>
     arrow_rest(nodes, room, parameters, taken, tokens, rest)
 }
 
-// An arrow function of names in parentheses, where `only` such a one can begin so.
+/// An arrow function of names in parentheses, where `only` such a one can begin so.
 #[cycle(parser)]
 #[tactic(auto, unfolding(js_syntax::specs::Parsing::arrow_of_list))]
 pub fn arrow_of_list<'t, 's>(
@@ -101,7 +101,7 @@ fn arrow_of_names<'t, 's>(
     arrow_rest(nodes, room, parameters, taken, start, tokens)
 }
 
-// The arrow and the body of an arrow function whose parameters were read from the start.
+/// The arrow and the body of an arrow function whose parameters were read from the start.
 #[cycle(parser)]
 #[tactic(auto, unfolding(js_syntax::specs::Parsing::arrow_rest))]
 pub fn arrow_rest<'t, 's>(

@@ -26,7 +26,7 @@ use js_syntax::names::parameters_at;
 use js_syntax::nodes::Nodes;
 use js_syntax::token::expect;
 
-// Statements in braces that declare other names than these, at most `room` high with the braces.
+/// Statements in braces that declare other names than these, at most `room` high with the braces.
 #[cycle(parser)]
 #[tactic(auto, unfolding(js_syntax::specs::Parsing::below))]
 pub fn block_below<'t, 's>(
@@ -49,7 +49,7 @@ pub fn block_below<'t, 's>(
     Ok((block(node, body), height + 1, rest))
 }
 
-// The parameters of a function and its body, at most `room` high with the function.
+/// The parameters of a function and its body, at most `room` high with the function.
 #[cycle(parser)]
 #[tactic(auto, unfolding(js_syntax::specs::Parsing::below))]
 pub fn function_below<'t, 's>(
@@ -68,7 +68,7 @@ pub fn function_below<'t, 's>(
     code_at(nodes, room - 1, tokens)
 }
 
-// Statements up to what ends a list, that declare other names than these.
+/// Statements up to what ends a list, that declare other names than these.
 #[cycle(parser)]
 #[tactic(auto, unfolding(js_syntax::specs::Productions::items_at))]
 pub fn items_at<'t, 's>(
@@ -95,7 +95,7 @@ pub fn items_at<'t, 's>(
     Ok((statements_of(items), read.0, read.1))
 }
 
-// Statements in braces that declare other names than these.
+/// Statements in braces that declare other names than these.
 #[cycle(parser)]
 #[tactic(auto, unfolding(js_syntax::specs::Productions::braces))]
 pub fn braces_at<'t, 's>(
@@ -116,7 +116,7 @@ pub fn braces_at<'t, 's>(
     Ok((body, height, rest))
 }
 
-// The parameters of a function and its body.
+/// The parameters of a function and its body.
 #[cycle(parser)]
 #[tactic(auto, unfolding(js_syntax::specs::Productions::code_at))]
 pub fn code_at<'t, 's>(

@@ -30,7 +30,7 @@ use js_syntax::token::{expect, tail};
 use js_syntax::words::word_at;
 use js_tree::tree::Expr;
 
-// A CallExpression or a MemberExpression, at most `room` high.
+/// A CallExpression or a MemberExpression, at most `room` high.
 #[cycle(parser)]
 #[tactic(auto, unfolding(js_syntax::specs::Parsing::below))]
 pub fn call_below<'t, 's>(nodes: &mut Nodes, room: u32, tokens: &'t [Token<'s>]) -> Parsed<'t, 's>
@@ -45,7 +45,7 @@ pub fn call_below<'t, 's>(nodes: &mut Nodes, room: u32, tokens: &'t [Token<'s>])
     call_at(nodes, room - 1, tokens)
 }
 
-// A CallExpression or a MemberExpression.
+/// A CallExpression or a MemberExpression.
 #[cycle(parser)]
 #[tactic(auto, unfolding(js_syntax::specs::Parsing::call))]
 pub fn call_at<'t, 's>(nodes: &mut Nodes, room: u32, tokens: &'t [Token<'s>]) -> Parsed<'t, 's>

@@ -35,7 +35,7 @@ use js_syntax::names::fresh_name;
 use js_syntax::nodes::Nodes;
 use js_syntax::token::{is_next, tail};
 
-// A statement or a declaration of other names than these, at most `room` high. Its names are taken.
+/// A statement or a declaration of other names than these, at most `room` high. Its names are taken.
 #[cycle(parser)]
 #[tactic(auto, unfolding(js_syntax::specs::Parsing::below))]
 pub fn item_below<'t, 's>(
@@ -57,7 +57,7 @@ pub fn item_below<'t, 's>(
     item_at(nodes, room - 1, context, names, tokens)
 }
 
-// A statement or a declaration of other names than these. Its names are taken.
+/// A statement or a declaration of other names than these. Its names are taken.
 #[cycle(parser)]
 #[tactic(auto, unfolding(js_syntax::specs::Parsing::item))]
 pub fn item_at<'t, 's>(
@@ -133,7 +133,7 @@ fn declaration_at<'t, 's>(
     Ok((tree, height + 1, rest))
 }
 
-// Names with commas between, which differ from these and from one another, and are taken.
+/// Names with commas between, which differ from these and from one another, and are taken.
 #[cycle(parser)]
 #[tactic(auto, unfolding(js_syntax::specs::Productions::declarators_at))]
 pub fn declarators_at<'t, 's>(

@@ -31,7 +31,7 @@ use js_syntax::token::{expect, is_next, tail};
 use js_syntax::words::name_at;
 use js_tree::tree::Catch;
 
-// `try` with its blocks.
+/// `try` with its blocks.
 #[cycle(parser)]
 #[tactic(auto, unfolding(js_syntax::specs::Parsing::try_at))]
 pub fn try_at<'t, 's>(

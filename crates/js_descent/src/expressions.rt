@@ -31,7 +31,7 @@ use js_syntax::targets::{assignment_kind, is_target};
 use js_syntax::token::{expect, is_next, tail};
 use js_tree::tree::Expr;
 
-// An Expression, at most `room` high.
+/// An Expression, at most `room` high.
 #[cycle(parser)]
 #[tactic(auto, unfolding(js_syntax::specs::Parsing::below))]
 pub fn expression_below<'t, 's>(
@@ -50,7 +50,7 @@ pub fn expression_below<'t, 's>(
     expression_at(nodes, room - 1, tokens)
 }
 
-// An AssignmentExpression, at most `room` high.
+/// An AssignmentExpression, at most `room` high.
 #[cycle(parser)]
 #[tactic(auto, unfolding(js_syntax::specs::Parsing::below))]
 pub fn assignment_below<'t, 's>(
@@ -69,7 +69,7 @@ pub fn assignment_below<'t, 's>(
     assignment_at(nodes, room - 1, tokens)
 }
 
-// An Expression (13.16).
+/// An Expression (13.16).
 #[cycle(parser)]
 #[tactic(auto, unfolding(js_syntax::specs::Parsing::expression))]
 pub fn expression_at<'t, 's>(
@@ -120,7 +120,7 @@ fn comma_at<'t, 's>(
     Ok((tree, deeper(first_height, height) + 1, rest))
 }
 
-// An AssignmentExpression (13.15).
+/// An AssignmentExpression (13.15).
 #[cycle(parser)]
 #[tactic(auto, unfolding(js_syntax::specs::Parsing::assignment))]
 pub fn assignment_at<'t, 's>(

@@ -28,7 +28,7 @@ use js_syntax::fault::ParseError;
 use js_syntax::nodes::Nodes;
 use js_syntax::token::{is_next, tail};
 
-// Elements or arguments up to the token that ends them, before which a comma may stand.
+/// Elements or arguments up to the token that ends them, before which a comma may stand.
 #[cycle(parser)]
 #[tactic(auto, unfolding(js_syntax::specs::Productions::arguments_before))]
 pub fn arguments_before<'t, 's>(
@@ -77,7 +77,7 @@ fn elements_before<'t, 's>(
     }
 }
 
-// Further expressions, each behind a comma.
+/// Further expressions, each behind a comma.
 #[cycle(parser)]
 pub fn more_assignments<'t, 's>(
     nodes: &mut Nodes,

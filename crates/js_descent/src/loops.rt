@@ -32,7 +32,7 @@ use js_syntax::nodes::Nodes;
 use js_syntax::token::{expect, tail};
 use js_syntax::words::name_at;
 
-// `do` (14.7.2).
+/// `do` (14.7.2).
 #[cycle(parser)]
 pub fn do_at<'t, 's>(
     nodes: &mut Nodes,
@@ -57,7 +57,7 @@ pub fn do_at<'t, 's>(
     Ok((tree, deeper(body_height, test_height) + 1, rest))
 }
 
-// `while` (14.7.3).
+/// `while` (14.7.3).
 #[cycle(parser)]
 pub fn while_at<'t, 's>(
     nodes: &mut Nodes,
@@ -80,7 +80,7 @@ pub fn while_at<'t, 's>(
     Ok((tree, deeper(test_height, body_height) + 1, rest))
 }
 
-// `for` (14.7.4 and 14.7.5).
+/// `for` (14.7.4 and 14.7.5).
 #[cycle(parser)]
 #[tactic(auto, unfolding(js_syntax::specs::Parsing::for_at))]
 pub fn for_at<'t, 's>(

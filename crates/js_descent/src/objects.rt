@@ -38,7 +38,7 @@ use js_syntax::token::{expect, is_next, tail};
 use js_syntax::words::name_at;
 use js_tree::tree::PropertyName;
 
-// The members of an object literal up to the brace that ends it.
+/// The members of an object literal up to the brace that ends it.
 #[cycle(parser)]
 #[tactic(auto, unfolding(js_syntax::specs::Parsing::properties_at))]
 pub fn properties_at<'t, 's>(

@@ -29,7 +29,7 @@ use js_syntax::targets::{above, is_property, is_target, strength};
 use js_syntax::token::tail;
 use js_tree::tree::Expr;
 
-// An operation of this strength at least, at most `room` high.
+/// An operation of this strength at least, at most `room` high.
 #[cycle(parser)]
 #[tactic(auto, unfolding(js_syntax::specs::Parsing::below))]
 pub fn operation_below<'t, 's>(
@@ -49,7 +49,7 @@ pub fn operation_below<'t, 's>(
     operation_at(nodes, room - 1, least, tokens)
 }
 
-// A UnaryExpression, at most `room` high.
+/// A UnaryExpression, at most `room` high.
 #[cycle(parser)]
 #[tactic(auto, unfolding(js_syntax::specs::Parsing::below))]
 pub fn unary_below<'t, 's>(nodes: &mut Nodes, room: u32, tokens: &'t [Token<'s>]) -> Parsed<'t, 's>
@@ -64,7 +64,7 @@ pub fn unary_below<'t, 's>(nodes: &mut Nodes, room: u32, tokens: &'t [Token<'s>]
     unary_at(nodes, room - 1, tokens)
 }
 
-// An operation of this strength at least.
+/// An operation of this strength at least.
 #[cycle(parser)]
 #[tactic(auto, unfolding(js_syntax::specs::Parsing::operation))]
 pub fn operation_at<'t, 's>(
@@ -151,7 +151,7 @@ fn chain_at<'t, 's>(
     )
 }
 
-// A UnaryExpression (13.5).
+/// A UnaryExpression (13.5).
 #[cycle(parser)]
 #[tactic(auto, unfolding(js_syntax::specs::Parsing::unary))]
 pub fn unary_at<'t, 's>(nodes: &mut Nodes, room: u32, tokens: &'t [Token<'s>]) -> Parsed<'t, 's>

@@ -71,7 +71,9 @@ pub type ParsedFinalizer<'t, 's> = Result<(Option<Block>, u32, &'t [Token<'s>]),
 /// The parameters of a function and its body.
 #[derive(Drop)]
 pub struct FunctionParts {
+    /// The names of the parameters.
     pub parameters: Names,
+    /// The statements and declarations of the body.
     pub body: Stmts,
 }
 

@@ -35,7 +35,7 @@ use js_syntax::nodes::Nodes;
 use js_syntax::token::{expect, tail};
 use js_syntax::words::{name_at, single};
 
-// A PrimaryExpression.
+/// A PrimaryExpression.
 #[cycle(parser)]
 #[tactic(auto, unfolding(js_syntax::specs::Parsing::primary))]
 pub fn primary_at<'t, 's>(
@@ -144,7 +144,7 @@ fn object_at<'t, 's>(nodes: &mut Nodes, room: u32, tokens: &'t [Token<'s>]) -> P
     Ok((object(node, properties), height + 1, rest))
 }
 
-// A FunctionExpression (15.2) from the start, behind its keyword.
+/// A FunctionExpression (15.2) from the start, behind its keyword.
 #[cycle(parser)]
 #[tactic(auto, unfolding(js_syntax::specs::Parsing::function_at))]
 pub fn function_at<'t, 's>(

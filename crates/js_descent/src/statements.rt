@@ -41,7 +41,7 @@ use js_syntax::nodes::Nodes;
 use js_syntax::token::{expect, is_next, is_on_line, tail};
 use js_syntax::words::single;
 
-// A statement that declares nothing, at most `room` high.
+/// A statement that declares nothing, at most `room` high.
 #[cycle(parser)]
 #[tactic(auto, unfolding(js_syntax::specs::Parsing::below))]
 pub fn statement_below<'t, 's>(
@@ -62,7 +62,7 @@ pub fn statement_below<'t, 's>(
     Ok((boxed(nodes.alloc(), tree)?, height, rest))
 }
 
-// A statement that declares nothing.
+/// A statement that declares nothing.
 #[cycle(parser)]
 #[tactic(auto, unfolding(js_syntax::specs::Parsing::statement))]
 pub fn statement_at<'t, 's>(
@@ -130,7 +130,7 @@ fn ended_expression<'t, 's>(nodes: &mut Nodes, room: u32, tokens: &'t [Token<'s>
     Ok((tree, height, rest))
 }
 
-// An expression or nothing, and the token behind it.
+/// An expression or nothing, and the token behind it.
 #[cycle(parser)]
 #[tactic(auto, unfolding(js_syntax::specs::Productions::optional_before))]
 pub fn optional_before<'t, 's>(

@@ -29,7 +29,7 @@ pub fn boxed(alloc: Global, expression: Expr) -> Result<Box<Expr>, AllocError>
 }
 
 /// The expression in memory of its own, if there is one.
-pub fn value_of(boxed: Option<Box<Expr>>) -> Option<Expr>
+pub(crate) fn value_of(boxed: Option<Box<Expr>>) -> Option<Expr>
     ensures { result ≡ unboxed boxed }
 {
     match boxed {

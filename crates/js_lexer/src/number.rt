@@ -12,7 +12,7 @@ use crate::classes::is_digit;
 pub const MAX_NUMBER: u64 = 0x1F_FFFF_FFFF_FFFF;
 
 /// What a digit is worth, 0 to 15; 16 for a unit that is no digit.
-pub fn digit_value(c: u16) -> u32
+pub(crate) fn digit_value(c: u16) -> u32
     ensures value { result ≡ spec.digit_value c }
     ensures small { result ≤ 16 }
 {
@@ -78,7 +78,7 @@ fn is_decimal(digits: &[u16]) -> bool
 
 /// What digits are worth, or `None` where that is above the greatest number.
 #[tactic(auto, using(crate::proofs::NumberLemmas::digits_value_grows))]
-pub fn digits_value(base: u64, digits: &[u16]) -> Option<u64>
+pub(crate) fn digits_value(base: u64, digits: &[u16]) -> Option<u64>
     requires some { 1 ≤ base }
     requires small { base ≤ 16 }
     ensures { result ≡ (if nat_lt (spec.digits_value base 0 digits.now) (2 ^ 53) then Some (spec.digits_value base 0 digits.now) else None) }
@@ -95,7 +95,7 @@ pub fn digits_value(base: u64, digits: &[u16]) -> Option<u64>
 
 /// The value of a text that is a number: a numeric literal of at most 2^53 - 1. `None` exactly
 /// where it isn't one.
-pub fn number_of(text: &[u16]) -> Option<u64>
+pub(crate) fn number_of(text: &[u16]) -> Option<u64>
     ensures { result ≡ number_of text.now }
 {
     let (base, digits) = base_and_digits(text);

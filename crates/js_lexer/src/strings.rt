@@ -196,7 +196,7 @@ fn character_at(quote: u16, units: &[u16]) -> Option<Character>
 
 /// How many units at the front are characters of a string literal in this quote.
 #[tactic(auto, using(crate::proofs::RunLemmas::run_steps))]
-pub fn characters_len(quote: u16, units: &[u16]) -> usize
+pub(crate) fn characters_len(quote: u16, units: &[u16]) -> usize
     ensures value { result ≡ run (character_len quote) 0 units.now }
     ensures within { result ≤ length units.now }
 {

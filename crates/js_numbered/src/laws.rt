@@ -16,7 +16,6 @@ ghost use Rattle.js_numbered.specs.NumberedPlaces.{numbered_places};
 
 /// Of an expression whose nodes are numbered 0, 1, .. in the order in which they end, its tree without numbers says all
 /// that is made of it.
-
 #[tactic(auto, using(crate::proofs::NumberedLaws::numbered_same))]
 pub fn trees_say_what_is_made_of_numbered_ones()
     ensures { (e : Expr) (count : _) → numbers_of (expression_places e) ≡ range_with_len 0 count → numbered_made (expression_view e) ≡ expression_source e }

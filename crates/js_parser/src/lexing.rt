@@ -25,7 +25,9 @@ pub enum Stop {
 /// The tokens of a source, with the first that is too many, and why there are no further ones.
 #[derive(Drop)]
 pub struct Lexed<'s> {
+    /// The tokens that were read.
     pub tokens: Vec<Token<'s>>,
+    /// Why there are no further ones. `None` at the end of the source.
     pub stop: Option<Stop>,
 }
 

@@ -12,7 +12,9 @@ pub struct NodeId(pub u32);
 /// A part of a source: the code units from `start` up to but not including `end`, counted from 0.
 #[derive(Clone, Copy, Debug, PartialEq, Eq)]
 pub struct Span {
+    /// How many units stand before it.
     pub start: usize,
+    /// How many units stand before what follows it.
     pub end: usize,
 }
 

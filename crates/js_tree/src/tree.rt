@@ -188,7 +188,9 @@ pub enum PropertyDefinition {
 #[derive(Drop)]
 #[cycle(tree)]
 pub struct Declarator {
+    /// The name that is declared.
     pub name: Units,
+    /// What its first value is, if that is written.
     pub initializer: Option<Expr>,
 }
 
@@ -196,7 +198,9 @@ pub struct Declarator {
 #[derive(Drop)]
 #[cycle(tree)]
 pub struct Block {
+    /// Its number.
     pub node: NodeId,
+    /// Its statements and declarations.
     pub body: Stmts,
 }
 
@@ -204,7 +208,9 @@ pub struct Block {
 #[derive(Drop)]
 #[cycle(tree)]
 pub struct Catch {
+    /// The name of the value that was thrown, if it has one.
     pub parameter: Option<Units>,
+    /// What is done then.
     pub block: Block,
 }
 
@@ -315,6 +321,7 @@ pub enum Stmt {
 #[derive(Drop)]
 #[cycle(tree)]
 pub struct Exprs {
+    /// The expressions.
     pub items: Vec<Expr>,
 }
 
@@ -322,6 +329,7 @@ pub struct Exprs {
 #[derive(Drop)]
 #[cycle(tree)]
 pub struct Stmts {
+    /// The statements and declarations.
     pub items: Vec<Stmt>,
 }
 
@@ -329,6 +337,7 @@ pub struct Stmts {
 #[derive(Drop)]
 #[cycle(tree)]
 pub struct PropertyDefinitions {
+    /// The members.
     pub items: Vec<PropertyDefinition>,
 }
 
@@ -336,5 +345,6 @@ pub struct PropertyDefinitions {
 #[derive(Drop)]
 #[cycle(tree)]
 pub struct Declarators {
+    /// The names, each with its initializer.
     pub items: Vec<Declarator>,
 }

@@ -26,7 +26,7 @@ pub enum Head {
 }
 
 /// Whether `=>` comes, on the line of the token before it.
-pub fn is_arrow_next(tokens: &[Token<'_>]) -> bool
+fn is_arrow_next(tokens: &[Token<'_>]) -> bool
     ensures { result ≡ is_arrow (head_of (tokens_view tokens.now)) }
 {
     is_on_line(tokens) && is_next(TokenKind::Arrow, tokens)
@@ -35,7 +35,7 @@ pub fn is_arrow_next(tokens: &[Token<'_>]) -> bool
 /// How names in parentheses end, behind the first parenthesis: whether an arrow alone can follow,
 /// since there is no name or a comma behind the last one; and the tokens after the last
 /// parenthesis. `None` where other tokens stand there.
-pub fn past_names<'t, 's>(tokens: &'t [Token<'s>]) -> Option<(bool, &'t [Token<'s>])>
+fn past_names<'t, 's>(tokens: &'t [Token<'s>]) -> Option<(bool, &'t [Token<'s>])>
     ensures { past_view result ≡ past_names true (tokens_view tokens.now) }
 {
     let mut at_name = true;

@@ -41,7 +41,7 @@ pub fn ends_list(tokens: &[Token<'_>]) -> bool
 }
 
 /// Whether a token of this kind is a name or a reserved word (ECMA-262, 12.7, IdentifierName).
-pub fn is_word(kind: TokenKind) -> bool
+pub(crate) fn is_word(kind: TokenKind) -> bool
     ensures { result ≡ is_word kind }
 {
     match kind {
@@ -72,7 +72,7 @@ pub fn is_word(kind: TokenKind) -> bool
 }
 
 /// Whether the next token is a name or a reserved word.
-pub fn is_word_next(tokens: &[Token<'_>]) -> bool
+fn is_word_next(tokens: &[Token<'_>]) -> bool
     ensures { result ≡ is_word_next (head_of (tokens_view tokens.now)) }
 {
     match tokens {

@@ -123,7 +123,7 @@ fn continues(edge: Edge, kind: TokenKind) -> bool
 
 /// Whether the semicolon of a statement that ends so may be absent before the next token or the
 /// end of the source (ECMA-262, 12.10).
-pub fn is_absent(end: End, tokens: &[Token<'_>]) -> bool
+pub(crate) fn is_absent(end: End, tokens: &[Token<'_>]) -> bool
     ensures { result ≡ absent (end_view end) (head_of (tokens_view tokens.now)) }
 {
     let [token, ..] = tokens else {
@@ -145,7 +145,7 @@ pub fn ends_return(tokens: &[Token<'_>]) -> bool
 }
 
 /// Whether the next token is this name.
-pub fn is_name(name: &[u16], tokens: &[Token<'_>]) -> bool
+pub(crate) fn is_name(name: &[u16], tokens: &[Token<'_>]) -> bool
     ensures { result ≡ is_name name.now (head_of (tokens_view tokens.now)) }
 {
     match tokens {
