@@ -6,8 +6,11 @@
 //! - `*_at` reads a form whose parts may be `room` high: it is at most one higher.
 //! - `*_before` reads a list, or what may be left out, up to the token that closes it, which is read too.
 //!
-//! The clauses: `gives` says that the answer is that of the reader of the grammar (`Gives`, `js_syntax`), `height` how high the
-//! tree is, and `placed` where its nodes stand (`Placed`, `js_syntax`).
+//! Its words in contracts:
+//!
+//! - *gives*: the answer is that of the reader of `js_syntax` (`Gives`)
+//! - *height*: how high the tree is, and that it isn't higher than it may be
+//! - *placed*: where the nodes of what was read stand (`Placed`)
 #![tactic(auto)]
 
 pub mod arrows;
