@@ -4,7 +4,7 @@ ghost use Rattle.std.specs.Prelude.{◌≡◌, ◌≤◌, ◌<◌, ◌+◌, suc,
 ghost use Rattle.js_tree.specs.Height.{height_of_finalizer, height_of_handler, height_of_statement};
 ghost use Rattle.js_tree.specs.Views.{catch_view, finalizer_view, handler_view, statement_view};
 ghost use Rattle.js_syntax.specs.Giving.{Gives};
-ghost use Rattle.js_syntax.specs.Kinds.{is_kind};
+ghost use Rattle.js_language.specs.Kinds.{is_kind};
 ghost use Rattle.js_syntax.specs.Parsing as reading;
 ghost use Rattle.js_syntax.specs.Parsing.{below};
 ghost use Rattle.js_syntax.specs.Views.{tokens_view};

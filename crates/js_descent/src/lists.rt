@@ -14,7 +14,7 @@ ghost use Rattle.js_syntax.specs.Productions.{one_of};
 ghost use Rattle.js_syntax.specs.Reading.{elements, others, no_state};
 ghost use Rattle.js_language.specs.Flat.{a};
 ghost use Rattle.js_language.specs.Places.{in_turn, plain, may_stand, expressions_places, with_commas, expression_places, behind_commas};
-ghost use Rattle.js_syntax.specs.Kinds.{is_same_kind};
+ghost use Rattle.js_language.specs.Kinds.{is_same_kind};
 ghost use Rattle.js_syntax.specs.Placed.{Placed};
 ghost use Rattle.js_lexer.specs.declared.token.TokenKind.TheVariants as kinds;
 

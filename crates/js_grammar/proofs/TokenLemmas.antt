@@ -5,7 +5,7 @@ use Rattle.js_lexer.specs.declared.token.TokenKind.TheVariants as kinds
 use Rattle.js_tree.specs.Trees.{Identifier}
 use Rattle.js_language.specs.Tokens.{Token, fixed, identifier, identifier_name, token, beside, semicolon, head_of, tail_of, IsNext, is_on_line, End, absent, absent_before, Matches}
 use Rattle.js_language.specs.Well.{is_among}
-use Rattle.js_syntax.specs.Kinds.{is_kind}
+use Rattle.js_language.specs.Kinds.{is_kind}
 use Rattle.js_syntax.specs.Reading.{Fault, stuck, Read, expect, expect_near, text_of, name_at, fresh_name, is_word_next, word_at, semicolon_at}
 use Rattle.js_syntax.proofs.KindLemmas.{next_is, next_again}
 use Rattle.js_syntax.proofs.PlacedTokenLemmas.{name_next, word_next}

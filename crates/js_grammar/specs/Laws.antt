@@ -9,7 +9,7 @@ use Rattle.js_language.specs.Flat.{edge, flat, flat_optional, flat_expressions, 
 use Rattle.js_language.specs.Well as levels
 use Rattle.js_language.specs.Well.{Context, function_body, level, Well, WellOptional, AreAssignments, WellDeclarators, IsInitialized, is_some_declarator, WellStatement, WellStatements, is_statement, ends_in_if, AreFresh, DifferIn, declared_by, declared_names, names_of_declarators}
 use Rattle.js_tree.specs.Height.{height, height_of_optional, height_of_expressions, height_of_declarators, height_of_statement, height_of_statements}
-use Rattle.js_syntax.specs.Kinds.{is_kind}
+use Rattle.js_language.specs.Kinds.{is_kind}
 use Rattle.js_syntax.specs.Classes.{no_link, link, update_near, operator, no_joint, joint, is_arrow}
 use Rattle.js_syntax.specs.Parsing.{operator_from}
 use Rattle.js_syntax.specs.Productions.{Code, Below, Item, tok, near, a_name, the_name, an_assignment, an_expression, optional, arguments, ended, an_end, declared, a_statement, a_block, in_braces, code, Value, Values, seq}

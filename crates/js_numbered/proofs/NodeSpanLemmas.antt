@@ -12,13 +12,14 @@ use Rattle.js_tree.specs.declared.tree.Expr.{Expr}
 use Rattle.js_tree.specs.Spans.{span_of}
 use Rattle.js_language.specs.Tokens.{Token, fixed, head_of, tail_of, IsNext}
 use Rattle.js_language.specs.Places.{Place, stands, stands_maybe, opens, closes, numbers_of, start_of, end_of, AreSpans, expression_places}
-use Rattle.js_numbered.specs.NodeSpans.{is_next, left_behind, end_behind, node_start, node_end, node_span}
+use Rattle.js_language.specs.Kinds.{is_kind}
+use Rattle.js_numbered.specs.NodeSpans.{left_behind, end_behind, node_start, node_end, node_span}
 use Rattle.js_numbered.proofs.PlacingLemmas.{is_number, openings_of, AreOpened}
 use Rattle.js_numbered.proofs.NumberedPlaceLaws.{expression-stands}
 
 -- ---- a token that may be absent
 
-next_true : (kind : TokenKind) (next : Option Token) → IsNext (fixed kind) next → is_next kind next ≡ true
+next_true : (kind : TokenKind) (next : Option Token) → IsNext (fixed kind) next → is_kind kind next ≡ true
 next_true kind None h = absurd h
 next_true kind (Some t) h = true_same the_type t.kind kind h
 
@@ -26,7 +27,7 @@ never : (b : Bool) → (b ≡ true → ⊥) → b ≡ false
 never true h = absurd (h refl)
 never false h = refl
 
-next_false : (kind : TokenKind) (next : Option Token) → (IsNext (fixed kind) next → ⊥) → is_next kind next ≡ false
+next_false : (kind : TokenKind) (next : Option Token) → (IsNext (fixed kind) next → ⊥) → is_kind kind next ≡ false
 next_false kind None h = refl
 next_false kind (Some t) h = never (sameb the_type t.kind kind) (λ e. h (same_true the_type tt t.kind kind e))
 

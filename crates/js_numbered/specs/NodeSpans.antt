@@ -1,24 +1,18 @@
 -- The span of a node, found in its tree's places and its source's tokens: from the start of its first token to the end of its last one.
-use Rattle.std.specs.Prelude.{ℕ, Bool, false, List, [], ◌∷◌, Option, Some, None, nat_eq, if◌then◌else◌}
-use denote.Enum.Bare.{sameb}
+use Rattle.std.specs.Prelude.{ℕ, List, [], ◌∷◌, nat_eq, if◌then◌else◌}
 use Rattle.js_lexer.specs.declared.token.TokenKind.{TokenKind}
-use Rattle.js_lexer.specs.contracts.token.TokenKind.{the_type}
 use Rattle.js_tree.specs.declared.node.Span.{Span}
 use Rattle.js_language.specs.Tokens.{Token, head_of, tail_of}
+use Rattle.js_language.specs.Kinds.{is_kind}
 use Rattle.js_language.specs.Places.{Place, stands, stands_maybe, opens, closes, start_of, end_of}
-
--- the next token is this punctuator or reserved word
-abbrev pub is_next : TokenKind → Option Token → Bool
-is_next kind None = false
-is_next kind (Some t) = sameb the_type t.kind kind
 
 -- the tokens left behind this one, which may be absent
 abbrev pub left_behind : TokenKind → List Token → List Token
-left_behind kind ts = if (is_next kind (head_of ts)) then tail_of ts else ts
+left_behind kind ts = if (is_kind kind (head_of ts)) then tail_of ts else ts
 
 -- where the last token ends behind this one, which may be absent; the token before ends at `before`
 abbrev pub end_behind : TokenKind → ℕ → List Token → ℕ
-end_behind kind before ts = if (is_next kind (head_of ts)) then end_of (head_of ts) else before
+end_behind kind before ts = if (is_kind kind (head_of ts)) then end_of (head_of ts) else before
 
 -- where the first token of the node of this number starts; 0 where no node has it
 abbrev pub node_start : ℕ → List Place → List Token → ℕ

@@ -4,7 +4,7 @@ use denote.Enum.Bare.{same_true, true_same}
 use Rattle.js_lexer.specs.declared.token.TokenKind.{TokenKind}
 use Rattle.js_lexer.specs.contracts.token.TokenKind.{the_type}
 use Rattle.js_language.specs.Tokens.{Token, fixed, IsNext}
-use Rattle.js_syntax.specs.Kinds.{is_same_kind, is_kind}
+use Rattle.js_language.specs.Kinds.{is_same_kind, is_kind}
 
 pub same_kind : (j k : TokenKind) → is_same_kind j k ≡ true → j ≡ k
 same_kind j k e = same_true the_type tt j k e

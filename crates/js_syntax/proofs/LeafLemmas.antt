@@ -9,7 +9,7 @@ use Rattle.js_tree.specs.Trees.{Identifier, Expression, Parameters, Key, Handler
 use Rattle.js_language.specs.Flat.{assign_kind}
 use Rattle.js_language.specs.Well.{function_body, Context, is_among, is_target, is_property, strength}
 use Rattle.js_operators.specs.declared.operator.UnaryOperator.TheVariants as unaries
-use Rattle.js_syntax.specs.Kinds.{is_kind}
+use Rattle.js_language.specs.Kinds.{is_kind}
 use Rattle.js_syntax.specs.Reading.{with_names, deep, Read, Reader, ◌>>=◌, expect, expect_near, name_at, fresh_name, word_at, is_word_next, semicolon_at, After, goes_on, ends, neither, after, go_after, elements, elements_by, others, others_by, items, items_by, ends_list, with_name, no_state}
 use Rattle.js_syntax.specs.Classes as classes
 use Rattle.js_syntax.specs.Classes.{Start, start, Link, link, update_near, prefix, Prefix, operator, Joint, joint, Head, arrow_head, KeyStart, key_start, AfterKey, after_key, is_shorthand, First, first, ends_return, ForHead, for_head, is_name}

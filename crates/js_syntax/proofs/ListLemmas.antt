@@ -11,7 +11,7 @@ use Rattle.js_tree.specs.Views.{statements, declarators}
 use Rattle.js_syntax.specs.declared.fault.ParseError.{ParseError}
 use Rattle.js_syntax.specs.declared.fault.ParseError.TheVariants as errors
 use Rattle.js_syntax.specs.Giving.{Fails}
-use Rattle.js_syntax.specs.Kinds.{is_kind}
+use Rattle.js_language.specs.Kinds.{is_kind}
 use Rattle.js_syntax.specs.Reading.{Read, ◌>>=◌, ends_list, items, others, with_names}
 use Rattle.js_syntax.specs.Productions.{with_declared, items_at, declarator_at, declarators_at, name_of, with_declarator}
 use Rattle.js_syntax.specs.Parsing.{below}

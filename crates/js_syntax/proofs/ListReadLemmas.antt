@@ -11,7 +11,7 @@ use Rattle.js_tree.specs.Trees.{Expression, Property}
 use Rattle.js_language.specs.Tokens.{Token, head_of, tail_of}
 use Rattle.js_tree.specs.Height.{height, height_of_expressions, height_of_property, height_of_properties}
 use Rattle.js_tree.specs.Views.{expression_view, property_view, expressions, properties}
-use Rattle.js_syntax.specs.Kinds.{is_kind}
+use Rattle.js_language.specs.Kinds.{is_kind}
 use Rattle.js_syntax.specs.Reading.{elements, others, no_state, after, goes_on}
 use Rattle.js_syntax.specs.Productions.{one_of}
 use Rattle.js_syntax.specs.Parsing.{below, property_at}

@@ -6,7 +6,7 @@ use Rattle.js_language.specs.Tokens.{Token, head_of, tail_of}
 use Rattle.js_syntax.specs.declared.fault.ParseError.{ParseError}
 use Rattle.js_syntax.specs.declared.fault.ParseError.TheVariants as errors
 use Rattle.js_syntax.specs.Giving.{Fails}
-use Rattle.js_syntax.specs.Kinds.{is_kind}
+use Rattle.js_language.specs.Kinds.{is_kind}
 use Rattle.js_syntax.specs.Reading.{Fault, stuck, deep, Read, Reader, ◌>>=◌, goes_on, ends, neither, after, go_after, elements, others, ends_list, items}
 use Rattle.js_syntax.proofs.LoopStepLemmas.{with_nothing, append_nil}
 

@@ -5,7 +5,7 @@ use Rattle.js_lexer.specs.declared.token.Token.{Token}
 use Rattle.js_lexer.specs.declared.token.TokenKind.{TokenKind}
 use Rattle.js_lexer.specs.declared.token.TokenKind.TheVariants as kinds
 use Rattle.js_language.specs.Tokens.{head_of}
-use Rattle.js_syntax.specs.Kinds.{is_same_kind}
+use Rattle.js_language.specs.Kinds.{is_same_kind}
 use Rattle.js_syntax.specs.Classes.{is_name}
 use Rattle.js_syntax.specs.Views.{string_value_of, tokens_view}
 use Rattle.js_syntax.proofs.KindLemmas.{same_kind}

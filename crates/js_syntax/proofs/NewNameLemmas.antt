@@ -4,7 +4,7 @@ use Rattle.js_lexer.specs.declared.token.TokenKind.TheVariants as kinds
 use Rattle.js_tree.specs.Trees.{Identifier}
 use Rattle.js_language.specs.Tokens.{Token, head_of, tail_of}
 use Rattle.js_language.specs.Well.{is_among}
-use Rattle.js_syntax.specs.Kinds.{is_kind}
+use Rattle.js_language.specs.Kinds.{is_kind}
 use Rattle.js_syntax.specs.Reading.{Fault, stuck, Read, text_of, name_at, fresh_name}
 
 abbrev got : Identifier × List Token → Read Identifier

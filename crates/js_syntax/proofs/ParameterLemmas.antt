@@ -5,7 +5,7 @@ use Rattle.js_lexer.specs.declared.token.Token as lexer
 use Rattle.js_syntax.specs.Views.{tokens_view}
 use Rattle.js_tree.specs.Trees.{Identifier}
 use Rattle.js_language.specs.Tokens.{Token, head_of, tail_of}
-use Rattle.js_syntax.specs.Kinds.{is_kind}
+use Rattle.js_language.specs.Kinds.{is_kind}
 use Rattle.js_syntax.specs.Reading.{goes_on, ends, after, elements, fresh_name, with_name, with_names}
 use Rattle.js_syntax.proofs.LoopLemmas.{ReadsElements, elements_go_on, elements_end_after}
 use Rattle.js_syntax.proofs.ListLemmas.{with_names_push}

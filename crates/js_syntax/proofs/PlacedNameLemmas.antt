@@ -6,7 +6,7 @@ use Rattle.js_tree.specs.Trees.{Identifier}
 use Rattle.js_language.specs.Tokens.{Token, Mark, fixed, identifier, token, trailing_comma, head_of, tail_of}
 use Rattle.js_language.specs.Flat.{more_names, flat_names, flat_parameters}
 use Rattle.js_language.specs.Places.{Place, stands, stands_maybe, place_of, plain}
-use Rattle.js_syntax.specs.Kinds.{is_kind}
+use Rattle.js_language.specs.Kinds.{is_kind}
 use Rattle.js_syntax.specs.Reading.{Read, Reader, ◌>>=◌, After, goes_on, ends, neither, after, after_by, go_after, elements, elements_by, expect, name_at, fresh_name, no_state, with_name}
 use Rattle.js_syntax.specs.Productions.{one_of, names_before, parameters_at}
 use Rattle.js_syntax.proofs.KindLemmas.{kind_not}

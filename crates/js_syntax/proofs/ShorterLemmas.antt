@@ -5,7 +5,7 @@ use Rattle.js_tree.specs.Trees as trees
 use Rattle.js_tree.specs.Trees.{Identifier, Declarator, Statement, Expression}
 use Rattle.js_language.specs.Tokens.{Token, after_word, head_of, tail_of, is_on_line}
 use Rattle.js_language.specs.Well.{Context, declared_by}
-use Rattle.js_syntax.specs.Kinds.{is_kind}
+use Rattle.js_language.specs.Kinds.{is_kind}
 use Rattle.js_syntax.specs.Reading.{stuck, Read, ◌>>=◌, name_at, fresh_name}
 use Rattle.js_syntax.specs.Classes as classes
 use Rattle.js_syntax.specs.Classes.{First, first, ForHead, for_head, ends_return}

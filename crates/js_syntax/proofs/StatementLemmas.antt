@@ -12,7 +12,7 @@ use Rattle.js_tree.specs.Views.{handler_view, catch_view, block_view}
 use Rattle.js_tree.proofs.ViewLemmas.{view_catch}
 use Rattle.js_syntax.specs.declared.fault.ParseError.{ParseError}
 use Rattle.js_syntax.specs.Giving.{Gives}
-use Rattle.js_syntax.specs.Kinds.{is_kind}
+use Rattle.js_language.specs.Kinds.{is_kind}
 use Rattle.js_syntax.specs.Reading.{expect}
 use Rattle.js_syntax.specs.Productions.{Below, with_declared}
 use Rattle.js_syntax.specs.Parsing.{below, statement, finalizer_at}

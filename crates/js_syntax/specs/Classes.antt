@@ -12,7 +12,7 @@ use Rattle.js_operators.specs.declared.operator.BinaryOperator.TheVariants as bi
 use Rattle.js_operators.specs.declared.operator.AssignmentOperator.{AssignmentOperator}
 use Rattle.js_operators.specs.declared.operator.AssignmentOperator.TheVariants as assigns
 use Rattle.js_language.specs.Tokens.{Token, after_word, head_of, tail_of, is_on_line, is_word, absent}
-use Rattle.js_syntax.specs.Kinds.{is_kind}
+use Rattle.js_language.specs.Kinds.{is_kind}
 use Rattle.js_syntax.specs.Reading.{text_of}
 
 -- ---- expressions

@@ -1,4 +1,3 @@
-pub mod Kinds
 pub mod Views
 pub mod Names
 pub mod Places

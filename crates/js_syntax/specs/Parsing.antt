@@ -12,7 +12,7 @@ use Rattle.js_language.specs.Flat.{end_of_declarators, assign_kind}
 use Rattle.js_language.specs.Well.{Context, top, function_body, loop_body, strength, is_property, is_target, is_among}
 use Rattle.js_tree.specs.Height.{height, height_of_key}
 use Rattle.js_tree.specs.Views.{properties}
-use Rattle.js_syntax.specs.Kinds.{is_kind}
+use Rattle.js_language.specs.Kinds.{is_kind}
 use Rattle.js_syntax.specs.Reading.{Fault, stuck, deep, Read, Reader, ◌>>=◌, expect, expect_near, name_at, fresh_name, word_at, semicolon_at, elements, no_state, with_names}
 use Rattle.js_syntax.specs.Classes as classes
 use Rattle.js_syntax.specs.Classes.{Start, start, Link, dot, key, no_link, link, update_near, Prefix, deletes, a_unary, an_update, no_prefix, prefix, operator, Joint, question, assigns_by, no_joint, joint, Head, one_parameter, listed, no_arrow, arrow_head, KeyStart, key_start, AfterKey, after_key, is_shorthand, First, first, ends_return, ForHead, each, declares, plain_head, for_head}

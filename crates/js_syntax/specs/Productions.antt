@@ -8,7 +8,7 @@ use Rattle.js_language.specs.Tokens.{End, after_expression, head_of, tail_of}
 use Rattle.js_language.specs.Flat.{edge}
 use Rattle.js_language.specs.Well.{Context, function_body, declared_by}
 use Rattle.js_tree.specs.Views.{expressions, statements, declarators}
-use Rattle.js_syntax.specs.Kinds.{is_kind}
+use Rattle.js_language.specs.Kinds.{is_kind}
 use Rattle.js_syntax.specs.Reading.{stuck, Reader, ◌>>=◌, expect, expect_near, name_at, fresh_name, semicolon_at, elements, others, items, no_state, with_name, with_names}
 use Rattle.js_syntax.specs.Classes.{is_name}
 

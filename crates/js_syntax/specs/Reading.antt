@@ -5,7 +5,7 @@ use Rattle.js_lexer.specs.declared.token.TokenKind.TheVariants as kinds
 use Rattle.js_tree.specs.Trees.{Identifier}
 use Rattle.js_language.specs.Tokens.{Token, End, head_of, tail_of, is_on_line, is_word, absent}
 use Rattle.js_language.specs.Well.{is_among}
-use Rattle.js_syntax.specs.Kinds.{is_kind}
+use Rattle.js_language.specs.Kinds.{is_kind}
 
 -- Why a reader stops: so many tokens are left from the one that goes on with no source of the language; or a tree would be too deep, and so many are left behind those that show it.
 pub data Fault : Type 0 where

@@ -3,7 +3,7 @@
 ghost use Rattle.std.specs.Prelude.{◌≡◌};
 ghost use Rattle.js_language.specs.Tokens.{head_of, is_on_line, tail_of};
 ghost use Rattle.js_syntax.specs.Giving.{Gives};
-ghost use Rattle.js_syntax.specs.Kinds.{is_kind};
+ghost use Rattle.js_language.specs.Kinds.{is_kind};
 ghost use Rattle.js_syntax.specs.Reading as reading;
 ghost use Rattle.js_syntax.specs.Views.{tokens_view};
 

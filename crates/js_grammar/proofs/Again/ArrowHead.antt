@@ -13,7 +13,7 @@ use Rattle.js_tree.specs.Trees.{Identifier, Expression, Expressions}
 use Rattle.js_language.specs.Tokens.{Token, fixed, identifier, identifier_name, plain, token, beside, trailing_comma, head_of, tail_of, IsNext, Matches}
 use Rattle.js_language.specs.Flat.{edge, flat, flat_expressions, more_expressions, trailing, flat_names, more_names, flat_parameters, unary_kind, update_kind, binary_kind, assign_kind}
 use Rattle.js_language.specs.Well.{level, Well, AreAssignments}
-use Rattle.js_syntax.specs.Kinds.{is_same_kind}
+use Rattle.js_language.specs.Kinds.{is_same_kind}
 use Rattle.js_syntax.specs.Classes as classes
 use Rattle.js_syntax.specs.Classes.{operator_by, joint_by, assigns_by, is_arrow, past_names, one_parameter, listed, no_arrow, listed_by, arrow_head}
 use Rattle.js_grammar.proofs.MarkLemmas.{parts}

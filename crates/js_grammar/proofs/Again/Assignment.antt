@@ -13,7 +13,7 @@ use Rattle.js_language.specs.Flat.{edge, flat, more_expressions, flat_parameters
 use Rattle.js_language.specs.Well.{function_body, level, begins_with_brace, AreFresh, DifferIn, declared_names, names_of_parameters, is_function, Well, WellStatements}
 use Rattle.js_tree.specs.Height.{height, height_of_statements}
 use Rattle.js_syntax.specs.Reading.{with_names}
-use Rattle.js_syntax.specs.Kinds.{is_kind}
+use Rattle.js_language.specs.Kinds.{is_kind}
 use Rattle.js_syntax.specs.Classes as classes
 use Rattle.js_syntax.specs.Classes.{start, link_by, no_link, update_by, operator_by, joint, no_joint, question, assigns_by, is_arrow}
 use Rattle.js_syntax.specs.Productions.{Below, tok, an_assignment, in_braces}

@@ -9,7 +9,7 @@ use Rattle.js_language.specs.Tokens.{Token, fixed, identifier, IsNext, Mark, tok
 use Rattle.js_language.specs.Flat.{let_or_const, flat, flat_optional, flat_declarators, flat_statement}
 use Rattle.js_language.specs.Well.{Context, WellOptional, WellStatement, is_some_declarator}
 use Rattle.js_tree.specs.Height.{height_of_statement}
-use Rattle.js_syntax.specs.Kinds.{is_kind}
+use Rattle.js_language.specs.Kinds.{is_kind}
 use Rattle.js_syntax.specs.Classes as classes
 use Rattle.js_syntax.specs.Classes.{first, first_by, is_name, each, declares, plain_head, for_head, for_head_by}
 use Rattle.js_syntax.specs.Productions.{Below, Values}

@@ -12,7 +12,7 @@ use Rattle.js_tree.specs.Trees.{Expression, Statement}
 use Rattle.js_language.specs.Tokens.{Token, Symbol, fixed, identifier, identifier_name, numeric_literal, string_literal, IsNext, Edge, plain, braces, update, End, after_expression, after_word, continues, absent, absent_before, Mark, token, semicolon, head_of, tail_of, is_on_line, Matches}
 use Rattle.js_language.specs.Flat.{edge, flat, flat_statement, unary_kind, update_kind}
 use Rattle.js_language.specs.Well.{Context, Well, WellStatement, begins_with_brace, begins_with_function}
-use Rattle.js_syntax.specs.Kinds.{is_kind, is_same_kind}
+use Rattle.js_language.specs.Kinds.{is_kind, is_same_kind}
 use Rattle.js_syntax.specs.Reading.{ends_list}
 use Rattle.js_syntax.specs.Classes.{link_by, no_link, update_by, operator_by, joint_by, no_joint, an_expression, first, first_by, ends_return}
 use Rattle.js_syntax.proofs.KindLemmas.{kind_is, kind_not, next_again}

@@ -3,7 +3,7 @@ use Rattle.std.proofs.Common.{◌≡◌, ℕ, zero, suc, ◌<◌, ◌≤◌, Boo
 use Rattle.js_lexer.specs.declared.token.TokenKind.{TokenKind}
 use Rattle.js_lexer.specs.declared.token.TokenKind.TheVariants as kinds
 use Rattle.js_language.specs.Tokens.{Token, fixed, Mark, token, beside, semicolon, trailing_comma, head_of, tail_of, Matches}
-use Rattle.js_syntax.specs.Kinds.{is_kind, is_same_kind}
+use Rattle.js_language.specs.Kinds.{is_kind, is_same_kind}
 use Rattle.js_syntax.specs.Reading.{Reader, elements, others, items, ends_list}
 use Rattle.js_syntax.proofs.KindLemmas.{next_again, kind_not}
 use Rattle.js_grammar.proofs.MarkLemmas.{parts}

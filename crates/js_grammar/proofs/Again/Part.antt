@@ -13,7 +13,7 @@ use Rattle.js_language.specs.Flat.{edge, edge_of_last, end_of_declarators, an_id
 use Rattle.js_language.specs.Well.{Context, function_body, level, Well, WellOptional, AreAssignments, WellDeclarator, WellDeclarators, has_initializer, IsInitialized, is_some_declarator, WellStatement, WellStatements, is_among, AreFresh, DifferIn, declared_by, declared_names, names_of_declarators}
 use Rattle.js_tree.specs.Height.{height, height_of_optional, height_of_expressions, height_of_declarator, height_of_declarators, height_of_statement, height_of_statements}
 use Rattle.js_tree.specs.Views.{expressions, statements, declarators}
-use Rattle.js_syntax.specs.Kinds.{is_kind}
+use Rattle.js_language.specs.Kinds.{is_kind}
 use Rattle.js_syntax.specs.Reading.{expect, name_at, fresh_name, elements, others, items, ends_list, no_state, with_name, with_names}
 use Rattle.js_syntax.specs.Productions.{Code, Below, one_of, arguments_before, more_assignments, names_before, parameters_at, with_declared, items_at, braces, code_at, declarator_at, name_of, with_declarator, declarators_at, optional_before, ended_expression}
 use Rattle.js_syntax.proofs.KindLemmas.{next_again, kind_not}

@@ -13,7 +13,7 @@ use Rattle.js_language.specs.Flat.{edge, flat, flat_key, flat_property, flat_pro
 use Rattle.js_language.specs.Well.{WellKey, WellProperty, WellProperties}
 use Rattle.js_tree.specs.Height.{height_of_key, height_of_property, height_of_properties}
 use Rattle.js_tree.specs.Views.{properties}
-use Rattle.js_syntax.specs.Kinds.{is_kind, is_same_kind}
+use Rattle.js_language.specs.Kinds.{is_kind, is_same_kind}
 use Rattle.js_syntax.specs.Reading.{elements, no_state}
 use Rattle.js_syntax.specs.Classes as classes
 use Rattle.js_syntax.specs.Classes.{a_word_key, a_string_key, a_number_key, a_computed_key, no_key, key_start, key_start_by, AfterKey, after_key, after_key_by, is_shorthand, is_shorthand_by}

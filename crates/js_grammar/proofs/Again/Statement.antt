@@ -11,7 +11,7 @@ use Rattle.js_language.specs.Flat as flats
 use Rattle.js_language.specs.Flat.{edge, end_of_declarators, on_line, flat, flat_declarators, flat_parameters, flat_statement, flat_statements, flat_handler, flat_finalizer}
 use Rattle.js_language.specs.Well.{Context, Well, WellStatement, WellHandler, WellFinalizer, is_statement, is_handled, AreFresh, declared_by}
 use Rattle.js_tree.specs.Height.{height_of_statement, height_of_handler, height_of_finalizer}
-use Rattle.js_syntax.specs.Kinds.{is_kind}
+use Rattle.js_language.specs.Kinds.{is_kind}
 use Rattle.js_syntax.specs.Reading.{◌>>=◌, fresh_name}
 use Rattle.js_syntax.specs.Classes as classes
 use Rattle.js_syntax.specs.Classes.{First, first, ends_return}

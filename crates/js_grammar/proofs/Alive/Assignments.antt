@@ -12,7 +12,7 @@ use Rattle.js_language.specs.Flat as flats
 use Rattle.js_language.specs.Flat.{assign_kind, flat, flat_expressions, more_expressions, flat_parameters, flat_arrow_parameters}
 use Rattle.js_language.specs.Well.{function_body, is_target, Well, AreAssignments, AreFresh, names_of_parameters, begins_with_brace, is_two_expressions, declared_names}
 use Rattle.js_tree.specs.Height.{height}
-use Rattle.js_syntax.specs.Kinds.{is_kind}
+use Rattle.js_language.specs.Kinds.{is_kind}
 use Rattle.js_syntax.specs.Reading.{Fault, stuck, Read, ◌>>=◌, expect, expect_near, name_at, elements, no_state, with_names}
 use Rattle.js_syntax.specs.Classes as classes
 use Rattle.js_syntax.specs.Classes.{Start, start, Joint, question, assigns_by, no_joint, joint_by, joint, is_arrow, past_names, Head, one_parameter, listed, no_arrow, listed_by, head_by, arrow_head}

@@ -8,7 +8,7 @@ use Rattle.js_tree.specs.Trees.{Identifier, Expression, Statement}
 use Rattle.js_language.specs.Tokens.{Token, fixed, identifier, identifier_name, numeric_literal, Mark, token, beside, semicolon, plain, after_expression, after_word, after_do, head_of, tail_of, IsNext, Matches}
 use Rattle.js_language.specs.Flat.{edge, unary_kind, update_kind, flat, flat_statement}
 use Rattle.js_language.specs.Well.{Context}
-use Rattle.js_syntax.specs.Kinds.{is_kind}
+use Rattle.js_language.specs.Kinds.{is_kind}
 use Rattle.js_syntax.specs.Reading.{deep}
 use Rattle.js_syntax.specs.Classes as classes
 use Rattle.js_syntax.specs.Classes.{Start, start, Prefix, deletes, a_unary, an_update, no_prefix, prefix, First}

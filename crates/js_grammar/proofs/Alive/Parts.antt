@@ -14,7 +14,7 @@ use Rattle.js_language.specs.Flat as flats
 use Rattle.js_language.specs.Flat.{edge, flat, flat_expressions, more_expressions, trailing, an_identifier, flat_parameters, flat_declarator, flat_declarators, flat_statement, flat_statements}
 use Rattle.js_language.specs.Well.{Context, function_body, level, Well, AreAssignments, WellDeclarator, WellDeclarators, IsInitialized, is_some_declarator, WellStatement, WellStatements, is_statement, is_among, AreFresh, DifferIn, declared_by, declared_names, names_of_declarators}
 use Rattle.js_tree.specs.Views.{expressions, statements, declarators}
-use Rattle.js_syntax.specs.Kinds.{is_same_kind, is_kind}
+use Rattle.js_language.specs.Kinds.{is_same_kind, is_kind}
 use Rattle.js_syntax.specs.Classes.{is_name}
 use Rattle.js_syntax.specs.Reading.{Fault, stuck, ◌>>=◌, expect, expect_near, name_at, fresh_name, text_of, semicolon_at, elements, others, items, no_state, with_name, with_names}
 use Rattle.js_syntax.specs.Productions.{Code, Below, one_of, arguments_before, more_assignments, parameters_at, with_declared, items_at, braces, code_at, initializer_by, declarator_at, name_of, with_declarator, declarators_at, optional_by, optional_before, ended_expression, Item, tok, near, a_name, the_name, an_assignment, an_expression, optional, arguments, ended, an_end, declared, a_statement, a_block, in_braces, code, Value, Values, expect_name, item, seq, made}

@@ -9,7 +9,7 @@ use Rattle.js_tree.specs.Trees.{Identifier, Expression, Statement, Statements, H
 use Rattle.js_language.specs.Tokens.{Token, fixed, identifier, numeric_literal, Mark, token, beside, semicolon, plain, after_expression, after_word, head_of, tail_of, IsNext, is_on_line, Matches}
 use Rattle.js_language.specs.Flat.{edge, end_of_declarators, on_line, let_or_const, flat, flat_optional, flat_parameters, flat_declarators, flat_statement, flat_statements, flat_handler, flat_finalizer}
 use Rattle.js_language.specs.Well.{Context, Well, WellHandler, WellFinalizer, is_handled}
-use Rattle.js_syntax.specs.Kinds.{is_kind}
+use Rattle.js_language.specs.Kinds.{is_kind}
 use Rattle.js_syntax.specs.Classes as classes
 use Rattle.js_syntax.specs.Classes.{First, first_by, first, ends_return, ForHead, each, declares, plain_head, for_head}
 use Rattle.js_syntax.specs.Reading.{Fault, stuck, Read, ◌>>=◌, expect, fresh_name, semicolon_at}

@@ -5,7 +5,7 @@ use Rattle.js_tree.specs.Trees as trees
 use Rattle.js_tree.specs.Trees.{Identifier, Expression}
 use Rattle.js_language.specs.Tokens.{Token, fixed, identifier, token, beside, head_of, tail_of, is_on_line}
 use Rattle.js_language.specs.Flat.{flat}
-use Rattle.js_syntax.specs.Kinds.{is_kind}
+use Rattle.js_language.specs.Kinds.{is_kind}
 use Rattle.js_syntax.specs.Reading.{Fault, deep, Reader, ◌>>=◌}
 use Rattle.js_syntax.specs.Classes as classes
 use Rattle.js_syntax.specs.Classes.{Start, start, is_arrow, past_names, no_arrow, listed_by}

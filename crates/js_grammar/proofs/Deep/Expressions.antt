@@ -9,7 +9,7 @@ use Rattle.js_language.specs.Flat.{assign_kind}
 use Rattle.js_language.specs.Well.{function_body, is_target}
 use Rattle.js_tree.specs.Height.{height, height_of_key}
 use Rattle.js_tree.specs.Views.{properties}
-use Rattle.js_syntax.specs.Kinds.{is_kind}
+use Rattle.js_language.specs.Kinds.{is_kind}
 use Rattle.js_syntax.specs.Reading.{stuck, deep, ◌>>=◌, expect_near, elements, no_state, with_names}
 use Rattle.js_syntax.specs.Classes as classes
 use Rattle.js_syntax.specs.Classes.{start, update_near, question, assigns_by, no_joint, joint, key_start, AfterKey, after_key}

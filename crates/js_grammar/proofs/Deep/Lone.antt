@@ -8,7 +8,7 @@ use Rattle.js_tree.specs.Trees as trees
 use Rattle.js_tree.specs.Trees.{Identifier, Expression}
 use Rattle.js_language.specs.Tokens.{Token, head_of, tail_of}
 use Rattle.js_tree.specs.Height.{height}
-use Rattle.js_syntax.specs.Kinds.{is_kind}
+use Rattle.js_language.specs.Kinds.{is_kind}
 use Rattle.js_syntax.specs.Reading.{stuck, deep, Read, Reader, ◌>>=◌}
 use Rattle.js_syntax.specs.Classes as classes
 use Rattle.js_syntax.specs.Classes.{Start, start, Link, dot, key, no_link, link, update_near, operator, Joint, question, assigns_by, no_joint, joint, is_arrow}

@@ -9,7 +9,7 @@ use Rattle.js_tree.specs.Trees.{Expression}
 use Rattle.js_language.specs.Tokens.{head_of, tail_of}
 use Rattle.js_language.specs.Well.{strength, is_property, is_target}
 use Rattle.js_tree.specs.Height.{height}
-use Rattle.js_syntax.specs.Kinds.{is_kind}
+use Rattle.js_language.specs.Kinds.{is_kind}
 use Rattle.js_syntax.specs.Reading.{stuck, deep, Read, Reader, ◌>>=◌, word_at}
 use Rattle.js_syntax.specs.Classes as classes
 use Rattle.js_syntax.specs.Classes.{Link, dot, key, no_link, link, update_near, deletes, a_unary, an_update, no_prefix, prefix, operator}

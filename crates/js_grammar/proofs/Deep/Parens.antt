@@ -9,7 +9,7 @@ use Rattle.js_language.specs.Tokens.{Token, head_of}
 use Rattle.js_grammar.proofs.Follows.Tools.{head_past}
 use Rattle.js_tree.specs.Height.{height}
 use Rattle.js_tree.specs.Views.{expressions}
-use Rattle.js_syntax.specs.Kinds.{is_kind}
+use Rattle.js_language.specs.Kinds.{is_kind}
 use Rattle.js_syntax.specs.Reading.{deep, Reader, ◌>>=◌}
 use Rattle.js_syntax.specs.Classes.{is_arrow, past_names, no_arrow, listed_by}
 use Rattle.js_syntax.specs.Productions.{Below, more_assignments}

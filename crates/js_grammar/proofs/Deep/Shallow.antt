@@ -7,7 +7,7 @@ use Rattle.js_tree.specs.Trees.{Identifier, Expression, Statement, Statements}
 use Rattle.js_language.specs.Tokens.{Token, fixed, Mark, token, head_of, tail_of}
 use Rattle.js_language.specs.Flat.{flat, flat_statement}
 use Rattle.js_language.specs.Well.{Context}
-use Rattle.js_syntax.specs.Kinds.{is_kind}
+use Rattle.js_language.specs.Kinds.{is_kind}
 use Rattle.js_syntax.specs.Reading.{Fault, stuck, deep, Reader}
 use Rattle.js_syntax.specs.Classes as classes
 use Rattle.js_syntax.specs.Classes.{start, prefix, First, first}

@@ -8,7 +8,7 @@ use Rattle.js_language.specs.Tokens.{after_word, head_of, tail_of, is_on_line}
 use Rattle.js_language.specs.Flat.{end_of_declarators}
 use Rattle.js_language.specs.Well.{Context}
 use Rattle.js_tree.specs.Views.{declarators}
-use Rattle.js_syntax.specs.Kinds.{is_kind}
+use Rattle.js_language.specs.Kinds.{is_kind}
 use Rattle.js_syntax.specs.Classes as classes
 use Rattle.js_syntax.specs.Classes.{First, first, ends_return, is_name, for_head_by, for_head}
 use Rattle.js_syntax.specs.Reading.{stuck, Reader, ◌>>=◌, expect, name_at, fresh_name, semicolon_at, others}

@@ -5,7 +5,7 @@ use Rattle.std.proofs.lemmas.List.{length-append}
 use Rattle.js_lexer.specs.declared.token.TokenKind.TheVariants as kinds
 use Rattle.js_tree.specs.Trees.{Identifier}
 use Rattle.js_language.specs.Tokens.{Token, head_of}
-use Rattle.js_syntax.specs.Kinds.{is_kind}
+use Rattle.js_language.specs.Kinds.{is_kind}
 use Rattle.js_syntax.specs.Reading.{stuck, deep, Read, Reader, ◌>>=◌, expect, name_at, after, go_after, elements, others_by, others, no_state}
 use Rattle.js_syntax.specs.Classes.{is_arrow, past_names, listed, no_arrow, listed_by}
 use Rattle.js_syntax.specs.Productions.{one_of}

@@ -9,7 +9,7 @@ use Rattle.js_tree.specs.Trees.{Identifier, Expression, Expressions}
 use Rattle.js_language.specs.Tokens.{Token, fixed, head_of, tail_of, identifier, IsNext}
 use Rattle.js_tree.specs.Height.{height}
 use Rattle.js_tree.specs.Views.{expressions}
-use Rattle.js_syntax.specs.Kinds.{is_same_kind, is_kind}
+use Rattle.js_language.specs.Kinds.{is_same_kind, is_kind}
 use Rattle.js_syntax.specs.Reading.{stuck, deep, Read, Reader, ◌>>=◌, expect, others, no_state}
 use Rattle.js_syntax.specs.Classes as classes
 use Rattle.js_syntax.specs.Classes.{Start, start_by, start, link_by, link, no_link, update_by, update_near, no_prefix, prefix, operator_by, operator, joint_by, joint, no_joint, is_arrow, past_names, Head, one_parameter, listed, no_arrow, listed_by, head_by}

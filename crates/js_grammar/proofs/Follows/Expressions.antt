@@ -12,7 +12,7 @@ use Rattle.js_language.specs.Flat.{assign_kind}
 use Rattle.js_language.specs.Well.{function_body, strength, is_property, is_target}
 use Rattle.js_tree.specs.Height.{height, height_of_key}
 use Rattle.js_tree.specs.Views.{properties}
-use Rattle.js_syntax.specs.Kinds.{is_kind}
+use Rattle.js_language.specs.Kinds.{is_kind}
 use Rattle.js_syntax.specs.Reading.{stuck, deep, Reader, ◌>>=◌, expect_near, text_of, name_at, word_at, elements, no_state, with_names}
 use Rattle.js_syntax.specs.Classes as classes
 use Rattle.js_syntax.specs.Classes.{start, Link, dot, key, no_link, link, update_near, deletes, a_unary, an_update, no_prefix, prefix, operator, Joint, question, assigns_by, no_joint, joint, key_start, AfterKey, after_key, is_shorthand_by}

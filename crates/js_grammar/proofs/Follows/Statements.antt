@@ -9,7 +9,7 @@ use Rattle.js_language.specs.Tokens.{Token, fixed, after_word, head_of, tail_of,
 use Rattle.js_language.specs.Flat.{end_of_declarators}
 use Rattle.js_language.specs.Well.{Context, loop_body}
 use Rattle.js_tree.specs.Views.{declarators}
-use Rattle.js_syntax.specs.Kinds.{is_kind}
+use Rattle.js_language.specs.Kinds.{is_kind}
 use Rattle.js_syntax.specs.Classes as classes
 use Rattle.js_syntax.specs.Classes.{First, first, ends_return, is_name, ForHead, each, declares, plain_head, for_head_by, for_head}
 use Rattle.js_syntax.specs.Reading.{stuck, Read, Reader, ◌>>=◌, expect, text_of, name_at, fresh_name, semicolon_at, others}

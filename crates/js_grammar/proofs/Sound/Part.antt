@@ -13,7 +13,7 @@ use Rattle.js_language.specs.Flat.{edge, flat, flat_optional, flat_expressions, 
 use Rattle.js_language.specs.Well.{Context, function_body, level, Well, WellOptional, AreAssignments, WellDeclarator, WellDeclarators, has_initializer, IsInitialized, is_some_declarator, WellStatement, WellStatements, is_among, AreFresh, declared_by, declared_names, names_of_declarators}
 use Rattle.js_tree.specs.Height.{height, height_of_optional, height_of_expressions, height_of_declarator, height_of_declarators, height_of_statement, height_of_statements}
 use Rattle.js_tree.specs.Views.{expressions, statements, declarators}
-use Rattle.js_syntax.specs.Kinds.{is_kind}
+use Rattle.js_language.specs.Kinds.{is_kind}
 use Rattle.js_syntax.specs.Classes.{is_name}
 use Rattle.js_syntax.specs.Reading.{stuck, ◌>>=◌, expect, name_at, fresh_name, semicolon_at, elements, others, items, ends_list, no_state, with_name, with_names}
 use Rattle.js_syntax.specs.Productions.{Code, Below, one_of, arguments_before, more_assignments, names_before, parameters_at, with_declared, items_at, braces, code_at, initializer_by, declarator_at, name_of, with_declarator, declarators_at, optional_by, optional_before, ended_expression, Item, tok, near, a_name, the_name, an_assignment, an_expression, optional, arguments, ended, an_end, declared, a_statement, a_block, in_braces, code, Value, Values, expect_name, item, seq}

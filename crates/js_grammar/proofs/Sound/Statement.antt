@@ -11,7 +11,7 @@ use Rattle.js_language.specs.Flat as flats
 use Rattle.js_language.specs.Flat.{edge, end_of_declarators, on_line, let_or_const, flat, flat_optional, flat_parameters, flat_declarators, flat_statement, flat_statements, flat_handler, flat_finalizer}
 use Rattle.js_language.specs.Well.{Context, begins_with_brace, begins_with_function, WellHandler, WellFinalizer, is_statement, ends_in_if, is_handled, AreFresh, declared_by}
 use Rattle.js_tree.specs.Height.{height_of_statements, height_of_handler, height_of_finalizer}
-use Rattle.js_syntax.specs.Kinds.{is_kind}
+use Rattle.js_language.specs.Kinds.{is_kind}
 use Rattle.js_syntax.specs.Classes as classes
 use Rattle.js_syntax.specs.Classes.{First, first, ends_return, ForHead, each, declares, plain_head, for_head}
 use Rattle.js_syntax.specs.Reading.{stuck, ◌>>=◌, fresh_name, semicolon_at}
