@@ -1,2 +1,2 @@
-mod Sources
+pub mod Sources
 pub mod PlaceLemmas

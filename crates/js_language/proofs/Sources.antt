@@ -16,27 +16,27 @@ use Rattle.js_tree.specs.Height.{height, height_of_statement}
 use Rattle.js_language.specs.Language.{IsScript, IsExpression, IsFunction}
 
 -- a token on the line of the one before it: a punctuator, a reserved word, a name, a string literal, a number
-abbrev a : TokenKind → Token
+abbrev pub a : TokenKind → Token
 a kind = record { kind = kind; string_value = []; numeric_value = 0; newline_before = false; start = 0; end = 0 }
 
-abbrev reserved : TokenKind → String → Token
+abbrev pub reserved : TokenKind → String → Token
 reserved kind text = record (a kind) { string_value = codes text }
 
-abbrev w : String → Token
+abbrev pub w : String → Token
 w text = record (a k.Name) { string_value = codes text }
 
-abbrev s : String → Token
+abbrev pub s : String → Token
 s text = record (a k.String) { string_value = codes text }
 
-abbrev d : ℕ → Token
+abbrev pub d : ℕ → Token
 d n = record (a k.Number) { numeric_value = n }
 
 -- the same behind a line terminator
-abbrev nl : Token → Token
+abbrev pub nl : Token → Token
 nl t = record t { newline_before = true }
 
 -- a name as an expression
-abbrev v : String → Expression
+abbrev pub v : String → Expression
 v text = name (codes text)
 
 -- ---- sources of the language

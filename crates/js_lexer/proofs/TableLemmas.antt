@@ -12,7 +12,8 @@ use Rattle.js_lexer.specs.Punctuators.{punctuators}
 use Rattle.js_lexer.specs.Tokens.{IsListed}
 use Rattle.js_lexer.proofs.SpellingLemmas.{prefix_is, prefix_self}
 
-abbrev Entry : Type 0
+-- an entry of a table
+abbrev pub Entry : Type 0
 Entry = TokenKind × List ℕ
 
 -- what holds of each entry holds of one

@@ -23,7 +23,7 @@ use Rattle.js_lexer.specs.Written.{Written, AreTokens, blank_before, written, le
 use Rattle.js_lexer.proofs.LeadingLemmas.{leading_exact}
 use Rattle.js_lexer.proofs.RunLemmas.{run_stops, run_more}
 use Rattle.js_lexer.proofs.NumberLemmas.{number_begins, number_parts, number_some}
-use Rattle.js_lexer.proofs.TableLemmas.{kind_is, all_listed, reserved_is_word}
+use Rattle.js_lexer.proofs.TableLemmas.{Entry, kind_is, all_listed, reserved_is_word}
 use Rattle.js_lexer.proofs.LiteralLemmas.{literal_known, literal_begins}
 use Rattle.js_lexer.proofs.FrontLemmas.{begins_front, word_begins, word_parts, start_no_digit, quote_first, longest_here}
 use Rattle.js_lexer.proofs.TilingLemmas.{no_more, one_more}
@@ -42,9 +42,6 @@ no_going_on : (more : List ℕ) → Breaks more → begins goes_on more ≡ fals
 no_going_on [] b = refl
 no_going_on (c ∷ cs) (true, b) = rw b refl
 no_going_on (c ∷ cs) (false, b) = rw b refl
-
-abbrev Entry : Type 0
-Entry = TokenKind × List ℕ
 
 abbrev pub found : TokenKind → ℕ → Option (TokenKind × ℕ)
 found k n = Some (k, n)

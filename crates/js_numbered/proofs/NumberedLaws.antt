@@ -54,16 +54,16 @@ fits = record {
 -- ---- one level of each type
 
 -- the clean trees of the parts, and their places
-abbrev CleanLayer : Former → Type 0
+abbrev pub CleanLayer : Former → Type 0
 CleanLayer F = F Expression Property Key Statement Statements Handler trees.Declarator trees.Declarators Expressions Properties Statements
 
-abbrev clean_parts : (F : Former) → Mapper F → Level F → CleanLayer F
+abbrev pub clean_parts : (F : Former) → Mapper F → Level F → CleanLayer F
 clean_parts F change = change Expr PropertyDefinition PropertyName Stmt Block Catch Declarator Declarators Exprs PropertyDefinitions Stmts Expression Property Key Statement Statements Handler trees.Declarator trees.Declarators Expressions Properties Statements expression_view property_view key_view statement_view block_view catch_view declarator_view declarators_view expressions_view properties_view statements_view
 
-abbrev PlaceLayer : Former → Type 0
+abbrev pub PlaceLayer : Former → Type 0
 PlaceLayer F = F (List Place) (List Place) (List Place) (List Place) (List Place) (List Place) (List Place) (List Place) (List Place) (List Place) (List Place)
 
-abbrev place_parts : (F : Former) → Mapper F → Level F → PlaceLayer F
+abbrev pub place_parts : (F : Former) → Mapper F → Level F → PlaceLayer F
 place_parts F change = change Expr PropertyDefinition PropertyName Stmt Block Catch Declarator Declarators Exprs PropertyDefinitions Stmts (List Place) (List Place) (List Place) (List Place) (List Place) (List Place) (List Place) (List Place) (List Place) (List Place) (List Place) expression_places property_places key_places statement_places block_places catch_places declarator_places declarators_places expressions_places properties_places statements_places
 
 -- trees of which it is known

@@ -3,22 +3,16 @@ use Rattle.std.proofs.Common.{◌≡◌, ℕ, ◌+◌, List, [], ◌∷◌, Opti
 use Rattle.std.specs.List.{range_with_len}
 use Rattle.js_tree.specs.declared.tree.Expr.{Expr}
 use Rattle.js_tree.specs.declared.tree.PropertyDefinition.{PropertyDefinition}
-use Rattle.js_tree.specs.declared.tree.PropertyName.{PropertyName}
 use Rattle.js_tree.specs.declared.tree.Stmt.{Stmt}
 use Rattle.js_tree.specs.declared.tree.Block.{Block}
 use Rattle.js_tree.specs.declared.tree.Catch.{Catch}
 use Rattle.js_tree.specs.declared.tree.Declarator.{Declarator}
-use Rattle.js_tree.specs.declared.tree.Declarators.{Declarators}
-use Rattle.js_tree.specs.declared.tree.Exprs.{Exprs}
-use Rattle.js_tree.specs.declared.tree.PropertyDefinitions.{PropertyDefinitions}
-use Rattle.js_tree.specs.declared.tree.Stmts.{Stmts}
 use Rattle.js_lexer.specs.declared.token.TokenKind.TheVariants as kinds
 use Rattle.js_tree.specs.declared.tree.Expr.TheOpen as layers
 use Rattle.js_tree.specs.declared.tree.Expr.TheOpen.{Expr-F, Stmt-F, PropertyName-F, PropertyDefinition-F}
 use Rattle.js_tree.specs.declared.tree.Expr.TheFolds.{map-Expr, map-PropertyDefinition, map-PropertyName, map-Stmt, map-Block, map-Catch, map-Declarator, map-Declarators, map-Exprs, map-PropertyDefinitions, map-Stmts}
 use Rattle.js_tree.specs.declared.tree.Expr.TheViews as views
-use Rattle.js_tree.specs.Trees as trees
-use Rattle.js_tree.specs.Trees.{Expression, Expressions, Key, Property, Properties, Statement, Statements, Handler}
+use Rattle.js_tree.specs.Trees.{Expression}
 use Rattle.js_tree.specs.Views.{parameters_view, expressions, statements, properties, declarators, handler, finalizer, expression_step, property_step, key_step, statement_step, block_step, catch_step, declarator_step, declarators_step, expressions_step, properties_step, statements_step, expression_view, property_view, key_view, statement_view, block_view, catch_view, declarator_view, declarators_view, expressions_view, properties_view, statements_view}
 use Rattle.js_tree.proofs.ViewLemmas.{expression_roll, property_roll, key_roll, statement_roll, block_roll, catch_roll, declarator_roll, declarators_roll, expressions_roll, properties_roll, statements_roll}
 use Rattle.js_language.specs.Tokens.{identifier_name, numeric_literal, string_literal}
@@ -29,6 +23,7 @@ use Rattle.js_semantics.proofs.TreeFolds.{Former, Mapper, Level, Claims, Known, 
 use Rattle.js_numbered.specs.Numbering.{Counted}
 use Rattle.js_numbered.specs.NumberedPlaces.{in_row, node_placed, braced, comma_separated, expression_placed, expressions_placed, key_placed, property_placed, properties_placed, declarator_placed, declarators_placed, statement_placed, handler_placed, statements_placed, numbered_places}
 use Rattle.js_numbered.proofs.CountLemmas.{range_counts}
+use Rattle.js_numbered.proofs.NumberedLaws.{clean_parts, place_parts}
 use Rattle.js_numbered.proofs.PlacingLemmas.{Stand, AllStand, tokens-stand, may-stand, nothing-stands, before-stands, row-stands, node-stands, braces-stand, parentheses-stand, commas-stand, carried}
 
 -- ---- what is claimed of a tree of each type
@@ -49,19 +44,6 @@ stands_so = record {
 }
 
 -- ---- one level of each type
-
--- the clean trees of the parts, and their places
-abbrev CleanLayer : Former → Type 0
-CleanLayer F = F Expression Property Key Statement Statements Handler trees.Declarator trees.Declarators Expressions Properties Statements
-
-abbrev clean_parts : (F : Former) → Mapper F → Level F → CleanLayer F
-clean_parts F change = change Expr PropertyDefinition PropertyName Stmt Block Catch Declarator Declarators Exprs PropertyDefinitions Stmts Expression Property Key Statement Statements Handler trees.Declarator trees.Declarators Expressions Properties Statements expression_view property_view key_view statement_view block_view catch_view declarator_view declarators_view expressions_view properties_view statements_view
-
-abbrev PlaceLayer : Former → Type 0
-PlaceLayer F = F (List Place) (List Place) (List Place) (List Place) (List Place) (List Place) (List Place) (List Place) (List Place) (List Place) (List Place)
-
-abbrev place_parts : (F : Former) → Mapper F → Level F → PlaceLayer F
-place_parts F change = change Expr PropertyDefinition PropertyName Stmt Block Catch Declarator Declarators Exprs PropertyDefinitions Stmts (List Place) (List Place) (List Place) (List Place) (List Place) (List Place) (List Place) (List Place) (List Place) (List Place) (List Place) expression_places property_places key_places statement_places block_places catch_places declarator_places declarators_places expressions_places properties_places statements_places
 
 -- trees of which it is known
 abbrev trees_of : (F : Former) → Mapper F → Known stands_so F → Level F

@@ -8,11 +8,7 @@ use Rattle.js_syntax.specs.declared.fault.ParseError.TheVariants as errors
 use Rattle.js_syntax.specs.Giving.{Fails}
 use Rattle.js_language.specs.Kinds.{is_kind}
 use Rattle.js_syntax.specs.Reading.{Fault, stuck, deep, Read, Reader, ◌>>=◌, goes_on, ends, neither, after, go_after, elements, others, ends_list, items}
-use Rattle.js_syntax.proofs.LoopStepLemmas.{with_nothing, append_nil}
-
--- what was read, in front of what is still read
-abbrev pub with_front : {A : Type 0} → List A → Read (List A) → Read (List A)
-with_front front read = read >>= λ x. Ok (front ++ x.0, x.1)
+use Rattle.js_syntax.proofs.LoopStepLemmas.{with_front, with_nothing, append_nil}
 
 regroup : {A : Type 0} (front : List A) (x : A) (read : Read (List A)) → with_front front (read >>= λ y. Ok (x ∷ y.0, y.1)) ≡ with_front (front ++ x ∷ []) read
 regroup front x (Ok y) = ap (λ xs. Ok (xs, y.1)) (sym (append_assoc front (x ∷ []) y.0))

@@ -1,43 +1,17 @@
 -- Small sources and what the readers answer, computed.
-use Rattle.std.proofs.Common.{◌≡◌, ℕ, true, false, [], ◌∷◌, Some, None, Ok, refl}
+use Rattle.std.proofs.Common.{◌≡◌, true, false, [], ◌∷◌, Some, None, Ok, refl}
 use lib.Chars.{codes}
-use Prim.Native.String.{String}
-use Rattle.js_lexer.specs.declared.token.TokenKind.{TokenKind}
 use Rattle.js_lexer.specs.declared.token.TokenKind.TheVariants as k
 use Rattle.js_operators.specs.declared.operator.UnaryOperator.TheVariants as unaries
 use Rattle.js_operators.specs.declared.operator.UpdateOperator.TheVariants as updates
 use Rattle.js_operators.specs.declared.operator.BinaryOperator.TheVariants as binaries
 use Rattle.js_operators.specs.declared.operator.AssignmentOperator.TheVariants as assigns
-use Rattle.js_tree.specs.Trees.{one_name, name_list, Expression, this, name, number, string, boolean, null, array, object, function, arrow, arrow_block, parenthesized, member, index, call, postfix, prefix, unary, binary, conditional, assign, comma, omitted, present, word_key, string_key, number_key, computed_key, shorthand, value, method, declarator, block, lexical, empty, expression, if_then, if_else, do_while, while, for, for_lexical, for_of, continue, break, return, throw, try, debugger, declared_function, catch, no_finally, finally}
+use Rattle.js_tree.specs.Trees.{one_name, name_list, this, number, string, boolean, null, array, object, function, arrow, arrow_block, parenthesized, member, index, call, postfix, prefix, unary, binary, conditional, assign, comma, omitted, present, word_key, string_key, number_key, computed_key, shorthand, value, method, declarator, block, lexical, empty, expression, if_then, if_else, do_while, while, for, for_lexical, for_of, continue, break, return, throw, try, debugger, declared_function, catch, no_finally, finally}
 use Rattle.js_tree.specs.Views.{expressions, statements, properties, declarators}
-use Rattle.js_language.specs.Tokens.{Token}
+use Rattle.js_language.proofs.Sources.{a, reserved, w, s, d, nl, v}
 use Rattle.js_syntax.specs.Reading as r
 use Rattle.js_syntax.specs.Productions as q
 use Rattle.js_syntax.specs.Parsing as p
-
--- a token on the line of the one before it: a punctuator, a reserved word, a name, a string literal, a number
-abbrev a : TokenKind → Token
-a kind = record { kind = kind; string_value = []; numeric_value = 0; newline_before = false; start = 0; end = 0 }
-
-abbrev reserved : TokenKind → String → Token
-reserved kind text = record (a kind) { string_value = codes text }
-
-abbrev w : String → Token
-w text = record (a k.Name) { string_value = codes text }
-
-abbrev s : String → Token
-s text = record (a k.String) { string_value = codes text }
-
-abbrev d : ℕ → Token
-d n = record (a k.Number) { numeric_value = n }
-
--- the same behind a line terminator
-abbrev nl : Token → Token
-nl t = record t { newline_before = true }
-
--- a name as an expression
-abbrev v : String → Expression
-v text = name (codes text)
 
 -- ---- sources of the language
 

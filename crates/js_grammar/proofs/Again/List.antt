@@ -7,37 +7,11 @@ use Rattle.js_language.specs.Kinds.{is_kind, is_same_kind}
 use Rattle.js_syntax.specs.Reading.{Reader, elements, others, items, ends_list}
 use Rattle.js_syntax.proofs.KindLemmas.{next_again, kind_not}
 use Rattle.js_grammar.proofs.MarkLemmas.{parts}
+use Rattle.js_grammar.proofs.Sound.List.{behind_commas, with_commas, behind_last, in_a_row, AllGood}
 use Rattle.js_syntax.proofs.LoopStepLemmas.{tail_shorter}
 use Rattle.js_syntax.proofs.PlacedTokenLemmas.{next_shorter}
 
--- ---- marks of lists
-
--- elements behind the first, each behind a comma
-abbrev pub behind_commas : {A : Type 0} → (A → List Mark) → List A → List Mark
-behind_commas f [] = []
-behind_commas f (x ∷ xs) = token (fixed kinds.Comma) ∷ (f x ++ behind_commas f xs)
-
--- elements with commas between
-abbrev pub with_commas : {A : Type 0} → (A → List Mark) → List A → List Mark
-with_commas f [] = []
-with_commas f (x ∷ xs) = f x ++ behind_commas f xs
-
--- a trailing comma behind a list that isn't empty
-abbrev pub comma_behind : {A : Type 0} → List A → List Mark
-comma_behind [] = []
-comma_behind (x ∷ xs) = trailing_comma ∷ []
-
--- elements one after the other
-abbrev pub all_marks : {A : Type 0} → (A → List Mark) → List A → List Mark
-all_marks f [] = []
-all_marks f (x ∷ xs) = f x ++ all_marks f xs
-
 -- ---- what elements are
-
--- each element is good for the state that those before it made
-abbrev pub AllGood : {S A : Type 0} → (S → A → S) → (S → A → Type 0) → S → List A → Type 0
-AllGood next Good s [] = Unit {0}
-AllGood next Good s (x ∷ xs) = Good s x × AllGood next Good (next s x) xs
 
 -- a good element is read again before what ends it
 abbrev pub ReadAgain : {S A : Type 0} → (S → Reader A) → (A → List Mark) → (S → A → Type 0) → (A → List Token → Type 0) → Type 0
@@ -70,7 +44,7 @@ pub elements_again : {S A : Type 0} (one : S → Reader A) (next : S → A → S
     → BeginsWithout f Good (λ o. is_kind closer o)
     → ReadAgain one f Good (λ x r. EndsElement closer r)
     → (xs : List A) (k : ℕ) (s : S) (ts r : List Token) → AllGood next Good s xs → length ts < k
-    → Matches (with_commas f xs ++ (comma_behind xs ++ (token (fixed closer) ∷ []))) ts r
+    → Matches (with_commas f xs ++ (behind_last xs ++ (token (fixed closer) ∷ []))) ts r
     → elements one next closer k s ts ≡ Ok (xs, r)
 unfolding elements
 elements_again one next f Good closer apart begins again xs zero s ts r g low m = absurd (omega (arith, low))
@@ -166,7 +140,7 @@ pub items_again : {S A : Type 0} (one : S → Reader A) (next : S → A → S) (
     → ReadAgain one f Good Ends
     → (xs : List A) (k : ℕ) (s : S) (ts r : List Token) → AllGood next Good s xs → length ts < k
     → ends_list (head_of r) ≡ true
-    → Matches (all_marks f xs) ts r
+    → Matches (in_a_row f xs) ts r
     → items one next k s ts ≡ Ok (xs, r)
 unfolding items
 items_again one next f Good Ends begins at_end before again xs zero s ts r g low e m = absurd (omega (arith, low))
@@ -181,8 +155,8 @@ items_again one next f Good Ends begins at_end before again (x ∷ []) (suc k) s
     let rest : items one next k (next s x) r ≡ Ok ([], r) = items_again one next f Good Ends begins at_end before again [] k (next s x) r r tt (omega (arith, low, b.1)) e refl in
     rw (b.0, read, rest) refl
 items_again one next f Good Ends begins at_end before again (x ∷ y ∷ ys) (suc k) s ts r g low e m =
-    let p = parts (f x) (all_marks f (y ∷ ys)) ts r m in
-    let q = parts (f y) (all_marks f ys) p.0 r p.2 in
+    let p = parts (f x) (in_a_row f (y ∷ ys)) ts r m in
+    let q = parts (f y) (in_a_row f ys) p.0 r p.2 in
     let b = begins s x g.0 ts p.0 p.1 in
     let read : one s ts ≡ Ok (x, p.0) = again s x g.0 ts p.0 p.1 (before x (next s x) y g.1.0 p.0 q.0 q.1) in
     let rest : items one next k (next s x) p.0 ≡ Ok (y ∷ ys, r) = items_again one next f Good Ends begins at_end before again (y ∷ ys) k (next s x) p.0 r g.1 (omega (arith, low, b.1)) e p.2 in

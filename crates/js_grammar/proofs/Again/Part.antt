@@ -20,7 +20,9 @@ use Rattle.js_syntax.proofs.KindLemmas.{next_again, kind_not}
 use Rattle.js_grammar.specs.Laws.{Stops, NoComma, follows_statement, Follows, closes, AgainBelow}
 use Rattle.js_grammar.proofs.MarkLemmas.{parts}
 use Rattle.js_grammar.proofs.TokenLemmas.{expect_again, name_again, fresh_again, semicolon_again}
-use Rattle.js_grammar.proofs.Again.List.{behind_commas, with_commas, comma_behind, all_marks, AllGood, elements_again, LastEnds, others_again, items_again}
+use Rattle.js_grammar.proofs.Sound.Part.{Differs}
+use Rattle.js_grammar.proofs.Sound.List.{behind_commas, with_commas, behind_last, in_a_row, AllGood}
+use Rattle.js_grammar.proofs.Again.List.{elements_again, LastEnds, others_again, items_again}
 use Rattle.js_grammar.proofs.Again.Front.{expression_opens, opens_not, closes_opens, closes_stops, comma_closes, comma_stops, semicolon_stops, word_stops, statement_starts, starts_follows, ends_follows}
 use Rattle.js_grammar.proofs.Sound.Part.{more_names_is}
 
@@ -42,7 +44,7 @@ list_marks : (es : Expressions) → flat_expressions es ≡ with_commas flat (li
 list_marks trees.no_expressions = refl
 list_marks (trees.an_expression e es) = ap (λ (l : List Mark). flat e ++ l) (more_marks es)
 
-trailing_marks : (es : Expressions) → trailing es ≡ comma_behind (list_of es)
+trailing_marks : (es : Expressions) → trailing es ≡ behind_last (list_of es)
 trailing_marks trees.no_expressions = refl
 trailing_marks (trees.an_expression e es) = refl
 
@@ -58,7 +60,7 @@ pub arguments_again : (n : ℕ) (b : Below) → AgainBelow n b → (k : TokenKin
     → (ts r : List Token) → Matches (flat_expressions es ++ (trailing es ++ (token (fixed k) ∷ []))) ts r → arguments_before b k ts ≡ Ok (es, r)
 unfolding arguments_before
 arguments_again n b a k c es w h ts r m =
-    let n_marks : flat_expressions es ++ (trailing es ++ (token (fixed k) ∷ [])) ≡ with_commas flat (list_of es) ++ (comma_behind (list_of es) ++ (token (fixed k) ∷ [])) = rw (list_marks es, trailing_marks es) refl in
+    let n_marks : flat_expressions es ++ (trailing es ++ (token (fixed k) ∷ [])) ≡ with_commas flat (list_of es) ++ (behind_last (list_of es) ++ (token (fixed k) ∷ [])) = rw (list_marks es, trailing_marks es) refl in
     let read : elements (one_of b.assignment) no_state k (suc (length ts)) tt ts ≡ Ok (list_of es, r) =
     elements_again (one_of b.assignment) no_state flat (GoodAssignment n) k (comma_closes k c)
     (λ s e g us v q. opens_not k (head_of us) (expression_opens e g.0 us v q) (closes_opens k c))
@@ -88,7 +90,7 @@ more_again n b a e es w h ts r m s no_comma =
 -- ---- names
 
 -- names up to the parenthesis behind them
-names_marks : (ns : List Identifier) → flat_names ns ++ (token (fixed kinds.RightParenthesis) ∷ []) ≡ with_commas an_identifier ns ++ (comma_behind ns ++ (token (fixed kinds.RightParenthesis) ∷ []))
+names_marks : (ns : List Identifier) → flat_names ns ++ (token (fixed kinds.RightParenthesis) ∷ []) ≡ with_commas an_identifier ns ++ (behind_last ns ++ (token (fixed kinds.RightParenthesis) ∷ []))
 names_marks [] = refl
 names_marks (n ∷ ns) = ap (λ (l : List Mark). token (identifier n) ∷ l) (append_assoc (more_names ns) (trailing_comma ∷ []) (token (fixed kinds.RightParenthesis) ∷ []) ∙ ap (λ (l : List Mark). l ++ (trailing_comma ∷ token (fixed kinds.RightParenthesis) ∷ [])) (more_names_is ns))
 
@@ -109,11 +111,7 @@ names_again ns ts r m =
     ns (suc (length ts)) tt ts r (any_names ns) (omega arith)
     (subst (λ (l : List Mark). Matches l ts r) (names_marks ns) m)
 
--- a name that isn't among these
-abbrev pub GoodName : List Identifier → Identifier → Type 0
-GoodName taken n = is_among taken n ≡ false
-
-good_names : (taken ns : List Identifier) → AreFresh taken ns → AllGood with_name GoodName taken ns
+good_names : (taken ns : List Identifier) → AreFresh taken ns → AllGood with_name Differs taken ns
 good_names taken [] f = tt
 good_names taken (n ∷ ns) f = (f.0, good_names (n ∷ taken) ns f.1)
 
@@ -122,7 +120,7 @@ unfolding parameters_at
 parameters_again ns f ts r m =
     let start : expect kinds.LeftParenthesis ts ≡ Ok (tt, tail_of ts) = expect_again kinds.LeftParenthesis ts (tail_of ts) (m.0, refl) in
     let read : elements fresh_name with_name kinds.RightParenthesis (suc (length (tail_of ts))) [] (tail_of ts) ≡ Ok (ns, r) =
-    elements_again fresh_name with_name an_identifier GoodName kinds.RightParenthesis refl
+    elements_again fresh_name with_name an_identifier Differs kinds.RightParenthesis refl
     (λ s x g us v q. name_no_closer x (head_of us) q.0)
     (λ s x g us v q y. fresh_again s x us v q g)
     ns (suc (length (tail_of ts))) [] (tail_of ts) r (good_names [] ns f) (omega arith)
@@ -175,7 +173,7 @@ statements_are : (ss : Statements) → statements (statements_of ss) ≡ ss
 statements_are trees.no_statements = refl
 statements_are (trees.a_statement s ss) = ap (λ (l : Statements). trees.a_statement s l) (statements_are ss)
 
-statements_marks : (ss : Statements) → flat_statements ss ≡ all_marks flat_statement (statements_of ss)
+statements_marks : (ss : Statements) → flat_statements ss ≡ in_a_row flat_statement (statements_of ss)
 statements_marks trees.no_statements = refl
 statements_marks (trees.a_statement s ss) = ap (λ (l : List Mark). flat_statement s ++ l) (statements_marks ss)
 

@@ -23,7 +23,8 @@ use Rattle.js_syntax.proofs.KindLemmas.{kind_is}
 use Rattle.js_grammar.specs.Laws.{AgainBelow, SeqAgain, Stops}
 use Rattle.js_grammar.proofs.MarkLemmas.{parts}
 use Rattle.js_grammar.proofs.TokenLemmas.{name_again, text_is}
-use Rattle.js_grammar.proofs.Again.List.{behind_commas, with_commas, comma_behind, AllGood, EndsElement, elements_again}
+use Rattle.js_grammar.proofs.Sound.List.{behind_commas, with_commas, behind_last, AllGood}
+use Rattle.js_grammar.proofs.Again.List.{EndsElement, elements_again}
 use Rattle.js_grammar.proofs.Again.Front.{closes_stops, comma_stops}
 use Rattle.js_grammar.proofs.Again.Head.{other_kind, kind_of_identifier, kind_of_number, kind_of_string}
 use Rattle.js_grammar.proofs.Again.Primary.{ObjectsAgain}
@@ -169,7 +170,7 @@ members_marks : (xs : Properties) → flat_properties xs ≡ with_commas flat_pr
 members_marks trees.no_properties = refl
 members_marks (trees.a_property x xs) = ap (λ (l : List Mark). flat_property x ++ l) (more_marks xs)
 
-trailing_marks : (xs : Properties) → trailing_property xs ≡ comma_behind (members_of xs)
+trailing_marks : (xs : Properties) → trailing_property xs ≡ behind_last (members_of xs)
 trailing_marks trees.no_properties = refl
 trailing_marks (trees.a_property x xs) = refl
 
@@ -185,7 +186,7 @@ pub objects_again : (q : SeqAgain) (n : ℕ) (b : Below) → AgainBelow n b → 
 unfolding properties_at
 objects_again q n b h xs w l ts r m =
     let behind : List Mark = token (fixed kinds.RightBrace) ∷ [] in
-    let same : flat_properties xs ++ (trailing_property xs ++ behind) ≡ with_commas flat_property (members_of xs) ++ (comma_behind (members_of xs) ++ behind) = rw (members_marks xs, trailing_marks xs) refl in
+    let same : flat_properties xs ++ (trailing_property xs ++ behind) ≡ with_commas flat_property (members_of xs) ++ (behind_last (members_of xs) ++ behind) = rw (members_marks xs, trailing_marks xs) refl in
     let read : elements (one_of (λ r. property_at b n r)) no_state kinds.RightBrace (suc (length (tail_of ts))) tt (tail_of ts) ≡ Ok (members_of xs, r) =
     elements_again (one_of (λ r. property_at b n r)) no_state flat_property (GoodMember n) kinds.RightBrace refl
     (λ s x g us v p. property_no_brace x us v p)

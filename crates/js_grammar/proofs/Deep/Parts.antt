@@ -11,9 +11,9 @@ use Rattle.js_tree.specs.Views.{expressions, statements, declarators}
 use Rattle.js_language.specs.Kinds.{is_kind}
 use Rattle.js_syntax.specs.Classes.{is_name}
 use Rattle.js_syntax.specs.Reading.{stuck, deep, Reader, ◌>>=◌, expect, expect_near, text_of, name_at, fresh_name, is_word_next, word_at, semicolon_at, goes_on, ends, neither, after, go_after, elements_by, elements, others_by, others, ends_list, items_by, items, no_state, with_name, with_names}
-use Rattle.js_syntax.specs.Productions.{Code, Below, one_of, arguments_before, more_assignments, parameters_at, with_declared, items_at, braces, code_at, initializer_by, declarator_at, with_declarator, declarators_at, optional_by, optional_before, ended_expression, Item, tok, near, a_name, the_name, an_assignment, an_expression, optional, arguments, ended, an_end, declared, a_statement, a_block, in_braces, code, Values, expect_name, item, seq, made}
+use Rattle.js_syntax.specs.Productions.{Below, one_of, arguments_before, more_assignments, parameters_at, with_declared, items_at, braces, code_at, initializer_by, declarator_at, with_declarator, declarators_at, optional_by, optional_before, ended_expression, Item, tok, near, a_name, the_name, an_assignment, an_expression, optional, arguments, ended, an_end, declared, a_statement, a_block, in_braces, code, Values, expect_name, item, seq, made}
 use Rattle.js_grammar.proofs.Follows.Tools.{Follows, Takes, past, shortens}
-use Rattle.js_grammar.proofs.Follows.Parts.{Pair, expect_follows, fresh_follows, semicolon_follows, elements_body, elements_local, elements_turns, elements_follows, go_after_follows, others_body, others_local, others_turns, others_follows, items_body, items_local, items_turns, items_follows, parameters_follows, items_at_follows, braces_follows, declarator_follows, item_follows, seq_follows}
+use Rattle.js_grammar.proofs.Follows.Parts.{Pair, next_by, code_of, expect_follows, fresh_follows, semicolon_follows, elements_body, elements_local, elements_turns, elements_follows, go_after_follows, others_body, others_local, others_turns, others_follows, items_body, items_local, items_turns, items_follows, parameters_follows, items_at_follows, braces_follows, declarator_follows, item_follows, seq_follows}
 use Rattle.js_grammar.proofs.Deep.Tools.{Deepens, DeepensOn, on, quiet, deep_gives, deep_sticks, deep_past, deep_past_on, deep_peeks, deep_peeks_all, deep_token, deep_binds, deep_then, deep_makes, deep_loops}
 
 -- what reads below keeps it
@@ -29,9 +29,6 @@ pub record DeepBelow (b : Below) : Type 0 where
   pub function : (n : ℕ) → Deepens n b.function
 
 -- ---- single tokens
-
-abbrev next_by : {A : Type 0} → A → Bool → Reader A
-next_by value v ts = cond v (Ok (value, tail_of ts)) (Err (stuck (length ts)))
 
 next_quiet : {A : Type 0} (value : A) (v : Bool) (ts : List Token) (j : ℕ) → next_by value v ts ≡ Err (deep j) → ⊥
 next_quiet value true ts j e = absurd cc
@@ -179,9 +176,6 @@ braces_deepens b p d n context taken =
     deep_then n (λ ts. expect kinds.LeftBrace ts) (λ o ts. items_at b context taken ts >>= λ x. expect kinds.RightBrace x.1 >>= λ y. Ok (x.0, y.1)) (expect_follows kinds.LeftBrace) (expect_deepens n kinds.LeftBrace)
     (λ o. deep_then n (λ ts. items_at b context taken ts) (λ ss ts. expect kinds.RightBrace ts >>= λ y. Ok (ss, y.1)) (items_at_follows b b p context taken) (items_at_deepens b p d n context taken)
     (λ ss. deep_makes n (λ ts. expect kinds.RightBrace ts) (λ y. ss) (expect_follows kinds.RightBrace) (expect_deepens n kinds.RightBrace)))
-
-abbrev code_of : List Identifier → trees.Statements → Code
-code_of ps body = record { parameters = ps; body = body }
 
 pub code_deepens : (b : Below) → Pair b b → DeepBelow b → (n : ℕ) → Deepens n (λ ts. code_at b ts)
 unfolding code_at

@@ -1,20 +1,16 @@
 -- Why readers need levels to spare where they are to tell what is too deep: with one alone, names in parentheses are answered to be too deep, though they begin an arrow function that is low enough.
 use Rattle.std.proofs.Common.{◌≡◌, ℕ, ◌+◌, ◌<◌, ◌≤◌, false, List, [], ◌∷◌, ◌++◌, Ok, Err, refl, subst, arith}
-use Rattle.js_lexer.specs.declared.token.TokenKind.{TokenKind}
 use Rattle.js_lexer.specs.declared.token.TokenKind.TheVariants as k
 use Rattle.js_tree.specs.Trees.{Identifier, name_list, Expression, arrow_block, no_statements}
 use Rattle.js_language.specs.Tokens.{Token}
 use Rattle.js_tree.specs.Height.{height}
 use Rattle.js_language.specs.Language.{IsExpression}
+use Rattle.js_language.proofs.Sources.{a}
 use Rattle.js_syntax.specs.Reading as r
 use Rattle.js_syntax.specs.Productions as q
 use Rattle.js_syntax.specs.Parsing as p
 use Rattle.js_grammar.specs.Exact.{TooDeepFrom}
 use Rattle.js_grammar.proofs.Soundness.{expression_read}
-
--- a token on the line of the one before it
-abbrev a : TokenKind → Token
-a kind = record { kind = kind; string_value = []; numeric_value = 0; newline_before = false; start = 0; end = 0 }
 
 abbrev a_name : Identifier → Token
 a_name s = record { kind = k.Name; string_value = s; numeric_value = 0; newline_before = false; start = 0; end = 0 }

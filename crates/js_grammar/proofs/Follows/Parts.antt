@@ -42,7 +42,7 @@ on_right b c p = record { both = p.right; right = p.right; takes = p.takes }
 abbrev pub if_next : {A : Type 0} → (Option Token → Bool) → (Option Token → A) → Reader A
 if_next test value ts = cond (test (head_of ts)) (Ok (value (head_of ts), tail_of ts)) (Err (stuck (length ts)))
 
-abbrev next_by : {A : Type 0} → A → Bool → Reader A
+abbrev pub next_by : {A : Type 0} → A → Bool → Reader A
 next_by value v ts = cond v (Ok (value, tail_of ts)) (Err (stuck (length ts)))
 
 abbrev next_of : {A : Type 0} → (Option Token → Bool) → (Option Token → A) → Option Token → Reader A
@@ -268,7 +268,7 @@ braces_follows b c p context taken =
     (λ o. binds (λ ts. items_at b context taken ts) (λ ts. items_at c context taken ts) (λ ss ts. expect kinds.RightBrace ts >>= λ y. Ok (ss, y.1)) (λ ss ts. expect kinds.RightBrace ts >>= λ y. Ok (ss, y.1)) (items_at_follows b c p context taken)
     (λ ss. makes (λ ts. expect kinds.RightBrace ts) (λ ts. expect kinds.RightBrace ts) (λ y. ss) (expect_follows kinds.RightBrace)))
 
-abbrev code_of : List Identifier → trees.Statements → Code
+abbrev pub code_of : List Identifier → trees.Statements → Code
 code_of ps body = record { parameters = ps; body = body }
 
 pub code_follows : (b c : Below) → Pair b c → Follows (λ ts. code_at b ts) (λ ts. code_at c ts)

@@ -119,6 +119,7 @@ names_before_sound ts x e =
     let t = elements_sound (one_of name_at) no_state an_identifier AnyName (λ u ts x e. (name_sound ts x e, tt)) kinds.RightParenthesis (suc (length ts)) tt ts x e in
     subst (λ (ms : List Mark). Matches ms ts x.1) (sym (names_marks x.0)) t.0
 
+-- a name that isn't among these
 abbrev pub Differs : List Identifier → Identifier → Type 0
 Differs taken n = is_among taken n ≡ false
 
