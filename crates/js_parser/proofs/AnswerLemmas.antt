@@ -17,10 +17,14 @@ use Rattle.js_parser.specs.Answers.{FailsBy, Answers}
 use Rattle.js_parser.specs.Faults.{LeavesLanguage, Stands, BeginsTooDeep, Caused}
 use Rattle.js_descent.specs.declared.limits.TheConstants.{MOST_HEIGHT}
 use Rattle.js_parser.specs.declared.limits.TheConstants.{MOST_UNITS, MOST_TOKENS}
-use Rattle.js_parser.specs.Sources.{tokens_of, bad_place, IsSource, IsTreeOf, HasTree}
+use Rattle.js_parser.specs.Sources.{tokens_of, bad_place, IsSource, IsTreeOf}
 use Rattle.js_parser.proofs.FaultLemmas.{IsPlaced, begins_whole, one_fault, no_tree}
 use Rattle.js_parser.proofs.OrderLemmas.{comes_first}
 use Rattle.js_parser.proofs.ReadLemmas.{IsReadOf, is_read_of, AreFirst, are_first, reads_all}
+
+-- a source of this language within the limits
+abbrev HasTree : {Tree : Type 0} → (List Token → Tree → Type 0) → (Tree → ℕ) → List ℕ → Type 0
+HasTree {Tree} Is height_of source = (t : Tree) × IsSource Is height_of source t
 
 -- What is read from these tokens is exactly their trees that are at most so high, of which there is one at most, where it is stuck the language is left, and where it is too deep some first tokens begin only trees that are too deep.
 pub record ReadsExactly {Tree : Type 0} (Is : List Token → Tree → Type 0) (height_of : Tree → ℕ) (room : ℕ) (ts : List Token) (read : Result Tree Fault) : Type 0 where

@@ -22,7 +22,7 @@ use Rattle.js_parser.specs.Lexing.{Lexed, Stop, lexed, lexed_of, unless_deep, co
 use Rattle.js_descent.specs.declared.limits.TheConstants.{MOST_HEIGHT}
 use Rattle.js_parser.specs.declared.limits.TheConstants.{MOST_TOKENS}
 use Rattle.js_parser.specs.Sources.{lent_view, tokens_in, tokens_of}
-use Rattle.js_parser.specs.Spans.{AreSpansIn, Stands}
+use Rattle.js_parser.specs.Spans.{AreSpansIn, PlacedIn}
 
 -- ---- the tokens of a source
 
@@ -132,12 +132,12 @@ complete_stands : {A : Type 0} (Holds : A → Type 0) (end : ℕ) (stop : Option
 complete_stands Holds end None x height h = unless_stands Holds (nat_lt MOST_HEIGHT height) x (h refl)
 complete_stands Holds end (Some s) x height h = tt
 
-told_stands : {A : Type 0} (places : A → List Place) (source : List ℕ) (old new : List Span) (l : Lexed) (end : ℕ) (given : Result (A × ℕ) ParseError) → (l.stop ≡ None → l.tokens ≡ tokens_of source) → IfOk given (λ x. AreSpans new (places x.0) 0 l.tokens []) → IfOk given (λ x. AreInOrder l.tokens → All IsForward old → All IsForward new) → IfOk given (λ x. AreNumbered (length old) (places x.0) (length new)) → IfOk (told l end given) (λ x. Stands source old new (places x))
+told_stands : {A : Type 0} (places : A → List Place) (source : List ℕ) (old new : List Span) (l : Lexed) (end : ℕ) (given : Result (A × ℕ) ParseError) → (l.stop ≡ None → l.tokens ≡ tokens_of source) → IfOk given (λ x. AreSpans new (places x.0) 0 l.tokens []) → IfOk given (λ x. AreInOrder l.tokens → All IsForward old → All IsForward new) → IfOk given (λ x. AreNumbered (length old) (places x.0) (length new)) → IfOk (told l end given) (λ x. PlacedIn source old new (places x))
 told_stands places source old new l end (Err e) all p f n = tt
 told_stands places source old new l end (Ok x) all p f n =
-    complete_stands (λ x. Stands source old new (places x)) end l.stop x.0 x.1 (λ none. record { exact = rw (all none) at p; forward = f (rw (all none) (are_in_order source)); numbers = n })
+    complete_stands (λ x. PlacedIn source old new (places x)) end l.stop x.0 x.1 (λ none. record { exact = rw (all none) at p; forward = f (rw (all none) (are_in_order source)); numbers = n })
 
 -- the spans of a tree that is told
-pub told_placed : {A : Type 0} (places : A → List Place) (source : List ℕ) (old new : List Span) (l : Lexed) (ts : List Token) (end : ℕ) (given : Result (A × ℕ) ParseError) (answer : Result A ParseFault) → l ≡ lexed_of source → ts ≡ l.tokens → IfOk given (λ x. AreSpans new (places x.0) 0 ts []) → IfOk given (λ x. AreInOrder ts → All IsForward old → All IsForward new) → IfOk given (λ x. AreNumbered (length old) (places x.0) (length new)) → answer ≡ told l end given → IfOk answer (λ x. Stands source old new (places x))
+pub told_placed : {A : Type 0} (places : A → List Place) (source : List ℕ) (old new : List Span) (l : Lexed) (ts : List Token) (end : ℕ) (given : Result (A × ℕ) ParseError) (answer : Result A ParseFault) → l ≡ lexed_of source → ts ≡ l.tokens → IfOk given (λ x. AreSpans new (places x.0) 0 ts []) → IfOk given (λ x. AreInOrder ts → All IsForward old → All IsForward new) → IfOk given (λ x. AreNumbered (length old) (places x.0) (length new)) → answer ≡ told l end given → IfOk answer (λ x. PlacedIn source old new (places x))
 told_placed places source old new l ts end given answer e t p f n is =
     rw is (told_stands places source old new l end given (λ none. rw e (all_read MOST_TOKENS (items_of source) (rw e at none))) (rw t at p) (rw t at f) n)

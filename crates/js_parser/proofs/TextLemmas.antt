@@ -11,7 +11,7 @@ use Rattle.js_language.specs.Language.{IsExpression, IsFunction, IsScript, Begin
 use Rattle.js_grammar.specs.Exact.{written_view, AreAlike, BeginsWritten}
 use Rattle.js_grammar.proofs.BegunLaws.{expression_written, expression_alike, function_written, function_alike, script_written, script_alike}
 use Rattle.js_parser.specs.Sources.{lent_view, tokens_in, bad_in, tokens_of}
-use Rattle.js_parser.specs.Texts.{end_of, BeginsText}
+use Rattle.js_parser.specs.Texts.{end_of_last, BeginsText}
 
 -- ---- the first items
 
@@ -47,7 +47,7 @@ bad_first : (ls : List Lent) (is : List (Result Lent ℕ)) → bad_in (tokens_th
 bad_first [] is = refl
 bad_first (l ∷ ls) is = bad_first ls is
 
-end_seen : (at : ℕ) (ls : List Lent) → end_after at ls ≡ end_of at (map lent_view ls)
+end_seen : (at : ℕ) (ls : List Lent) → end_after at ls ≡ end_of_last at (map lent_view ls)
 end_seen at [] = refl
 end_seen at (l ∷ ls) = end_seen (l.start + length l.text) ls
 
@@ -72,10 +72,10 @@ begins_text : {Tree : Type 0} (Is : List Token → Tree → Type 0) → ((ts : L
 begins_text Is writes alike source before left e b =
     let f = fronts (items_of source) before left e in
     let w = writes before b in
-    let ends : end_after 0 f.lents ≡ end_of 0 before = end_seen 0 f.lents ∙ ap (λ (us : List Token). end_of 0 us) f.seen in
+    let ends : end_after 0 f.lents ≡ end_of_last 0 before = end_seen 0 f.lents ∙ ap (λ (us : List Token). end_of_last 0 us) f.seen in
     let behind = lent (end_after 0 f.lents) w.rest in
-    let found : items_of (take (end_of 0 before) source ++ written w.rest) ≡ tokens_then f.lents behind = ap (λ (n : ℕ). items_of (take n source ++ written w.rest)) (sym ends) ∙ first_tokens source f.lents f.left f.items w.rest w.tokens in
-    let tokens : tokens_of (take (end_of 0 before) source ++ written w.rest) ≡ before ++ tokens_in behind = ap (λ (is : List (Result Lent ℕ)). tokens_in is) found ∙ tokens_first f.lents behind ∙ ap (λ (us : List Token). us ++ tokens_in behind) f.seen in
+    let found : items_of (take (end_of_last 0 before) source ++ written w.rest) ≡ tokens_then f.lents behind = ap (λ (n : ℕ). items_of (take n source ++ written w.rest)) (sym ends) ∙ first_tokens source f.lents f.left f.items w.rest w.tokens in
+    let tokens : tokens_of (take (end_of_last 0 before) source ++ written w.rest) ≡ before ++ tokens_in behind = ap (λ (is : List (Result Lent ℕ)). tokens_in is) found ∙ tokens_first f.lents behind ∙ ap (λ (us : List Token). us ++ tokens_in behind) f.seen in
     record {
       more = written w.rest;
       rest = tokens_in behind;

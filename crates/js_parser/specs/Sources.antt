@@ -53,10 +53,6 @@ pub record IsTreeOf {Tree : Type 0} (Is : List Token → Tree → Type 0) (sourc
 abbrev pub IsSource : {Tree : Type 0} → (List Token → Tree → Type 0) → (Tree → ℕ) → List ℕ → Tree → Type 0
 IsSource Is height_of source t = IsTreeOf Is source t × (height_of t ≤ MOST_HEIGHT)
 
--- a source of this language within the limits
-abbrev pub HasTree : {Tree : Type 0} → (List Token → Tree → Type 0) → (Tree → ℕ) → List ℕ → Type 0
-HasTree {Tree} Is height_of source = (t : Tree) × IsSource Is height_of source t
-
 -- a source of this language whose tree alone passes a limit
 abbrev pub HasDeepTree : {Tree : Type 0} → (List Token → Tree → Type 0) → (Tree → ℕ) → List ℕ → Type 0
 HasDeepTree {Tree} Is height_of source = (t : Tree) × (IsTreeOf Is source t × (MOST_HEIGHT < height_of t))

@@ -7,7 +7,7 @@ ghost use Rattle.js_language.specs.Places.{expression_places, statements_places}
 ghost use Rattle.js_tree.specs.Views.{expression_view, statements_view};
 ghost use Rattle.js_syntax.specs.declared.fault.ParseFault.TheVariants.{Memory};
 ghost use Rattle.js_parser.specs.Answers.{Answers};
-ghost use Rattle.js_parser.specs.Spans.{Stands};
+ghost use Rattle.js_parser.specs.Spans.{PlacedIn};
 
 use crate::earlier::earlier_names;
 use crate::faults::told;
@@ -23,7 +23,7 @@ use std::alloc::Global;
 /// The tree of a source that is one expression.
 pub fn expression_tree(nodes: &mut Nodes, source: &[u16]) -> Result<Expr, ParseFault>
     ensures answers { Answers IsExpression height source.now (λ x. expression_view x) result }
-    ensures placed { IfOk result (λ x. Stands source.now nodes.old nodes.new (expression_places x)) }
+    ensures placed { IfOk result (λ x. PlacedIn source.now nodes.old nodes.new (expression_places x)) }
 {
     let lexed = lexed(nodes.alloc(), source)?;
     let read = expression_of(nodes, lexed.tokens.as_slice());
@@ -33,7 +33,7 @@ pub fn expression_tree(nodes: &mut Nodes, source: &[u16]) -> Result<Expr, ParseF
 /// The tree of a source that is one function expression or one arrow function.
 pub fn function_tree(nodes: &mut Nodes, source: &[u16]) -> Result<Expr, ParseFault>
     ensures answers { Answers IsFunction height source.now (λ x. expression_view x) result }
-    ensures placed { IfOk result (λ x. Stands source.now nodes.old nodes.new (expression_places x)) }
+    ensures placed { IfOk result (λ x. PlacedIn source.now nodes.old nodes.new (expression_places x)) }
 {
     let lexed = lexed(nodes.alloc(), source)?;
     let read = function_of(nodes, lexed.tokens.as_slice());
@@ -55,7 +55,7 @@ pub fn script_tree(
     declared: &[Units],
 ) -> Result<Stmts, ParseFault>
     ensures answers { Answers (IsScript declared.now) height_of_statements source.now (λ x. statements_view x) result }
-    ensures placed { IfOk result (λ x. Stands source.now nodes.old nodes.new (statements_places x)) }
+    ensures placed { IfOk result (λ x. PlacedIn source.now nodes.old nodes.new (statements_places x)) }
 {
     let lexed = lexed(nodes.alloc(), source)?;
     let names = names_of(nodes.alloc(), declared)?;

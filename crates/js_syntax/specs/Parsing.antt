@@ -107,11 +107,6 @@ linked_by b e key ts = made b (tok kinds.LeftBracket ∷ an_expression ∷ tok k
 linked_by b e classes.arguments ts = made b (tok kinds.LeftParenthesis ∷ arguments kinds.RightParenthesis ∷ []) (λ v. trees.call e v.1.0) ts
 linked_by b e no_link ts = Err (stuck (length ts))
 
--- something goes on with a call or a member
-abbrev pub is_link : Link → Bool
-is_link no_link = false
-is_link _ = true
-
 -- what was read, alone or with what goes on with it and all that follows
 abbrev pub links_by : Below → ℕ → (Expression → Reader Expression) → Expression → Link → Reader Expression
 links_by b n go e no_link ts = Ok (e, ts)

@@ -20,7 +20,7 @@ use Rattle.js_syntax.specs.Reading.{Fault, stuck, deep, Read, Reader, ◌>>=◌,
 use Rattle.js_syntax.specs.Classes as classes
 use Rattle.js_syntax.specs.Classes.{Start, start_by, start, Link, dot, key, no_link, link_by, link, Prefix, deletes, a_unary, an_update, no_prefix, prefix, update_near, operator, KeyStart, key_start, AfterKey, after_key_by, after_key, is_shorthand}
 use Rattle.js_syntax.specs.Productions.{Code, Below, one_of, Item, Values, made, seq, tok, a_name, an_assignment, an_expression, arguments, code}
-use Rattle.js_syntax.specs.Parsing.{if_low, key_by, key_at, member_by, property_by, property_at, properties_at, is_name_next, function_by, function_at, primary_by, primary, linked_by, is_link, links_by, links, call, updated_by, postfix, unary_by, unary, operator_from, chain_by, chain, operation}
+use Rattle.js_syntax.specs.Parsing.{if_low, key_by, key_at, member_by, property_by, property_at, properties_at, is_name_next, function_by, function_at, primary_by, primary, linked_by, links_by, links, call, updated_by, postfix, unary_by, unary, operator_from, chain_by, chain, operation}
 use Rattle.js_grammar.specs.Laws.{TakesExpression, SoundBelow, marks}
 use Rattle.js_grammar.proofs.MarkLemmas.{joins}
 use Rattle.js_grammar.proofs.TokenLemmas.{ok_is}
@@ -278,6 +278,11 @@ linked_by_lives n b snd a s f classes.arguments ts e g t p =
     let l = anything (seq_lives n b snd a is refl ts e (made_err {A = Expression} b is (λ v. trees.call f v.1.0) ts e p)) in
     behind l (flat f) (expression_firm f t.well) s t.marks (trees.call f l.tree.1.0) ((t.well, t.level, l.good.1.0), omega arith) (ap (λ (ms : List Mark). flat f ++ (token (fixed kinds.LeftParenthesis) ∷ ms)) (append-nil _))
 linked_by_lives n b snd a s f no_link ts e g t p = whole_lives 15 (suc n) s f ts e t (stuck_counts {A = Expression} ts e p)
+
+-- something goes on with a call or a member
+abbrev is_link : Link → Bool
+is_link no_link = false
+is_link _ = true
 
 -- no room for what the link makes
 deep_link : (n : ℕ) (s : List Token) (f : Expression) (l : Link) (ts : List Token) (e : Fault) → link (head_of ts) ≡ l → TakesExpression 15 (suc n) s f ts → is_link l ≡ true → Counts e (tail_of ts) → Lives Nothing flat (Fits 15) s e
