@@ -8,7 +8,7 @@ use Rattle.js_language.specs.Well.{top}
 use Rattle.js_tree.specs.Height.{height, height_of_statement, height_of_statements}
 use Rattle.js_language.specs.Language.{IsScript, IsExpression, IsFunction}
 use Rattle.js_syntax.specs.Parsing.{below, parse_script, parse_expression, parse_function}
-use Rattle.js_grammar.specs.Laws.{AgainBelow}
+use Rattle.js_grammar.proofs.Claims.{AgainBelow}
 use Rattle.js_grammar.proofs.Again.Expression.{assignment_again, expression_again, operation_again, unary_again, call_again}
 use Rattle.js_grammar.proofs.Again.Assignment.{function_code_again, stops_at_end}
 use Rattle.js_grammar.proofs.Again.Part.{statements_again}

@@ -1,3 +1,4 @@
+pub mod Claims
 pub mod Again
 pub mod MarkLemmas
 pub mod TokenLemmas

@@ -9,7 +9,7 @@ use Rattle.js_syntax.specs.Reading.{Read}
 use Rattle.js_syntax.specs.Classes.{start}
 use Rattle.js_syntax.specs.Productions.{items_at}
 use Rattle.js_syntax.specs.Parsing.{below, ended_by, whole, parse_script, parse_expression, parse_function, function_code_by}
-use Rattle.js_grammar.specs.Laws.{SoundBelow}
+use Rattle.js_grammar.proofs.Claims.{SoundBelow}
 use Rattle.js_grammar.proofs.TokenLemmas.{got}
 use Rattle.js_grammar.proofs.Sound.Part.{seq_sound, items_at_sound}
 use Rattle.js_grammar.proofs.Sound.Operator.{unary_sound, operation_sound}

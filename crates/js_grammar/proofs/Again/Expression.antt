@@ -8,7 +8,7 @@ use Rattle.js_tree.specs.Height.{height}
 use Rattle.js_syntax.specs.Classes.{link, no_link}
 use Rattle.js_syntax.specs.Productions.{Below}
 use Rattle.js_syntax.specs.Parsing.{call, unary, operation, assignment, expression}
-use Rattle.js_grammar.specs.Laws.{AgainBelow, SeqAgain, Stops, StopsOperation, StopsUnary, NoComma}
+use Rattle.js_grammar.proofs.Claims.{AgainBelow, SeqAgain, Stops, StopsOperation, StopsUnary, NoComma}
 use Rattle.js_grammar.proofs.Again.Property.{objects_again}
 use Rattle.js_grammar.proofs.Again.Unary as unaries
 use Rattle.js_grammar.proofs.Again.Operation as operations

@@ -15,7 +15,7 @@ use Rattle.js_syntax.specs.Classes.{first, first_by, is_name, each, declares, pl
 use Rattle.js_syntax.specs.Productions.{Below, Values}
 use Rattle.js_syntax.specs.Parsing.{let_kind, for_items, for_lexical_items, for_of_items, for_at, for_by}
 use Rattle.js_syntax.proofs.KindLemmas.{next_again, kind_not}
-use Rattle.js_grammar.specs.Laws.{Follows, AgainBelow, marks}
+use Rattle.js_grammar.proofs.Claims.{Follows, AgainBelow, marks}
 use Rattle.js_grammar.proofs.MarkLemmas.{parts}
 use Rattle.js_grammar.proofs.TokenLemmas.{text_is}
 use Rattle.js_grammar.proofs.Again.Front.{first_is, opens, opens_next, expression_opens}

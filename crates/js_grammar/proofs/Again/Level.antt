@@ -11,7 +11,7 @@ use Rattle.js_language.specs.Well.{strength, level, is_property, is_target, Well
 use Rattle.js_tree.specs.Height.{height}
 use Rattle.js_syntax.specs.Classes.{operator}
 use Rattle.js_syntax.specs.Parsing.{operator_from}
-use Rattle.js_grammar.specs.Laws.{Stops, StopsOperation, StopsUnary}
+use Rattle.js_grammar.proofs.Claims.{Stops, StopsOperation, StopsUnary}
 
 -- ---- levels
 

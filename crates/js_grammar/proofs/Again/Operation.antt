@@ -12,7 +12,7 @@ use Rattle.js_tree.specs.Height.{height}
 use Rattle.js_syntax.specs.Classes.{link, no_link, update_near, operator}
 use Rattle.js_syntax.specs.Productions.{Below}
 use Rattle.js_syntax.specs.Parsing.{operator_from, chain, operation}
-use Rattle.js_grammar.specs.Laws.{AgainBelow, SeqAgain, StopsOperation}
+use Rattle.js_grammar.proofs.Claims.{AgainBelow, SeqAgain, StopsOperation}
 use Rattle.js_grammar.proofs.MarkLemmas.{parts}
 use Rattle.js_grammar.proofs.Again.Head.{IsOperator, operator_again, link_fixed, operator_fixed, no_update_fixed}
 use Rattle.js_grammar.proofs.Again.Level.{strength_high, operation_edge, operation_more, operation_unary, operation_stops, spine, spine_low}

@@ -12,7 +12,7 @@ use Rattle.js_tree.specs.Height.{height}
 use Rattle.js_syntax.specs.Classes as classes
 use Rattle.js_syntax.specs.Productions.{Below, tok, a_name, an_expression, arguments, code}
 use Rattle.js_syntax.specs.Parsing.{primary, function_at, properties_at}
-use Rattle.js_grammar.specs.Laws.{AgainBelow, SeqAgain}
+use Rattle.js_grammar.proofs.Claims.{AgainBelow, SeqAgain}
 use Rattle.js_grammar.proofs.TokenLemmas.{text_is}
 use Rattle.js_grammar.proofs.Again.Head.{start_fixed, start_name, start_number, start_string, other_kind}
 

@@ -20,7 +20,7 @@ use Rattle.js_syntax.specs.Classes.{a_word_key, a_string_key, a_number_key, a_co
 use Rattle.js_syntax.specs.Productions.{Below, one_of, tok, an_assignment}
 use Rattle.js_syntax.specs.Parsing.{key_at, property_at, properties_at}
 use Rattle.js_syntax.proofs.KindLemmas.{kind_is}
-use Rattle.js_grammar.specs.Laws.{AgainBelow, SeqAgain, Stops}
+use Rattle.js_grammar.proofs.Claims.{AgainBelow, SeqAgain, Stops}
 use Rattle.js_grammar.proofs.MarkLemmas.{parts}
 use Rattle.js_grammar.proofs.TokenLemmas.{name_again, text_is}
 use Rattle.js_grammar.proofs.Sound.List.{behind_commas, with_commas, behind_last, AllGood}

@@ -16,7 +16,7 @@ use Rattle.js_syntax.specs.Classes as classes
 use Rattle.js_syntax.specs.Classes.{link, no_link, update_near, prefix, prefix_by, no_prefix}
 use Rattle.js_syntax.specs.Productions.{Below, tok, an_expression, arguments}
 use Rattle.js_syntax.specs.Parsing.{links, call, postfix, unary}
-use Rattle.js_grammar.specs.Laws.{AgainBelow, SeqAgain, StopsUnary}
+use Rattle.js_grammar.proofs.Claims.{AgainBelow, SeqAgain, StopsUnary}
 use Rattle.js_grammar.proofs.MarkLemmas.{parts}
 use Rattle.js_grammar.proofs.TokenLemmas.{word_again}
 use Rattle.js_grammar.proofs.Again.Head.{link_fixed, prefix_fixed, update_fixed, update_again, update_no_link, update_prefix, kind_of_identifier, kind_of_number, kind_of_string}

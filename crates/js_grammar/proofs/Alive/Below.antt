@@ -3,7 +3,7 @@ use Rattle.std.proofs.Common.{ℕ, zero, suc, arith}
 use Rattle.js_tree.specs.Trees.{Expression, Statement, Statements}
 use Rattle.js_syntax.specs.Productions.{Code, Below}
 use Rattle.js_syntax.specs.Parsing.{below}
-use Rattle.js_grammar.specs.Laws.{SoundBelow}
+use Rattle.js_grammar.proofs.Claims.{SoundBelow}
 use Rattle.js_grammar.proofs.Alive.Tools.{deep_counts}
 use Rattle.js_grammar.proofs.Alive.Parts.{AliveBelow, zero_expression, zero_statement, zero_item, empty_block, empty_code, braces_lives, code_lives}
 use Rattle.js_grammar.proofs.Alive.Expressions.{unary_lives, call_lives, operation_lives}

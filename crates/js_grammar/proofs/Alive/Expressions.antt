@@ -21,7 +21,7 @@ use Rattle.js_syntax.specs.Classes as classes
 use Rattle.js_syntax.specs.Classes.{Start, start_by, start, Link, dot, key, no_link, link_by, link, Prefix, deletes, a_unary, an_update, no_prefix, prefix, update_near, operator, KeyStart, key_start, AfterKey, after_key_by, after_key, is_shorthand}
 use Rattle.js_syntax.specs.Productions.{Code, Below, one_of, Item, Values, made, seq, tok, a_name, an_assignment, an_expression, arguments, code}
 use Rattle.js_syntax.specs.Parsing.{if_low, key_by, key_at, member_by, property_by, property_at, properties_at, is_name_next, function_by, function_at, primary_by, primary, linked_by, links_by, links, call, updated_by, postfix, unary_by, unary, operator_from, chain_by, chain, operation}
-use Rattle.js_grammar.specs.Laws.{TakesExpression, SoundBelow, marks}
+use Rattle.js_grammar.proofs.Claims.{TakesExpression, SoundBelow, marks}
 use Rattle.js_grammar.proofs.MarkLemmas.{joins}
 use Rattle.js_grammar.proofs.TokenLemmas.{ok_is}
 use Rattle.js_grammar.proofs.Sound.List.{AllGood, Reads}

@@ -15,7 +15,7 @@ use Rattle.js_syntax.specs.Classes.{Start, start, Link, dot, key, no_link, link,
 use Rattle.js_syntax.specs.Productions.{Below}
 use Rattle.js_syntax.specs.Parsing.{links_by, links, updated_by, operator_from, chain_by, chain, joined_by, joined, assignment, below}
 use Rattle.js_syntax.proofs.KindLemmas.{kind_is}
-use Rattle.js_grammar.specs.Laws.{SoundBelow}
+use Rattle.js_grammar.proofs.Claims.{SoundBelow}
 use Rattle.js_grammar.proofs.TokenLemmas.{faulty}
 use Rattle.js_grammar.proofs.Again.Level.{height_positive}
 use Rattle.js_grammar.proofs.Follows.Tools.{Follows, past, peeks, from, onto}

@@ -7,7 +7,7 @@ use Rattle.js_syntax.specs.Reading.{deep}
 use Rattle.js_syntax.specs.Classes.{past_names, no_arrow, listed_by}
 use Rattle.js_syntax.specs.Productions.{Below}
 use Rattle.js_syntax.specs.Parsing.{below}
-use Rattle.js_grammar.specs.Laws.{SoundBelow}
+use Rattle.js_grammar.proofs.Claims.{SoundBelow}
 use Rattle.js_grammar.proofs.Soundness.{sound_below}
 use Rattle.js_grammar.proofs.Follows.Tools.{Takes}
 use Rattle.js_grammar.proofs.Follows.Parts.{FollowsBelow, Pair}

@@ -16,7 +16,7 @@ use Rattle.js_syntax.specs.Classes as classes
 use Rattle.js_syntax.specs.Classes.{Start, start, Joint, question, assigns_by, no_joint, joint, Head, one_parameter, listed, no_arrow, arrow_head}
 use Rattle.js_syntax.specs.Productions.{Below, more_assignments, names_before, parameters_at, tok, an_assignment, in_braces, made}
 use Rattle.js_syntax.specs.Parsing.{if_low, operation, arrow_body_by, arrow_rest, are_fresh, arrow_of_names, arrow_of_one, arrow_of_list, joined_by, joined, assignment_by, assignment, comma_by, expression, function_code_by}
-use Rattle.js_grammar.specs.Laws.{TakesExpression, SoundBelow, SeqSound}
+use Rattle.js_grammar.proofs.Claims.{TakesExpression, SoundBelow, SeqSound}
 use Rattle.js_grammar.proofs.MarkLemmas.{joins}
 use Rattle.js_grammar.proofs.TokenLemmas.{cond_ok, test_ok, expect_sound, expect_near_sound, name_sound}
 use Rattle.js_grammar.proofs.Sound.Part.{fresh_behind, more_sound, names_before_sound, parameters_sound}

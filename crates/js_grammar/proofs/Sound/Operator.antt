@@ -15,7 +15,7 @@ use Rattle.js_syntax.specs.Reading.{stuck, deep, Read, Reader, ◌>>=◌}
 use Rattle.js_syntax.specs.Classes.{update_near, Prefix, deletes, a_unary, an_update, no_prefix, prefix, operator}
 use Rattle.js_syntax.specs.Productions.{Below, Item, Values, seq, made}
 use Rattle.js_syntax.specs.Parsing.{if_low, call, updated_by, postfix, unary_by, unary, operator_from, chain_by, chain, operation}
-use Rattle.js_grammar.specs.Laws.{TakesExpression, SoundBelow, TakesAll, SeqSound}
+use Rattle.js_grammar.proofs.Claims.{TakesExpression, SoundBelow, TakesAll, SeqSound}
 use Rattle.js_grammar.proofs.MarkLemmas.{joins}
 use Rattle.js_grammar.proofs.TokenLemmas.{got, ok_is, test_ok}
 use Rattle.js_grammar.proofs.HeadLemmas.{update_next, prefix_unary, from_is, from_past}

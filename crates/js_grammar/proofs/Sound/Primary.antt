@@ -16,7 +16,7 @@ use Rattle.js_syntax.specs.Classes as classes
 use Rattle.js_syntax.specs.Classes.{Start, start, Link, dot, key, no_link, link, KeyStart, key_start, AfterKey, after_key, is_shorthand}
 use Rattle.js_syntax.specs.Productions.{Code, Below, one_of, tok, a_name, an_assignment, an_expression, arguments, code}
 use Rattle.js_syntax.specs.Parsing.{if_low, key_by, key_at, member_by, property_by, property_at, properties_at, function_by, function_at, is_name_next, primary_by, primary, linked_by, links_by, links, call}
-use Rattle.js_grammar.specs.Laws.{TakesExpression, SoundBelow, TakesCode, SeqSound}
+use Rattle.js_grammar.proofs.Claims.{TakesExpression, SoundBelow, TakesCode, SeqSound}
 use Rattle.js_grammar.proofs.MarkLemmas.{joins}
 use Rattle.js_grammar.proofs.TokenLemmas.{got, ok_is, name_sound, word_sound}
 use Rattle.js_grammar.proofs.Sound.List.{behind_commas, up_to, AllGood, elements_sound}

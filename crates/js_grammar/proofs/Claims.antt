@@ -1,4 +1,4 @@
--- What the laws of the readers say: of what reads below a node, and of productions.
+-- What is claimed of the readers: of what reads below a node, and of productions.
 use Rattle.std.specs.Prelude.{◌≡◌, ℕ, suc, max, ◌≤◌, Bool, true, false, ◌&&◌, List, [], ◌∷◌, ◌++◌, Option, Some, None, Ok}
 use Rattle.js_lexer.specs.declared.token.TokenKind.{TokenKind}
 use Rattle.js_lexer.specs.declared.token.TokenKind.TheVariants as kinds
