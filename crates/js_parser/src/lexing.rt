@@ -61,7 +61,7 @@ pub fn read_tokens<'s>(alloc: Global, items: Tokens<'s>) -> Result<Lexed<'s>, Al
 /// # Errors
 ///
 /// `TooLong`, or no memory.
-pub fn lexed<'s>(alloc: Global, source: &'s [u16]) -> Result<Lexed<'s>, ParseFault>
+pub fn lex<'s>(alloc: Global, source: &'s [u16]) -> Result<Lexed<'s>, ParseFault>
     ensures long { MOST_UNITS < length source.now → result ≡ Err (TooLong (length source.now)) }
     ensures short { IfOk result (λ l. length source.now ≤ MOST_UNITS) }
     ensures tokens { IfOk result (λ l. lexed_view l ≡ lexed_of source.now) }

@@ -11,7 +11,7 @@ ghost use Rattle.js_parser.specs.Spans.{PlacedIn};
 
 use crate::earlier::earlier_names;
 use crate::faults::told;
-use crate::lexing::lexed;
+use crate::lexing::lex;
 use crate::token_trees::{expression_of, function_of, script_of};
 use cdp_text::units::Units;
 use js_syntax::fault::ParseFault;
@@ -25,7 +25,7 @@ pub fn expression_tree(nodes: &mut Nodes, source: &[u16]) -> Result<Expr, ParseF
     ensures answers { Answers IsExpression height source.now (λ x. expression_view x) result }
     ensures placed { IfOk result (λ x. PlacedIn source.now nodes.old nodes.new (expression_places x)) }
 {
-    let lexed = lexed(nodes.alloc(), source)?;
+    let lexed = lex(nodes.alloc(), source)?;
     let read = expression_of(nodes, lexed.tokens.as_slice());
     told(&lexed, source.len(), read)
 }
@@ -35,7 +35,7 @@ pub fn function_tree(nodes: &mut Nodes, source: &[u16]) -> Result<Expr, ParseFau
     ensures answers { Answers IsFunction height source.now (λ x. expression_view x) result }
     ensures placed { IfOk result (λ x. PlacedIn source.now nodes.old nodes.new (expression_places x)) }
 {
-    let lexed = lexed(nodes.alloc(), source)?;
+    let lexed = lex(nodes.alloc(), source)?;
     let read = function_of(nodes, lexed.tokens.as_slice());
     told(&lexed, source.len(), read)
 }
@@ -57,7 +57,7 @@ pub fn script_tree(
     ensures answers { Answers (IsScript declared.now) height_of_statements source.now (λ x. statements_view x) result }
     ensures placed { IfOk result (λ x. PlacedIn source.now nodes.old nodes.new (statements_places x)) }
 {
-    let lexed = lexed(nodes.alloc(), source)?;
+    let lexed = lex(nodes.alloc(), source)?;
     let names = names_of(nodes.alloc(), declared)?;
     let read = script_of(nodes, names, lexed.tokens.as_slice());
     told(&lexed, source.len(), read)
