@@ -75,26 +75,39 @@ DeclaratorsFit P ds ms = (c : Context) → AllMarks P ms → AllBelong P (declar
 
 -- ---- expressions
 
-pub made-fits : (P : Marked → Type 0) (node : ℕ) (term : Context → Term) (ms : Marks) → ((c : Context) → AllMarks P ms → Belongs P (term c)) → ExpressionFits P (made node term) (marking node ms)
+pub made-fits : (P : Marked → Type 0) (node : ℕ) (term : Context → Term) (ms : Marks)
+    → ((c : Context) → AllMarks P ms → Belongs P (term c))
+    → ExpressionFits P (made node term) (marking node ms)
 made-fits P node term ms h = record { same_node = refl; same_word = refl; belongs = h }
 
 pub name-fits : (P : Marked → Type 0) (node : ℕ) (n : List ℕ) → ExpressionFits P (name_made node n) (name_marking node)
 name-fits P node n = record { same_node = refl; same_word = refl; belongs = λ c h. (tt, tt, tt) }
 
-pub member-fits : (P : Marked → Type 0) (node : ℕ) (e : Made) (k : Marking) (n : List ℕ) → ExpressionFits P e k → ExpressionFits P (member_made node e n) (member_marking node k (length n))
+pub member-fits : (P : Marked → Type 0) (node : ℕ) (e : Made) (k : Marking) (n : List ℕ)
+    → ExpressionFits P e k
+    → ExpressionFits P (member_made node e n) (member_marking node k (length n))
 member-fits P node e k n f = record { same_node = refl; same_word = refl; belongs = λ c h. (tt, (f.belongs (unnamed c) h, tt), tt) }
 
-body-belongs : (P : Marked → Type 0) (b : Items) (ms : Marks) (c : Context) → ItemsFit P b ms → AllMarks P ms → AllBelong P (body_terms b c)
+body-belongs : (P : Marked → Type 0) (b : Items) (ms : Marks) (c : Context)
+    → ItemsFit P b ms
+    → AllMarks P ms
+    → AllBelong P (body_terms b c)
 body-belongs P b ms c f h = ((tt, f.belong (within 0 c) h, tt), f.functions_belong (within 0 c) h)
 
-pub function-fits : (P : Marked → Type 0) (node : ℕ) (n : Option (List ℕ)) (ps : List (List ℕ)) (b : Items) (ms : Marks) → ItemsFit P b ms → ExpressionFits P (function_made node n ps b) (marking node (in_function node ms))
+pub function-fits : (P : Marked → Type 0) (node : ℕ) (n : Option (List ℕ)) (ps : List (List ℕ)) (b : Items) (ms : Marks)
+    → ItemsFit P b ms
+    → ExpressionFits P (function_made node n ps b) (marking node (in_function node ms))
 function-fits P node (Some n) ps b ms f = made-fits P node _ (in_function node ms) (λ c h. let k = both-marks P ms _ h in (inr k.1.0, tt, body-belongs P b ms c f k.0))
 function-fits P node None ps b ms f = made-fits P node _ (in_function node ms) (λ c h. let k = both-marks P ms _ h in (inr k.1.0, tt, body-belongs P b ms c f k.0))
 
-pub arrow_block-fits : (P : Marked → Type 0) (node : ℕ) (ps : List (List ℕ)) (b : Items) (ms : Marks) → ItemsFit P b ms → ExpressionFits P (arrow_made node ps b) (marking node (in_function node ms))
+pub arrow_block-fits : (P : Marked → Type 0) (node : ℕ) (ps : List (List ℕ)) (b : Items) (ms : Marks)
+    → ItemsFit P b ms
+    → ExpressionFits P (arrow_made node ps b) (marking node (in_function node ms))
 arrow_block-fits P node ps b ms f = made-fits P node _ (in_function node ms) (λ c h. let k = both-marks P ms _ h in (inr k.1.0, tt, body-belongs P b ms c f k.0))
 
-returned-fits : (P : Marked → Type 0) (e : Made) (k : Marking) → ExpressionFits P e k → ItemsFit P (returned_body e) (in_returned k)
+returned-fits : (P : Marked → Type 0) (e : Made) (k : Marking)
+    → ExpressionFits P e k
+    → ItemsFit P (returned_body e) (in_returned k)
 returned-fits P e k f = record {
   belong = λ c h.
       let marked : HasMark P (start e.node) = (kinds.Return, subst (λ (node : ℕ). P (record { mark = start node; kind = kinds.Return })) (sym f.same_node) h.0) in
@@ -102,23 +115,34 @@ returned-fits P e k f = record {
   functions_belong = λ c h. tt;
 }
 
-pub arrow-fits : (P : Marked → Type 0) (node : ℕ) (ps : List (List ℕ)) (e : Made) (k : Marking) → ExpressionFits P e k → ExpressionFits P (arrow_made node ps (returned_body e)) (marking node (in_returned k))
+pub arrow-fits : (P : Marked → Type 0) (node : ℕ) (ps : List (List ℕ)) (e : Made) (k : Marking)
+    → ExpressionFits P e k
+    → ExpressionFits P (arrow_made node ps (returned_body e)) (marking node (in_returned k))
 arrow-fits P node ps e k f = made-fits P node _ (in_returned k) (λ c h. (inl tt, tt, body-belongs P (returned_body e) (in_returned k) c (returned-fits P e k f) h))
 
-call-belongs : (P : Marked → Type 0) (m : Mark) (node : ℕ) (t : Term) (args : Terms) → P (record { mark = m; kind = kinds.Call }) → Belongs P t → AllBelong P args → Belongs P (call_term m node t args)
+call-belongs : (P : Marked → Type 0) (m : Mark) (node : ℕ) (t : Term) (args : Terms)
+    → P (record { mark = m; kind = kinds.Call })
+    → Belongs P t
+    → AllBelong P args
+    → Belongs P (call_term m node t args)
 call-belongs P m node (done v) args i h k = (i, (tt, (h, k)), tt)
 call-belongs P m node (standing v place) args i h k = (i, (tt, (h, k)), tt)
 call-belongs P m node (part (read r) now later) args i h k = (i, h.1, k)
 call-belongs P m node (part f now later) args i h k = (i, (tt, (h, k)), tt)
 
-pub call-fits : (P : Marked → Type 0) (node : ℕ) (f : Made) (k : Marking) (parentheses : ℕ) (es : List Made) (ms : Marks) → ExpressionFits P f k → ExpressionsFit P es ms → ExpressionFits P (call_made node f parentheses es) (marking node (in_call k parentheses ms))
+pub call-fits : (P : Marked → Type 0) (node : ℕ) (f : Made) (k : Marking) (parentheses : ℕ) (es : List Made) (ms : Marks)
+    → ExpressionFits P f k
+    → ExpressionsFit P es ms
+    → ExpressionFits P (call_made node f parentheses es) (marking node (in_call k parentheses ms))
 call-fits P node f k parentheses es ms g fits = made-fits P node _ (in_call k parentheses ms) (λ c h.
     let all = both-marks P (k.marks ++ _) ms h in
     let callee = both-marks P k.marks _ all.0 in
     let placed : P (record { mark = place_or f.last_word parentheses; kind = kinds.Call }) = subst (λ (o : Option Mark). P (record { mark = place_or o parentheses; kind = kinds.Call })) (sym g.same_word) callee.1.0 in
     call-belongs P (place_or f.last_word parentheses) c.statement (plain f c) (plains es c) placed (g.belongs (unnamed c) callee.0) (fits c all.1))
 
-pub updated-belongs : (P : Marked → Type 0) (o : UpdateOperator) (b : Bool) (t : Term) → Belongs P t → Belongs P (updated o b t)
+pub updated-belongs : (P : Marked → Type 0) (o : UpdateOperator) (b : Bool) (t : Term)
+    → Belongs P t
+    → Belongs P (updated o b t)
 updated-belongs P o b (done v) h = h
 updated-belongs P o b (standing v place) h = h
 updated-belongs P o b (part (read r) now later) h = (tt, h.1, tt)
@@ -145,7 +169,10 @@ unary-belongs P unaries.Minus t h = (tt, (h, tt), tt)
 unary-belongs P unaries.BitwiseNot t h = (tt, (h, tt), tt)
 unary-belongs P unaries.LogicalNot t h = (tt, (h, tt), tt)
 
-pub binary-belongs : (P : Marked → Type 0) (o : BinaryOperator) (l r : Term) → Belongs P l → Belongs P r → Belongs P (binary_term o l r)
+pub binary-belongs : (P : Marked → Type 0) (o : BinaryOperator) (l r : Term)
+    → Belongs P l
+    → Belongs P r
+    → Belongs P (binary_term o l r)
 binary-belongs P binaries.LogicalAnd l r h k = (tt, (h, tt), (k, tt))
 binary-belongs P binaries.LogicalOr l r h k = (tt, (h, tt), (k, tt))
 binary-belongs P o l r h k = (tt, (h, (k, tt)), tt)
@@ -156,13 +183,19 @@ assigned-belongs P (standing v place) e h k = h
 assigned-belongs P (part (read r) now later) e h k = (tt, joined-belongs P now (one e) h.1 (k, tt), tt)
 assigned-belongs P (part f now later) e h k = h
 
-compounded-belongs : (P : Marked → Type 0) (o : BinaryOperator) (t e : Term) → Belongs P t → Belongs P e → Belongs P (compounded o t e)
+compounded-belongs : (P : Marked → Type 0) (o : BinaryOperator) (t e : Term)
+    → Belongs P t
+    → Belongs P e
+    → Belongs P (compounded o t e)
 compounded-belongs P o (done v) e h k = h
 compounded-belongs P o (standing v place) e h k = h
 compounded-belongs P o (part (read r) now later) e h k = (tt, h.1, (k, tt))
 compounded-belongs P o (part f now later) e h k = h
 
-pub assignment-belongs : (P : Marked → Type 0) (o : Option BinaryOperator) (t e : Term) → Belongs P t → Belongs P e → Belongs P (assignment o t e)
+pub assignment-belongs : (P : Marked → Type 0) (o : Option BinaryOperator) (t e : Term)
+    → Belongs P t
+    → Belongs P e
+    → Belongs P (assignment o t e)
 assignment-belongs P None t e h k = assigned-belongs P t e h k
 assignment-belongs P (Some o) t e h k = compounded-belongs P o t e h k
 
@@ -171,10 +204,18 @@ comma-fits P end h = tt
 comma-fits P (more t ts) h = (tt, (h.0, tt), h.1)
 
 -- an expression of two parts, and one of three
-pub two-fit : (P : Marked → Type 0) (d e : Made) (k l : Marking) (c : Context) → ExpressionFits P d k → ExpressionFits P e l → AllMarks P (k.marks ++ l.marks) → Belongs P (plain d c) × Belongs P (plain e c)
+pub two-fit : (P : Marked → Type 0) (d e : Made) (k l : Marking) (c : Context)
+    → ExpressionFits P d k
+    → ExpressionFits P e l
+    → AllMarks P (k.marks ++ l.marks)
+    → Belongs P (plain d c) × Belongs P (plain e c)
 two-fit P d e k l c f g h = let m = both-marks P k.marks l.marks h in (f.belongs (unnamed c) m.0, g.belongs (unnamed c) m.1)
 
-pub conditional-fits : (P : Marked → Type 0) (node : ℕ) (t a b : Made) (k l m : Marking) → ExpressionFits P t k → ExpressionFits P a l → ExpressionFits P b m → ExpressionFits P (conditional_made node t a b) (marking node (k.marks ++ l.marks ++ m.marks))
+pub conditional-fits : (P : Marked → Type 0) (node : ℕ) (t a b : Made) (k l m : Marking)
+    → ExpressionFits P t k
+    → ExpressionFits P a l
+    → ExpressionFits P b m
+    → ExpressionFits P (conditional_made node t a b) (marking node (k.marks ++ l.marks ++ m.marks))
 conditional-fits P node t a b k l m f g i = made-fits P node _ _ (λ c h.
     let last = both-marks P (k.marks ++ l.marks) m.marks h in
     let two = two-fit P t a k l c f g last.0 in
@@ -182,11 +223,17 @@ conditional-fits P node t a b k l m f g i = made-fits P node _ _ (λ c h.
 
 -- ---- object literals
 
-pub value-fits : (P : Marked → Type 0) (key : PropertyKey) (e : Made) (ms : Marks) (k : Marking) → KeyFits P key ms → ExpressionFits P e k → PropertyFits P (value_property key e) (ms ++ k.marks)
+pub value-fits : (P : Marked → Type 0) (key : PropertyKey) (e : Made) (ms : Marks) (k : Marking)
+    → KeyFits P key ms
+    → ExpressionFits P e k
+    → PropertyFits P (value_property key e) (ms ++ k.marks)
 value-fits P (fixed_key n) e ms k f g c p h q = let m = both-marks P ms k.marks h in record { now_belong = (g.belongs (naming n c) m.1, q.now_belong); later_belong = q.later_belong }
 value-fits P (computed_key n) e ms k f g c p h q = let m = both-marks P ms k.marks h in record { now_belong = (f c m.0, (g.belongs (unnamed c) m.1, q.now_belong)); later_belong = q.later_belong }
 
-pub method-fits : (P : Marked → Type 0) (node : ℕ) (key : PropertyKey) (ps : List (List ℕ)) (b : Items) (ms ns : Marks) → KeyFits P key ms → ItemsFit P b ns → PropertyFits P (method_property node key ps b) (ms ++ in_function node ns)
+pub method-fits : (P : Marked → Type 0) (node : ℕ) (key : PropertyKey) (ps : List (List ℕ)) (b : Items) (ms ns : Marks)
+    → KeyFits P key ms
+    → ItemsFit P b ns
+    → PropertyFits P (method_property node key ps b) (ms ++ in_function node ns)
 method-fits P node (fixed_key n) ps b ms ns f g c p h q =
     let m = both-marks P ms (in_function node ns) h in
     let k = both-marks P ns _ m.1 in
@@ -201,13 +248,20 @@ method-fits P node (computed_key e) ps b ms ns f g c p h q =
 pub optional-none : (P : Marked → Type 0) → OptionalFits P None []
 optional-none P = record { listed = λ c h. tt; or_other = λ c v h. tt }
 
-pub optional-some : (P : Marked → Type 0) (e : Made) (k : Marking) → ExpressionFits P e k → OptionalFits P (Some e) k.marks
+pub optional-some : (P : Marked → Type 0) (e : Made) (k : Marking)
+    → ExpressionFits P e k
+    → OptionalFits P (Some e) k.marks
 optional-some P e k f = record { listed = λ c h. (f.belongs (unnamed c) h, tt); or_other = λ c v h. f.belongs (unnamed c) h }
 
-entered-fits : (P : Marked → Type 0) (node : ℕ) (kind : SpotKind) (term : Context → Term) (ms : Marks) → ((c : Context) → AllMarks P ms → Belongs P (term c)) → ItemFits P (untouched node term) (beginning kind node ++ ms)
+entered-fits : (P : Marked → Type 0) (node : ℕ) (kind : SpotKind) (term : Context → Term) (ms : Marks)
+    → ((c : Context) → AllMarks P ms → Belongs P (term c))
+    → ItemFits P (untouched node term) (beginning kind node ++ ms)
 entered-fits P node kind term ms f = record { belongs = λ c h. ((kind, h.0), tt, (f (within node c) h.1, tt)); functions_belong = λ c h. tt }
 
-block-fits : (P : Marked → Type 0) (b : Items) (ms : Marks) (c : Context) → ItemsFit P b ms → AllMarks P ms → Belongs P (block_term b c)
+block-fits : (P : Marked → Type 0) (b : Items) (ms : Marks) (c : Context)
+    → ItemsFit P b ms
+    → AllMarks P ms
+    → Belongs P (block_term b c)
 block-fits P b ms c f h = (tt, tt, ((tt, f.belong c h, tt), f.functions_belong c h))
 
 pub block_item-fits : (P : Marked → Type 0) (b : Items) (ms : Marks) → ItemsFit P b ms → ItemFits P (block_item b) ms
@@ -216,42 +270,69 @@ block_item-fits P b ms f = record { belongs = λ c h. block-fits P b ms c f h; f
 pub empty-fits : (P : Marked → Type 0) → ItemFits P empty_item []
 empty-fits P = record { belongs = λ c h. tt; functions_belong = λ c h. tt }
 
-pub lexical-fits : (P : Marked → Type 0) (node : ℕ) (constant : Bool) (ds : List DeclaratorMade) (ms : Marks) → DeclaratorsFit P ds ms → ItemFits P (lexical_item node constant ds) (beginning kinds.Plain node ++ ms)
+pub lexical-fits : (P : Marked → Type 0) (node : ℕ) (constant : Bool) (ds : List DeclaratorMade) (ms : Marks)
+    → DeclaratorsFit P ds ms
+    → ItemFits P (lexical_item node constant ds) (beginning kinds.Plain node ++ ms)
 lexical-fits P node constant ds ms f = record { belongs = λ c h. ((kinds.Plain, h.0), tt, ((tt, f (within node c) h.1, tt), tt)); functions_belong = λ c h. tt }
 
-pub expression-fits : (P : Marked → Type 0) (node : ℕ) (e : Made) (k : Marking) → ExpressionFits P e k → ItemFits P (expression_item node e) (beginning kinds.Plain node ++ k.marks)
+pub expression-fits : (P : Marked → Type 0) (node : ℕ) (e : Made) (k : Marking)
+    → ExpressionFits P e k
+    → ItemFits P (expression_item node e) (beginning kinds.Plain node ++ k.marks)
 expression-fits P node e k f = entered-fits P node kinds.Plain (plain e) k.marks (λ c h. f.belongs (unnamed c) h)
 
-pub if-fits : (P : Marked → Type 0) (node : ℕ) (e : Made) (s : Item) (k : Marking) (ms : Marks) → ExpressionFits P e k → ItemFits P s ms → ItemFits P (if_item node e s None) (beginning kinds.Plain node ++ k.marks ++ ms ++ [])
+pub if-fits : (P : Marked → Type 0) (node : ℕ) (e : Made) (s : Item) (k : Marking) (ms : Marks)
+    → ExpressionFits P e k
+    → ItemFits P s ms
+    → ItemFits P (if_item node e s None) (beginning kinds.Plain node ++ k.marks ++ ms ++ [])
 if-fits P node e s k ms f g = entered-fits P node kinds.Plain (λ c. part choose (one (plain e c)) (more (s.term c) (one nothing))) (k.marks ++ ms ++ []) (λ c h.
     let all = both-marks P (k.marks ++ ms) [] h in
     let m = both-marks P k.marks ms all.0 in
     (tt, (f.belongs (unnamed c) m.0, tt), (g.belongs c m.1, (tt, tt))))
 
-pub if_else-fits : (P : Marked → Type 0) (node : ℕ) (e : Made) (s t : Item) (k : Marking) (ms ns : Marks) → ExpressionFits P e k → ItemFits P s ms → ItemFits P t ns → ItemFits P (if_item node e s (Some t)) (beginning kinds.Plain node ++ k.marks ++ ms ++ ns)
+pub if_else-fits : (P : Marked → Type 0) (node : ℕ) (e : Made) (s t : Item) (k : Marking) (ms ns : Marks)
+    → ExpressionFits P e k
+    → ItemFits P s ms
+    → ItemFits P t ns
+    → ItemFits P (if_item node e s (Some t)) (beginning kinds.Plain node ++ k.marks ++ ms ++ ns)
 if_else-fits P node e s t k ms ns f g i = entered-fits P node kinds.Plain (λ c. part choose (one (plain e c)) (more (s.term c) (one (t.term c)))) (k.marks ++ ms ++ ns) (λ c h.
     let all = both-marks P (k.marks ++ ms) ns h in
     let m = both-marks P k.marks ms all.0 in
     (tt, (f.belongs (unnamed c) m.0, tt), (g.belongs c m.1, (i.belongs c all.1, tt))))
 
-pub do_while-fits : (P : Marked → Type 0) (node : ℕ) (s : Item) (e : Made) (ms : Marks) (k : Marking) → ItemFits P s ms → ExpressionFits P e k → ItemFits P (do_while_item node s e) (beginning kinds.Plain node ++ ms ++ k.marks)
+pub do_while-fits : (P : Marked → Type 0) (node : ℕ) (s : Item) (e : Made) (ms : Marks) (k : Marking)
+    → ItemFits P s ms
+    → ExpressionFits P e k
+    → ItemFits P (do_while_item node s e) (beginning kinds.Plain node ++ ms ++ k.marks)
 do_while-fits P node s e ms k g f = entered-fits P node kinds.Plain (λ c. part (loop doing None) end (loop_parts (plain e c) nothing (s.term c))) (ms ++ k.marks) (λ c h.
     let m = both-marks P ms k.marks h in
     (tt, tt, (f.belongs (unnamed c) m.1, (tt, (g.belongs c m.0, tt)))))
 
-pub while-fits : (P : Marked → Type 0) (node : ℕ) (e : Made) (s : Item) (k : Marking) (ms : Marks) → ExpressionFits P e k → ItemFits P s ms → ItemFits P (while_item node e s) (beginning kinds.Plain node ++ k.marks ++ ms)
+pub while-fits : (P : Marked → Type 0) (node : ℕ) (e : Made) (s : Item) (k : Marking) (ms : Marks)
+    → ExpressionFits P e k
+    → ItemFits P s ms
+    → ItemFits P (while_item node e s) (beginning kinds.Plain node ++ k.marks ++ ms)
 while-fits P node e s k ms f g = entered-fits P node kinds.Plain (λ c. part (loop first None) end (loop_parts (plain e c) nothing (s.term c))) (k.marks ++ ms) (λ c h.
     let m = both-marks P k.marks ms h in
     (tt, tt, (f.belongs (unnamed c) m.0, (tt, (g.belongs c m.1, tt)))))
 
-pub for-fits : (P : Marked → Type 0) (node : ℕ) (i t u : Option Made) (s : Item) (is ts us ms : Marks) → OptionalFits P i is → OptionalFits P t ts → OptionalFits P u us → ItemFits P s ms → ItemFits P (for_item node i t u s) (beginning kinds.Plain node ++ is ++ ts ++ us ++ ms)
+pub for-fits : (P : Marked → Type 0) (node : ℕ) (i t u : Option Made) (s : Item) (is ts us ms : Marks)
+    → OptionalFits P i is
+    → OptionalFits P t ts
+    → OptionalFits P u us
+    → ItemFits P s ms
+    → ItemFits P (for_item node i t u s) (beginning kinds.Plain node ++ is ++ ts ++ us ++ ms)
 for-fits P node i t u s is ts us ms f g h k = entered-fits P node kinds.Plain (λ c. part (loop first None) (optional_terms i c) (for_parts t u s c)) (is ++ ts ++ us ++ ms) (λ c all.
     let four = both-marks P (is ++ ts ++ us) ms all in
     let three = both-marks P (is ++ ts) us four.0 in
     let two = both-marks P is ts three.0 in
     (tt, f.listed c two.0, (g.or_other c (values.Bool true) two.1, (h.or_other c values.Undefined three.1, (k.belongs c four.1, tt)))))
 
-pub for_lexical-fits : (P : Marked → Type 0) (node : ℕ) (constant : Bool) (ds : List DeclaratorMade) (t u : Option Made) (s : Item) (is ts us ms : Marks) → DeclaratorsFit P ds is → OptionalFits P t ts → OptionalFits P u us → ItemFits P s ms → ItemFits P (for_lexical_item node constant ds t u s) (beginning kinds.Plain node ++ is ++ ts ++ us ++ ms)
+pub for_lexical-fits : (P : Marked → Type 0) (node : ℕ) (constant : Bool) (ds : List DeclaratorMade) (t u : Option Made) (s : Item) (is ts us ms : Marks)
+    → DeclaratorsFit P ds is
+    → OptionalFits P t ts
+    → OptionalFits P u us
+    → ItemFits P s ms
+    → ItemFits P (for_lexical_item node constant ds t u s) (beginning kinds.Plain node ++ is ++ ts ++ us ++ ms)
 for_lexical-fits P node constant ds t u s is ts us ms f g h k = record {
   belongs = λ c all.
       let four = both-marks P (is ++ ts ++ us) ms all.1 in
@@ -262,7 +343,10 @@ for_lexical-fits P node constant ds t u s is ts us ms f g h k = record {
   functions_belong = λ c h. tt;
 }
 
-pub for_of-fits : (P : Marked → Type 0) (node : ℕ) (constant : Bool) (n : List ℕ) (e : Made) (s : Item) (k : Marking) (ms : Marks) → ExpressionFits P e k → ItemFits P s ms → ItemFits P (for_of_item node constant n e s) (beginning kinds.Plain node ++ k.marks ++ ms)
+pub for_of-fits : (P : Marked → Type 0) (node : ℕ) (constant : Bool) (n : List ℕ) (e : Made) (s : Item) (k : Marking) (ms : Marks)
+    → ExpressionFits P e k
+    → ItemFits P s ms
+    → ItemFits P (for_of_item node constant n e s) (beginning kinds.Plain node ++ k.marks ++ ms)
 for_of-fits P node constant n e s k ms f g = record {
   belongs = λ c h.
       let m = both-marks P k.marks ms h.1 in
@@ -276,10 +360,14 @@ continue-fits P node = record { belongs = λ c h. ((kinds.Plain, h.0), tt, ((tt,
 pub break-fits : (P : Marked → Type 0) (node : ℕ) → ItemFits P (break_item node) (beginning kinds.Plain node)
 break-fits P node = record { belongs = λ c h. ((kinds.Plain, h.0), tt, ((tt, tt, tt), tt)); functions_belong = λ c h. tt }
 
-pub return-fits : (P : Marked → Type 0) (node : ℕ) (e : Option Made) (ms : Marks) → OptionalFits P e ms → ItemFits P (return_item node e) (beginning kinds.Return node ++ ms)
+pub return-fits : (P : Marked → Type 0) (node : ℕ) (e : Option Made) (ms : Marks)
+    → OptionalFits P e ms
+    → ItemFits P (return_item node e) (beginning kinds.Return node ++ ms)
 return-fits P node e ms f = entered-fits P node kinds.Return (λ c. part return_ (optional_terms e c) end) ms (λ c h. (tt, f.listed c h, tt))
 
-pub throw-fits : (P : Marked → Type 0) (node : ℕ) (e : Made) (k : Marking) → ExpressionFits P e k → ItemFits P (throw_item node e) (beginning kinds.Plain node ++ k.marks)
+pub throw-fits : (P : Marked → Type 0) (node : ℕ) (e : Made) (k : Marking)
+    → ExpressionFits P e k
+    → ItemFits P (throw_item node e) (beginning kinds.Plain node ++ k.marks)
 throw-fits P node e k f = entered-fits P node kinds.Plain (λ c. part (throw_ node) (one (plain e c)) end) k.marks (λ c h. (tt, (f.belongs (unnamed c) h, tt), tt))
 
 -- a catch and a finally, where they are
@@ -301,7 +389,11 @@ no_finally-fits P = record { around_belongs = λ t c h k. h }
 pub finally-fits : (P : Marked → Type 0) (b : Items) (ms : Marks) → ItemsFit P b ms → FinallyFits P (Some b) ms
 finally-fits P b ms f = record { around_belongs = λ t c i k. (tt, (i, tt), (block-fits P b ms c f k, tt)) }
 
-pub try-fits : (P : Marked → Type 0) (node : ℕ) (b : Items) (h : Option CatchMade) (f : Option Items) (ms ns os : Marks) → ItemsFit P b ms → CatchFits P h ns → FinallyFits P f os → ItemFits P (try_item node b h f) (beginning kinds.Plain node ++ ms ++ ns ++ os)
+pub try-fits : (P : Marked → Type 0) (node : ℕ) (b : Items) (h : Option CatchMade) (f : Option Items) (ms ns os : Marks)
+    → ItemsFit P b ms
+    → CatchFits P h ns
+    → FinallyFits P f os
+    → ItemFits P (try_item node b h f) (beginning kinds.Plain node ++ ms ++ ns ++ os)
 try-fits P node b h f ms ns os g i k = entered-fits P node kinds.Plain (λ c. finally_term f (caught h (block_term b c) c) c) (ms ++ ns ++ os) (λ c all.
     let three = both-marks P (ms ++ ns) os all in
     let two = both-marks P ms ns three.0 in
@@ -310,13 +402,18 @@ try-fits P node b h f ms ns os g i k = entered-fits P node kinds.Plain (λ c. fi
 pub debugger-fits : (P : Marked → Type 0) (node : ℕ) → ItemFits P (debugger_item node) (beginning kinds.Debugger node)
 debugger-fits P node = record { belongs = λ c h. (h.0, tt, (tt, tt)); functions_belong = λ c h. tt }
 
-pub declaration-fits : (P : Marked → Type 0) (node : ℕ) (n : List ℕ) (ps : List (List ℕ)) (b : Items) (ms : Marks) → ItemsFit P b ms → ItemFits P (function_item node n ps b) (in_function node ms)
+pub declaration-fits : (P : Marked → Type 0) (node : ℕ) (n : List ℕ) (ps : List (List ℕ)) (b : Items) (ms : Marks)
+    → ItemsFit P b ms
+    → ItemFits P (function_item node n ps b) (in_function node ms)
 declaration-fits P node n ps b ms f = record { belongs = λ c h. tt; functions_belong = λ c h. let k = both-marks P ms _ h in ((inr k.1.0, tt, body-belongs P b ms c f k.0), tt) }
 
 pub no_items-fit : (P : Marked → Type 0) → ItemsFit P no_items []
 no_items-fit P = record { belong = λ c h. tt; functions_belong = λ c h. tt }
 
-pub and_items-fit : (P : Marked → Type 0) (i : Item) (is : Items) (ms ns : Marks) → ItemFits P i ms → ItemsFit P is ns → ItemsFit P (and_items i is) (ms ++ ns)
+pub and_items-fit : (P : Marked → Type 0) (i : Item) (is : Items) (ms ns : Marks)
+    → ItemFits P i ms
+    → ItemsFit P is ns
+    → ItemsFit P (and_items i is) (ms ++ ns)
 and_items-fit P i is ms ns f g = record {
   belong = λ c h. let m = both-marks P ms ns h in (f.belongs c m.0, g.belong c m.1);
   functions_belong = λ c h. let m = both-marks P ms ns h in joined-belongs P (i.functions c) (is.functions c) (f.functions_belong c m.0) (g.functions_belong c m.1);

@@ -53,7 +53,8 @@ if_raised : (told : Told) (P Q : Type 0) → (P → Q) → IfRaised told P → I
 if_raised raised P Q f h = f h
 if_raised told P Q f h = tt
 
-full_raises : (b : Bool) (what : Counted) (s : State) (v : Value) → MoveRaises (if b then is_full what s else raised_at v s)
+full_raises : (b : Bool) (what : Counted) (s : State) (v : Value)
+    → MoveRaises (if b then is_full what s else raised_at v s)
 full_raises true what s v = tt
 full_raises false what s v = tt
 
@@ -61,7 +62,9 @@ outside_raises : (b : Bool) (s : State) (m : Move Term) → MoveRaises m → Mov
 outside_raises true s m h = tt
 outside_raises false s m h = h
 
-after_raises : {A : Type 0} (s : State) (t : Tried A) (k : A → State → Move Term) → ((a : A) (w : World) → MoveRaises (k a (with_world s w))) → MoveRaises (after t s k)
+after_raises : {A : Type 0} (s : State) (t : Tried A) (k : A → State → Move Term)
+    → ((a : A) (w : World) → MoveRaises (k a (with_world s w)))
+    → MoveRaises (after t s k)
 after_raises s (fine a w) k h = h a w
 after_raises s effect k h = tt
 after_raises s (full what) k h = full_raises (is_evaluation s.world) what s _
@@ -98,11 +101,16 @@ around-throw : (f : Form) (l : Leftmost) → LeadsToThrow l → IsThrow (active_
 around-throw f (only_values vs) h = absurd h
 around-throw f (inner a) h = h
 
-settled_throw : (b : Bool) (f : Form) (now later : Terms) → all_done now ≡ b → LeadsToThrow (leftmost now) → IsThrow (active (if b then finished f now later else part f now later))
+settled_throw : (b : Bool) (f : Form) (now later : Terms)
+    → all_done now ≡ b
+    → LeadsToThrow (leftmost now)
+    → IsThrow (active (if b then finished f now later else part f now later))
 settled_throw true f now later e h = let open_part : all_done now ≡ false = not-done now h in cc
 settled_throw false f now later e h = around-throw f (leftmost now) h
 
-around-raises : (p : Program) (scope : Addr) (f : Form) (later : Terms) (s : State) (x : Walked) → WalkRaises x → MoveRaises (around p scope f later s x)
+around-raises : (p : Program) (scope : Addr) (f : Form) (later : Terms) (s : State) (x : Walked)
+    → WalkRaises x
+    → MoveRaises (around p scope f later s x)
 around-raises p scope f later s (all_values vs) h = perform-raises (row p s scope f vs later) s
 around-raises p scope f later s (moved (goes now t told)) h = if_raised told _ _ (settled_throw (all_done now) f now later refl) h
 around-raises p scope f later s (moved (travels c t)) h = perform-raises (taken scope f c later) t
@@ -171,7 +179,10 @@ stands-known : (R : Sources) (r : Run) → RunStands R r → HasThrow r → R.ra
 stands-known R (running t s) h e = known-throw R (active t) (is_caught t) (running-active R t (sources_of s.frames) h).throw_known e
 stands-known R (over f s) h e = absurd e
 
-step-raises : (R : Sources) (p : Program) (r : Run) → ProgramBelongs R p → RunStandsBehind R r → HasThrow (step_in p script_scope r) ↔ (told_by p r ≡ Some raised)
+step-raises : (R : Sources) (p : Program) (r : Run)
+    → ProgramBelongs R p
+    → RunStandsBehind R r
+    → HasThrow (step_in p script_scope r) ↔ (told_by p r ≡ Some raised)
 step-raises R p (running t s) g h =
     let m : Move Term = next p script_scope t s in
     (λ e. stands-known (behind_step R (told_of m)) (run_after m) (run-moves (behind_step R h.0) p script_scope t s g h.1) e, λ e. raised-stands m (next-raises p script_scope t s) e)
@@ -193,11 +204,13 @@ every-waits : (ss : List Script) (n : ℕ) → AllWait every (all_with_literals 
 every-waits [] n = tt
 every-waits (s ∷ ss) n = ((tt, every-part n s), every-waits ss (n + length (literals (term_of_script s))))
 
-every-program : (ss : List Script) (number n : ℕ) → ProgramBelongs every (program_from number (all_with_literals (λ i. Base i) n (terms_of_scripts ss)))
+every-program : (ss : List Script) (number n : ℕ)
+    → ProgramBelongs every (program_from number (all_with_literals (λ i. Base i) n (terms_of_scripts ss)))
 every-program [] number n = tt
 every-program (s ∷ ss) number n = ((tt, tt, every-part n s), every-program ss (number + 1) (n + length (literals (term_of_script s))))
 
-start-waits : (ss : List Script) (input : List (List ℕ)) → RunStands (behind_step every None) (start (terms_of_scripts ss) input)
+start-waits : (ss : List Script) (input : List (List ℕ))
+    → RunStands (behind_step every None) (start (terms_of_scripts ss) input)
 start-waits ss input = start-stands (behind_step every None) (script_source 1) (placed_scripts (terms_of_scripts ss)) (first_state (terms_of_scripts ss) input) refl tt (every-waits ss first_literal)
 
 none-raised : None ≡ Some raised → ⊥

@@ -52,21 +52,26 @@ inside-returns ts (travels c s) h = tt
 inside-returns ts (has_effect s) h = tt
 inside-returns ts (is_full what s) h = tt
 
-return-returns : (p : Program) (scope : Addr) (later : Terms) (s : State) (x : Walked) → MoveReturns (around p scope return_ later s x)
+return-returns : (p : Program) (scope : Addr) (later : Terms) (s : State) (x : Walked)
+    → MoveReturns (around p scope return_ later s x)
 return-returns p scope later s (all_values vs) = tt
 return-returns p scope later s (moved (goes now t told)) = either-returns (all_done now) (part return_ now later) (part return_ now later) tt tt
 return-returns p scope later s (moved (travels c t)) = tt
 return-returns p scope later s (moved (has_effect t)) = tt
 return-returns p scope later s (moved (is_full what t)) = tt
 
-enter-returns : (p : Program) (scope : Addr) (node : ℕ) (t : Term) (ts : Terms) (s : State) (x : Walked) → Returns t → MoveReturns (around p scope (enter node) (more t ts) s x)
+enter-returns : (p : Program) (scope : Addr) (node : ℕ) (t : Term) (ts : Terms) (s : State) (x : Walked)
+    → Returns t
+    → MoveReturns (around p scope (enter node) (more t ts) s x)
 enter-returns p scope node t ts s (all_values vs) h = settle-returns t h
 enter-returns p scope node t ts s (moved (goes now u told)) h = either-returns (all_done now) (part (enter node) now (more t ts)) (part (enter node) now (more t ts)) h h
 enter-returns p scope node t ts s (moved (travels c u)) h = tt
 enter-returns p scope node t ts s (moved (has_effect u)) h = tt
 enter-returns p scope node t ts s (moved (is_full what u)) h = tt
 
-rest-returns : (p : Program) (scope : Addr) (later : Terms) (s : State) (x : Walked) → WalkReturns x → MoveReturns (around p scope sequence later s x)
+rest-returns : (p : Program) (scope : Addr) (later : Terms) (s : State) (x : Walked)
+    → WalkReturns x
+    → MoveReturns (around p scope sequence later s x)
 rest-returns p scope later s (all_values vs) h = absurd h
 rest-returns p scope later s (moved (goes now t told)) h = sequence-returns now later h
 rest-returns p scope later s (moved (travels c t)) h = tt
@@ -84,7 +89,9 @@ mutual
   next-returns p scope (part sequence (more t ts) later) s h = rest-returns p scope later s (walk p scope (more t ts) s) (walk-returns p scope (more t ts) s h)
   next-returns p scope (part f now later) s h = absurd h
 
-  walk-returns : (p : Program) (scope : Addr) (ts : Terms) (s : State) → FirstReturns ts → WalkReturns (walk p scope ts s)
+  walk-returns : (p : Program) (scope : Addr) (ts : Terms) (s : State)
+      → FirstReturns ts
+      → WalkReturns (walk p scope ts s)
   walk-returns p scope end s h = absurd h
   walk-returns p scope (more (done v) ts) s h = absurd h
   walk-returns p scope (more (standing v place) ts) s h = absurd h

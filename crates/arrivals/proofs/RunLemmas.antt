@@ -30,7 +30,10 @@ ScriptMoves R (travels c s) = Unit {0}
 ScriptMoves R (has_effect s) = Unit {0}
 ScriptMoves R (is_full what s) = Unit {0}
 
-of-source : (R : Sources) (source : Source) (m : Move Term) → R.runs source → MoveStands R (source ∷ []) m → ScriptMoves R m
+of-source : (R : Sources) (source : Source) (m : Move Term)
+    → R.runs source
+    → MoveStands R (source ∷ []) m
+    → ScriptMoves R m
 of-source R source (goes t s told) r h = (source, r, h)
 of-source R source (travels c s) r h = tt
 of-source R source (has_effect s) r h = tt
@@ -41,7 +44,12 @@ rest-nothing [] source e = cc
 rest-nothing (f ∷ fs) source e = cc
 
 -- what becomes of a script belongs to it, and the bottom frame is of its source
-script-begins : (R : Sources) (source : Source) (number : ℕ) (names : List Binding) (later : Terms) (s : State) → sources_of s.frames ≡ source ∷ [] → R.runs source → R.runs (script_source number) → AllBelong (R.marks (script_source number)) later → ScriptMoves R (perform (script_row number names later) s)
+script-begins : (R : Sources) (source : Source) (number : ℕ) (names : List Binding) (later : Terms) (s : State)
+    → sources_of s.frames ≡ source ∷ []
+    → R.runs source
+    → R.runs (script_source number)
+    → AllBelong (R.marks (script_source number)) later
+    → ScriptMoves R (perform (script_row number names later) s)
 script-begins R source number names end s e r w h = (source, r, e)
 script-begins R source number names (more t fs) s e r w h =
     let P : Marked → Type 0 = R.marks (script_source number) in
@@ -53,21 +61,30 @@ script-begins R source number names (more t fs) s e r w h =
     (perform-stands R own rest (record s { frames = script_frame number ∷ rest_of s.frames })
     (subst (λ (under : List Source). ActionStands R own (script_source number ∷ under) rest) (sym (rest-nothing s.frames source e)) (action-stands R own rest belongs)))
 
-script-moves : (R : Sources) (source : Source) (p : Program) (scope : Addr) (f : Form) (now later : Terms) (s : State) → ProgramBelongs R p → R.runs source → ScriptStands R source (part f now later) (sources_of s.frames) → ScriptMoves R (next p scope (part f now later) s)
+script-moves : (R : Sources) (source : Source) (p : Program) (scope : Addr) (f : Form) (now later : Terms) (s : State)
+    → ProgramBelongs R p
+    → R.runs source
+    → ScriptStands R source (part f now later) (sources_of s.frames)
+    → ScriptMoves R (next p scope (part f now later) s)
 script-moves R source p scope (script number names) end later s g r h = script-begins R source number names later s h.0 r h.1.0 h.1.1
 script-moves R source p scope (script number names) (more t ts) later s g r h = absurd h.1
 script-moves R source p scope f now later s g r h = of-source R source (next p scope (part f now later) s) r (next-stands R (source ∷ []) p scope (part f now later) s g h)
 
 -- ---- scripts one after another
 
-waits-stand : (R : Sources) (source : Source) (ts : Terms) (all : List Source) → all ≡ source ∷ [] → AllWait R ts → ScriptsStand R source ts all
+waits-stand : (R : Sources) (source : Source) (ts : Terms) (all : List Source)
+    → all ≡ source ∷ []
+    → AllWait R ts
+    → ScriptsStand R source ts all
 waits-stand R source end all e h = e
 waits-stand R source (more (done v) ts) all e h = absurd h.0
 waits-stand R source (more (standing v place) ts) all e h = absurd h.0
 waits-stand R source (more (part (script number names) now later) ts) all e h = ((e, h.0), h.1)
 waits-stand R source (more (part f now later) ts) all e h = absurd h.0
 
-script-stands : (R : Sources) (source : Source) (f : Form) (now later : Terms) (all : List Source) → TermStands R (source ∷ []) (part f now later) all → ScriptStands R source (part f now later) all
+script-stands : (R : Sources) (source : Source) (f : Form) (now later : Terms) (all : List Source)
+    → TermStands R (source ∷ []) (part f now later) all
+    → ScriptStands R source (part f now later) all
 script-stands R source (script number names) now later all h = absurd h.0
 script-stands R source f now later all h = h
 
@@ -81,7 +98,10 @@ abbrev ScriptsWalk : Sources → Walked → Type 0
 ScriptsWalk R (all_values vs) = Unit {0}
 ScriptsWalk R (moved m) = ScriptsMove R m
 
-inside-scripts : (R : Sources) (ts : Terms) (m : Move Term) → AllWait R ts → ScriptMoves R m → ScriptsMove R (inside (λ t. more t ts) m)
+inside-scripts : (R : Sources) (ts : Terms) (m : Move Term)
+    → AllWait R ts
+    → ScriptMoves R m
+    → ScriptsMove R (inside (λ t. more t ts) m)
 inside-scripts R ts (goes (done v) s told) k h = (h.0, h.1, waits-stand (behind_step R (Some told)) h.0 ts (sources_of s.frames) h.2 k)
 inside-scripts R ts (goes (standing v place) s told) k h = (h.0, h.1, (h.2.0, h.2.1, k))
 inside-scripts R ts (goes (part f now later) s told) k h = (h.0, h.1, (script-stands (behind_step R (Some told)) h.0 f now later (sources_of s.frames) h.2, k))
@@ -89,7 +109,9 @@ inside-scripts R ts (travels c s) k h = tt
 inside-scripts R ts (has_effect s) k h = tt
 inside-scripts R ts (is_full what s) k h = tt
 
-behind-value : (R : Sources) (v : Value) (m : Move Terms) → ScriptsMove R m → ScriptsMove R (inside (λ ts. more (done v) ts) m)
+behind-value : (R : Sources) (v : Value) (m : Move Terms)
+    → ScriptsMove R m
+    → ScriptsMove R (inside (λ ts. more (done v) ts) m)
 behind-value R v (goes ts s told) h = h
 behind-value R v (travels c s) h = tt
 behind-value R v (has_effect s) h = tt
@@ -99,7 +121,11 @@ with_value-scripts : (R : Sources) (v : Value) (x : Walked) → ScriptsWalk R x 
 with_value-scripts R v (all_values vs) h = tt
 with_value-scripts R v (moved m) h = behind-value R v m h
 
-walk-scripts : (R : Sources) (source : Source) (p : Program) (scope : Addr) (ts : Terms) (s : State) → ProgramBelongs R p → R.runs source → ScriptsStand R source ts (sources_of s.frames) → ScriptsWalk R (walk p scope ts s)
+walk-scripts : (R : Sources) (source : Source) (p : Program) (scope : Addr) (ts : Terms) (s : State)
+    → ProgramBelongs R p
+    → R.runs source
+    → ScriptsStand R source ts (sources_of s.frames)
+    → ScriptsWalk R (walk p scope ts s)
 walk-scripts R source p scope end s g r h = tt
 walk-scripts R source p scope (more (done v) ts) s g r h = with_value-scripts R v (walk p scope ts s) (walk-scripts R source p scope ts s g r h)
 walk-scripts R source p scope (more (standing v place) ts) s g r h = tt
@@ -107,7 +133,10 @@ walk-scripts R source p scope (more (part f now later) ts) s g r h = inside-scri
 
 -- ---- runs
 
-scripts_if : (R : Sources) (b : Bool) (source : Source) (ts later : Terms) (s : State) → R.runs source → ScriptsStand R source ts (sources_of s.frames) → RunStands R (run_of (if b then done values.Undefined else part scripts ts later) s)
+scripts_if : (R : Sources) (b : Bool) (source : Source) (ts later : Terms) (s : State)
+    → R.runs source
+    → ScriptsStand R source ts (sources_of s.frames)
+    → RunStands R (run_of (if b then done values.Undefined else part scripts ts later) s)
 scripts_if R true source ts later s r h = tt
 scripts_if R false source ts later s r h = (source, r, h)
 
@@ -115,14 +144,19 @@ scripts_if R false source ts later s r h = (source, r, h)
 abbrev pub RunMoves : Sources → Move Term → Type 0
 RunMoves R m = RunStands (behind_step R (told_of m)) (run_after m)
 
-around-scripts : (R : Sources) (p : Program) (scope : Addr) (later : Terms) (s : State) (x : Walked) → ScriptsWalk R x → RunMoves R (around p scope scripts later s x)
+around-scripts : (R : Sources) (p : Program) (scope : Addr) (later : Terms) (s : State) (x : Walked)
+    → ScriptsWalk R x
+    → RunMoves R (around p scope scripts later s x)
 around-scripts R p scope later s (all_values vs) h = tt
 around-scripts R p scope later s (moved (goes ts t told)) h = scripts_if (behind_step R (Some told)) (all_done ts) h.0 ts later t h.1 h.2
 around-scripts R p scope later s (moved (travels c t)) h = tt
 around-scripts R p scope later s (moved (has_effect t)) h = tt
 around-scripts R p scope later s (moved (is_full what t)) h = tt
 
-pub run-moves : (R : Sources) (p : Program) (scope : Addr) (t : Term) (s : State) → ProgramBelongs R p → RunningStands R t (sources_of s.frames) → RunMoves R (next p scope t s)
+pub run-moves : (R : Sources) (p : Program) (scope : Addr) (t : Term) (s : State)
+    → ProgramBelongs R p
+    → RunningStands R t (sources_of s.frames)
+    → RunMoves R (next p scope t s)
 run-moves R p scope (done v) s g h = absurd h
 run-moves R p scope (standing v place) s g h = absurd h
 run-moves R p scope (part scripts now later) s g h = around-scripts R p scope later s (walk p scope now s) (walk-scripts R h.0 p scope now s g h.1 h.2)
@@ -132,13 +166,23 @@ run-moves R p scope (part f now later) s g h = absurd h
 abbrev pub RunStandsBehind : Sources → Run → Type 0
 RunStandsBehind R r = (told : Option Told) × RunStands (behind_step R told) r
 
-step-stands : (R : Sources) (p : Program) (scope : Addr) (r : Run) → ProgramBelongs R p → RunStands R r → RunStandsBehind R (step_in p scope r)
+step-stands : (R : Sources) (p : Program) (scope : Addr) (r : Run)
+    → ProgramBelongs R p
+    → RunStands R r
+    → RunStandsBehind R (step_in p scope r)
 step-stands R p scope (running t s) g h = (told_of (next p scope t s), run-moves R p scope t s g h)
 step-stands R p scope (over f s) g h = (None, tt)
 
-pub steps-stand : (R : Sources) (k : ℕ) (p : Program) (scope : Addr) (r : Run) → ProgramBelongs R p → RunStandsBehind R r → RunStandsBehind R (steps_in k p scope r)
+pub steps-stand : (R : Sources) (k : ℕ) (p : Program) (scope : Addr) (r : Run)
+    → ProgramBelongs R p
+    → RunStandsBehind R r
+    → RunStandsBehind R (steps_in k p scope r)
 steps-stand R zero p scope r g h = h
 steps-stand R (suc k) p scope r g h = steps-stand R k p scope (step_in p scope r) g (step-stands (behind_step R h.0) p scope r g h.1)
 
-pub start-stands : (R : Sources) (source : Source) (ts : Terms) (s : State) → sources_of s.frames ≡ source ∷ [] → R.runs source → AllWait R ts → RunStands R (run_of (settled scripts ts end) s)
+pub start-stands : (R : Sources) (source : Source) (ts : Terms) (s : State)
+    → sources_of s.frames ≡ source ∷ []
+    → R.runs source
+    → AllWait R ts
+    → RunStands R (run_of (settled scripts ts end) s)
 start-stands R source ts s e r h = scripts_if R (all_done ts) source ts end s r (waits-stand R source ts (sources_of s.frames) e h)

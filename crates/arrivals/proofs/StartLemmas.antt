@@ -44,28 +44,38 @@ mutual
   returns-placed address n (part sequence (more t ts) later) h = returns-placed address n t h
   returns-placed address n (part f now later) h = absurd h
 
-first-placed : (address : ℕ → Addr) (n : ℕ) (ts : Terms) → FirstReturns ts → FirstReturns (all_with_literals address n ts)
+first-placed : (address : ℕ → Addr) (n : ℕ) (ts : Terms)
+    → FirstReturns ts
+    → FirstReturns (all_with_literals address n ts)
 first-placed address n end h = absurd h
 first-placed address n (more t ts) h = returns-placed address n t h
 
-closes-placed : (P : Marked → Type 0) (address : ℕ → Addr) (n node : ℕ) (ts : Terms) → Closes P node ts → Closes P node (all_with_literals address n ts)
+closes-placed : (P : Marked → Type 0) (address : ℕ → Addr) (n node : ℕ) (ts : Terms)
+    → Closes P node ts
+    → Closes P node (all_with_literals address n ts)
 closes-placed P address n node ts (inl r) = inl (first-placed address n ts r)
 closes-placed P address n node ts (inr m) = inr m
 
-form-placed : (P : Marked → Type 0) (address : ℕ → Addr) (n : ℕ) (f : Form) (later : Terms) → FormBelongs P f later → FormBelongs P f (all_with_literals address n later)
+form-placed : (P : Marked → Type 0) (address : ℕ → Addr) (n : ℕ) (f : Form) (later : Terms)
+    → FormBelongs P f later
+    → FormBelongs P f (all_with_literals address n later)
 form-placed P address n (function f) later h = closes-placed P address n f.node later h
 form-placed P address n (method f) later h = closes-placed P address n f.node later h
 form-placed P address n f later h = h
 
 mutual
-  placed-belongs : (P : Marked → Type 0) (address : ℕ → Addr) (n : ℕ) (t : Term) → Belongs P t → Belongs P (with_literals address n t)
+  placed-belongs : (P : Marked → Type 0) (address : ℕ → Addr) (n : ℕ) (t : Term)
+      → Belongs P t
+      → Belongs P (with_literals address n t)
   placed-belongs P address n (done v) h = tt
   placed-belongs P address n (standing v place) h = h
   placed-belongs P address n (part (literal us) now later) h = tt
   placed-belongs P address n (part f now later) h =
       (form-placed P address (n + length (literals_of now)) f later h.0, placed-belong P address n now h.1, placed-belong P address (n + length (literals_of now)) later h.2)
 
-  pub placed-belong : (P : Marked → Type 0) (address : ℕ → Addr) (n : ℕ) (ts : Terms) → AllBelong P ts → AllBelong P (all_with_literals address n ts)
+  pub placed-belong : (P : Marked → Type 0) (address : ℕ → Addr) (n : ℕ) (ts : Terms)
+      → AllBelong P ts
+      → AllBelong P (all_with_literals address n ts)
   placed-belong P address n end h = tt
   placed-belong P address n (more t ts) h = (placed-belongs P address n t h.0, placed-belong P address (n + length (literals t)) ts h.1)
 
@@ -79,13 +89,21 @@ known scripts = record {
   raises = ⊥;
 }
 
-pub number-at : (n : ℕ) (ss : List Script) (i : ℕ) (other : Script) → ScriptsAreNumbered n ss → i < length ss → (slice_index_or ss i other).number ≡ n + i
+pub number-at : (n : ℕ) (ss : List Script) (i : ℕ) (other : Script)
+    → ScriptsAreNumbered n ss
+    → i < length ss
+    → (slice_index_or ss i other).number ≡ n + i
 number-at n [] i other h l = absurd (omega (arith, l))
 number-at n (s ∷ ss) zero other h l = omega (arith, h.0)
 number-at n (s ∷ ss) (suc i) other h l = let k : (slice_index_or ss i other).number ≡ (n + 1) + i = number-at (n + 1) ss i other h.1 (omega (arith, l)) in omega (arith, k)
 
 -- a script is the only one of its number
-only-one : (n : ℕ) (ss : List Script) (a b : Script) → ScriptsAreNumbered n ss → Contains ss a → Contains ss b → a.number ≡ b.number → a ≡ b
+only-one : (n : ℕ) (ss : List Script) (a b : Script)
+    → ScriptsAreNumbered n ss
+    → Contains ss a
+    → Contains ss b
+    → a.number ≡ b.number
+    → a ≡ b
 only-one n ss a b h k l e =
     let i : (slice_index_or ss k.0 a).number ≡ n + k.0 = number-at n ss k.0 a h k.1 in
     let j : (slice_index_or ss l.0 b).number ≡ n + l.0 = number-at n ss l.0 b h l.1 in
@@ -103,7 +121,10 @@ pub each-mark : (Q : Marked → Type 0) (ms : Marks) → ((m : Marked) → Conta
 each-mark Q [] h = tt
 each-mark Q (m ∷ ms) h = (h m (0, omega arith, refl), each-mark Q ms (λ x c. h x (suc c.0, omega (arith, c.1), c.2)))
 
-own-marks : (scripts : List Script) (s : Script) → ScriptsAreNumbered 1 scripts → Contains scripts s → AllMarks ((known scripts).marks (script_source s.number)) (script_marks s)
+own-marks : (scripts : List Script) (s : Script)
+    → ScriptsAreNumbered 1 scripts
+    → Contains scripts s
+    → AllMarks ((known scripts).marks (script_source s.number)) (script_marks s)
 own-marks scripts s h k = each-mark ((known scripts).marks (script_source s.number)) (script_marks s)
     (λ m c other l e. subst (λ (x : Script). Contains (script_marks x) m) (only-one 1 scripts s other h k l (same_number s.number other.number e)) c)
 
@@ -122,7 +143,10 @@ parts-belong P s own =
 
 -- ---- the start
 
-scripts-wait : (scripts : List Script) (ss : List Script) (n : ℕ) → ScriptsAreNumbered 1 scripts → ((s : Script) → Contains ss s → Contains scripts s) → AllWait (known scripts) (all_with_literals (λ i. Base i) n (terms_of_scripts ss))
+scripts-wait : (scripts : List Script) (ss : List Script) (n : ℕ)
+    → ScriptsAreNumbered 1 scripts
+    → ((s : Script) → Contains ss s → Contains scripts s)
+    → AllWait (known scripts) (all_with_literals (λ i. Base i) n (terms_of_scripts ss))
 scripts-wait scripts [] n h k = tt
 scripts-wait scripts (s ∷ ss) n h k =
     let here : Contains scripts s = k s (0, omega arith, refl) in (
@@ -130,7 +154,11 @@ scripts-wait scripts (s ∷ ss) n h k =
       scripts-wait scripts ss (n + length (literals (term_of_script s))) h (λ x c. k x (suc c.0, omega (arith, c.1), c.2)),
     )
 
-program-belongs : (scripts : List Script) (ss : List Script) (n first : ℕ) → ScriptsAreNumbered 1 scripts → ScriptsAreNumbered n ss → ((s : Script) → Contains ss s → Contains scripts s) → ProgramBelongs (known scripts) (program_from n (all_with_literals (λ i. Base i) first (terms_of_scripts ss)))
+program-belongs : (scripts : List Script) (ss : List Script) (n first : ℕ)
+    → ScriptsAreNumbered 1 scripts
+    → ScriptsAreNumbered n ss
+    → ((s : Script) → Contains ss s → Contains scripts s)
+    → ProgramBelongs (known scripts) (program_from n (all_with_literals (λ i. Base i) first (terms_of_scripts ss)))
 program-belongs scripts [] n first h g k = tt
 program-belongs scripts (s ∷ ss) n first h g k =
     let here : Contains scripts s = k s (0, omega arith, refl) in
@@ -140,7 +168,10 @@ program-belongs scripts (s ∷ ss) n first h g k =
       program-belongs scripts ss (n + 1) (first + length (literals (term_of_script s))) h g.1 (λ x c. k x (suc c.0, omega (arith, c.1), c.2)),
     )
 
-begins : (scripts : List Script) (ss : List Script) (input : List (List ℕ)) → ss ≡ scripts → ScriptsAreNumbered 1 scripts → RunStands (behind_step (known scripts) None) (start_of (terms_of_scripts ss) input)
+begins : (scripts : List Script) (ss : List Script) (input : List (List ℕ))
+    → ss ≡ scripts
+    → ScriptsAreNumbered 1 scripts
+    → RunStands (behind_step (known scripts) None) (start_of (terms_of_scripts ss) input)
 begins scripts [] input e h = tt
 begins scripts (s ∷ ss) input e h =
     let within : (x : Script) → Contains (s ∷ ss) x → Contains scripts x = λ x c. subst (λ (xs : List Script). Contains xs x) e c in
@@ -150,7 +181,9 @@ begins scripts (s ∷ ss) input e h =
 
 -- ---- the law
 
-arrives : (scripts : List Script) (told : Option Told) (t : Term) (s : State) → ActiveStands (behind_step (known scripts) told) (sources_of s.frames) (active t) → Arrives scripts t s
+arrives : (scripts : List Script) (told : Option Told) (t : Term) (s : State)
+    → ActiveStands (behind_step (known scripts) told) (sources_of s.frames) (active t)
+    → Arrives scripts t s
 arrives scripts told t s h =
     let source : Source = (spot_of s).source in
     let stands : (known scripts).runs source = subst (known scripts).runs (top-source s.frames) h.all_run.0 in
@@ -170,7 +203,9 @@ run-arrives : (scripts : List Script) (r : Run) → RunStandsBehind (known scrip
 run-arrives scripts (running t s) h = arrives scripts h.0 t s (running-active (behind_step (known scripts) h.0) t (sources_of s.frames) h.1)
 run-arrives scripts (over f s) h = tt
 
-pub plain-arrives : (k : ℕ) (scripts : List Script) (input : List (List ℕ)) → ScriptsAreNumbered 1 scripts → RunArrives scripts (plain_run k (terms_of_scripts scripts) input)
+pub plain-arrives : (k : ℕ) (scripts : List Script) (input : List (List ℕ))
+    → ScriptsAreNumbered 1 scripts
+    → RunArrives scripts (plain_run k (terms_of_scripts scripts) input)
 plain-arrives k scripts input h =
     run-arrives scripts (plain_run k (terms_of_scripts scripts) input)
     (steps-stand (known scripts) k (program_of (terms_of_scripts scripts)) script_scope (start_of (terms_of_scripts scripts) input)

@@ -39,7 +39,10 @@ use Rattle.arrivals.proofs.ReturnLemmas.{settle-returns, WalkKeeps, walk-keeps}
 
 -- ---- bodies
 
-closes_first : (P : Marked → Type 0) (node : ℕ) (now ts : Terms) → Closes P node now → (FirstReturns now → FirstReturns ts) → Closes P node ts
+closes_first : (P : Marked → Type 0) (node : ℕ) (now ts : Terms)
+    → Closes P node now
+    → (FirstReturns now → FirstReturns ts)
+    → Closes P node ts
 closes_first P node now ts (inl r) h = inl (h r)
 closes_first P node now ts (inr m) h = inr m
 
@@ -53,16 +56,26 @@ abbrev CodeBelongs : (Marked → Type 0) → Option FunctionCode → Type 0
 CodeBelongs P None = Unit {0}
 CodeBelongs P (Some c) = Closes P c.form.node (one c.body) × Belongs P c.body
 
-first-belongs : (P : Marked → Type 0) (o q : Option FunctionCode) → CodeBelongs P o → CodeBelongs P q → CodeBelongs P (first_code o q)
+first-belongs : (P : Marked → Type 0) (o q : Option FunctionCode)
+    → CodeBelongs P o
+    → CodeBelongs P q
+    → CodeBelongs P (first_code o q)
 first-belongs P (Some c) q h k = h
 first-belongs P None q h k = k
 
-code_if-belongs : (P : Marked → Type 0) (b : Bool) (f : FunctionForm) (later : Terms) → Closes P f.node later → AllBelong P later → CodeBelongs P (code_if b f later)
+code_if-belongs : (P : Marked → Type 0) (b : Bool) (f : FunctionForm) (later : Terms)
+    → Closes P f.node later
+    → AllBelong P later
+    → CodeBelongs P (code_if b f later)
 code_if-belongs P true f (more t ts) c h = (c, h.0)
 code_if-belongs P true f end c h = tt
 code_if-belongs P false f later c h = tt
 
-within-belongs : (P : Marked → Type 0) (o q r : Option FunctionCode) → CodeBelongs P o → CodeBelongs P q → CodeBelongs P r → CodeBelongs P (first_code o (first_code q r))
+within-belongs : (P : Marked → Type 0) (o q r : Option FunctionCode)
+    → CodeBelongs P o
+    → CodeBelongs P q
+    → CodeBelongs P r
+    → CodeBelongs P (first_code o (first_code q r))
 within-belongs P o q r h k l = first-belongs P o (first_code q r) h (first-belongs P q r k l)
 
 mutual
@@ -75,7 +88,9 @@ mutual
       within-belongs P (code_if (nat_eq f.node node) f later) (function_in_all node now) (function_in_all node later) (code_if-belongs P (nat_eq f.node node) f later h.0 h.2) (function_in_all-belongs P node now h.1) (function_in_all-belongs P node later h.2)
   function_in-belongs P node (part f now later) h = within-belongs P None (function_in_all node now) (function_in_all node later) tt (function_in_all-belongs P node now h.1) (function_in_all-belongs P node later h.2)
 
-  function_in_all-belongs : (P : Marked → Type 0) (node : ℕ) (ts : Terms) → AllBelong P ts → CodeBelongs P (function_in_all node ts)
+  function_in_all-belongs : (P : Marked → Type 0) (node : ℕ) (ts : Terms)
+      → AllBelong P ts
+      → CodeBelongs P (function_in_all node ts)
   function_in_all-belongs P node end h = tt
   function_in_all-belongs P node (more t ts) h = first-belongs P (function_in node t) (function_in_all node ts) (function_in-belongs P node t h.0) (function_in_all-belongs P node ts h.1)
 
@@ -84,11 +99,16 @@ abbrev KnownCode : Sources → Source → Option FunctionCode → Type 0
 KnownCode R source None = Unit {0}
 KnownCode R source (Some c) = R.runs source × CodeBelongs (R.marks source) (Some c)
 
-known-code : (R : Sources) (source : Source) (o : Option FunctionCode) → R.runs source → CodeBelongs (R.marks source) o → KnownCode R source o
+known-code : (R : Sources) (source : Source) (o : Option FunctionCode)
+    → R.runs source
+    → CodeBelongs (R.marks source) o
+    → KnownCode R source o
 known-code R source None r h = tt
 known-code R source (Some c) r h = (r, h)
 
-tree-code : (R : Sources) (source : Source) (node : ℕ) (t : Term) → TreeBelongs R source t → KnownCode R source (function_in node t)
+tree-code : (R : Sources) (source : Source) (node : ℕ) (t : Term)
+    → TreeBelongs R source t
+    → KnownCode R source (function_in node t)
 tree-code R source node (done v) h = absurd h
 tree-code R source node (standing v place) h = absurd h
 tree-code R source node (part (script number names) now later) h =
@@ -109,11 +129,17 @@ same_source-true (kept_source a) (kept_source b) e = ap (λ x. kept_source x) (s
 same_source-true (script_source m) (kept_source b) e = cc
 same_source-true (kept_source a) (script_source n) e = cc
 
-at_if : (R : Sources) (other source : Source) (b : Bool) (o q : Option FunctionCode) → same_source other source ≡ b → KnownCode R other o → KnownCode R source q → KnownCode R source (if b then o else q)
+at_if : (R : Sources) (other source : Source) (b : Bool) (o q : Option FunctionCode)
+    → same_source other source ≡ b
+    → KnownCode R other o
+    → KnownCode R source q
+    → KnownCode R source (if b then o else q)
 at_if R other source true o q e h k = subst (λ x. KnownCode R x o) (same_source-true other source e) h
 at_if R other source false o q e h k = k
 
-function_at-known : (R : Sources) (p : Program) (source : Source) (node : ℕ) → ProgramBelongs R p → KnownCode R source (function_at p source node)
+function_at-known : (R : Sources) (p : Program) (source : Source) (node : ℕ)
+    → ProgramBelongs R p
+    → KnownCode R source (function_at p source node)
 function_at-known R [] source node h = tt
 function_at-known R (t ∷ ts) source node h =
     at_if R t.source source (same_source t.source source) (function_in node t.tree) (function_at ts source node) refl (tree-code R t.source node t.tree h.0) (function_at-known R ts source node h.1)
@@ -121,13 +147,17 @@ function_at-known R (t ∷ ts) source node h =
 -- ---- a part that waits, in its frame
 
 mutual
-  belongs-stands : (R : Sources) (outside : List Source) (t : Term) → Belongs (top_marks R outside) t → TermStands R outside t outside
+  belongs-stands : (R : Sources) (outside : List Source) (t : Term)
+      → Belongs (top_marks R outside) t
+      → TermStands R outside t outside
   belongs-stands R outside (done v) h = refl
   belongs-stands R outside (standing v place) h = absurd h
   belongs-stands R outside (part (frame node a) now later) h = absurd h.0
   belongs-stands R outside (part f now later) h = (h.0, all-stand R outside now h.1, h.2)
 
-  all-stand : (R : Sources) (outside : List Source) (ts : Terms) → AllBelong (top_marks R outside) ts → AllStand R outside ts outside
+  all-stand : (R : Sources) (outside : List Source) (ts : Terms)
+      → AllBelong (top_marks R outside) ts
+      → AllStand R outside ts outside
   all-stand R outside end h = refl
   all-stand R outside (more (done v) ts) h = all-stand R outside ts h.1
   all-stand R outside (more (standing v place) ts) h = absurd h.0
@@ -151,7 +181,9 @@ ActionStands R outside all (set_here m k) = ActionStands R outside all k
 ActionStands R outside all (push_frame f k) = ActionStands R outside (f.source ∷ all) k
 ActionStands R outside all (pop_frame k) = ActionStands R outside (outer_of all) k
 
-pub action-stands : (R : Sources) (outside : List Source) (a : Action) → BelongsAction (top_marks R outside) a → ActionStands R outside outside a
+pub action-stands : (R : Sources) (outside : List Source) (a : Action)
+    → BelongsAction (top_marks R outside) a
+    → ActionStands R outside outside a
 action-stands R outside (go t) h = belongs-stands (behind_step R (Some went)) outside t h
 action-stands R outside (raise v) h = refl
 action-stands R outside (leave c) h = refl
@@ -171,20 +203,29 @@ rest-sources : (fs : List Frame) → sources_of (rest_of fs) ≡ outer_of (sourc
 rest-sources [] = refl
 rest-sources (f ∷ fs) = refl
 
-full_stands : (R : Sources) (outside : List Source) (b : Bool) (what : Counted) (s : State) (v : Value) → sources_of s.frames ≡ outside → MoveStands R outside (if b then is_full what s else raised_at v s)
+full_stands : (R : Sources) (outside : List Source) (b : Bool) (what : Counted) (s : State) (v : Value)
+    → sources_of s.frames ≡ outside
+    → MoveStands R outside (if b then is_full what s else raised_at v s)
 full_stands R outside true what s v e = tt
 full_stands R outside false what s v e = (e, refl)
 
-outside_stands : (R : Sources) (outside : List Source) (b : Bool) (s : State) (m : Move Term) → MoveStands R outside m → MoveStands R outside (if b then has_effect s else m)
+outside_stands : (R : Sources) (outside : List Source) (b : Bool) (s : State) (m : Move Term)
+    → MoveStands R outside m
+    → MoveStands R outside (if b then has_effect s else m)
 outside_stands R outside true s m h = tt
 outside_stands R outside false s m h = h
 
-after_stands : {A : Type 0} (R : Sources) (outside : List Source) (s : State) (t : Tried A) (k : A → State → Move Term) → sources_of s.frames ≡ outside → ((a : A) (w : World) → MoveStands R outside (k a (with_world s w))) → MoveStands R outside (after t s k)
+after_stands : {A : Type 0} (R : Sources) (outside : List Source) (s : State) (t : Tried A) (k : A → State → Move Term)
+    → sources_of s.frames ≡ outside
+    → ((a : A) (w : World) → MoveStands R outside (k a (with_world s w)))
+    → MoveStands R outside (after t s k)
 after_stands R outside s (fine a w) k e h = h a w
 after_stands R outside s effect k e h = tt
 after_stands R outside s (full what) k e h = full_stands R outside (is_evaluation s.world) what s _ e
 
-pub perform-stands : (R : Sources) (outside : List Source) (a : Action) (s : State) → ActionStands R outside (sources_of s.frames) a → MoveStands R outside (perform a s)
+pub perform-stands : (R : Sources) (outside : List Source) (a : Action) (s : State)
+    → ActionStands R outside (sources_of s.frames) a
+    → MoveStands R outside (perform a s)
 perform-stands R outside (go t) s h = h
 perform-stands R outside (raise v) s h = (h, refl)
 perform-stands R outside (leave c) s h = h
@@ -198,20 +239,28 @@ perform-stands R outside (pop_frame k) s h = perform-stands R outside k (record 
 
 -- ---- calls
 
-entered-stands : (R : Sources) (outside : List Source) (scope : Addr) (ts : Terms) (c : FunctionCode) (source : Source) (a : Addr) (x : Value) (s : Addr) → KnownCode R source (Some c) → ActionStands R outside outside (with_functions scope ts (frame_entered c source a x s))
+entered-stands : (R : Sources) (outside : List Source) (scope : Addr) (ts : Terms) (c : FunctionCode) (source : Source) (a : Addr) (x : Value) (s : Addr)
+    → KnownCode R source (Some c)
+    → ActionStands R outside outside (with_functions scope ts (frame_entered c source a x s))
 entered-stands R outside scope end c source a x s h =
     (source, h.0, closes-settled (R.marks source) c.form.node c.body h.1.0, all-stand (behind_step R (Some went)) (source ∷ outside) (one (settle c.body)) (settle-belongs (R.marks source) c.body h.1.1, tt), tt)
 entered-stands R outside scope (more (part (function f) now later) ts) c source a x s h = (refl, λ d. (refl, entered-stands R outside scope ts c source a x s h))
 entered-stands R outside scope (more _ ts) c source a x s h = entered-stands R outside scope ts c source a x s h
 
-choose_stands : (R : Sources) (outside all : List Source) (b : Bool) (x y : Action) → ActionStands R outside all x → ActionStands R outside all y → ActionStands R outside all (if b then x else y)
+choose_stands : (R : Sources) (outside all : List Source) (b : Bool) (x y : Action)
+    → ActionStands R outside all x
+    → ActionStands R outside all y
+    → ActionStands R outside all (if b then x else y)
 choose_stands R outside all true x y h k = h
 choose_stands R outside all false x y h k = k
 
-fail-stands : (R : Sources) (outside : List Source) (class : ErrorClass) (message : List ℕ) → ActionStands R outside outside (fail class message)
+fail-stands : (R : Sources) (outside : List Source) (class : ErrorClass) (message : List ℕ)
+    → ActionStands R outside outside (fail class message)
 fail-stands R outside class message = action-stands R outside (fail class message) (fail-belongs (top_marks R outside) class message)
 
-code-stands : (R : Sources) (outside : List Source) (s : State) (o : Option FunctionCode) (source : Source) (a : Addr) (name : List ℕ) (outer : Option Addr) (x y : Value) (args : List Value) → KnownCode R source o → ActionStands R outside outside (call_code s o source a name outer x y args)
+code-stands : (R : Sources) (outside : List Source) (s : State) (o : Option FunctionCode) (source : Source) (a : Addr) (name : List ℕ) (outer : Option Addr) (x y : Value) (args : List Value)
+    → KnownCode R source o
+    → ActionStands R outside outside (call_code s o source a name outer x y args)
 code-stands R outside s None source a name outer x y args h = fail-stands R outside classes.TypeError (codes "Value is not a function")
 code-stands R outside s (Some c) source a name None x y args h = fail-stands R outside classes.TypeError (codes "Value is not a function")
 code-stands R outside s (Some c) source a name (Some outer) x y args h =
@@ -219,7 +268,9 @@ code-stands R outside s (Some c) source a name (Some outer) x y args h =
     (refl, λ d. entered-stands R outside d c.functions c source a (called_this c.form.is_arrow x y) d h)
     (fail-stands R outside classes.RangeError (codes "Maximum call stack size exceeded"))
 
-cell-stands : (R : Sources) (outside : List Source) (p : Program) (s : State) (a : Addr) (o : Option Cell) (y : Value) (args : List Value) → ProgramBelongs R p → ActionStands R outside outside (call_cell p s a o y args)
+cell-stands : (R : Sources) (outside : List Source) (p : Program) (s : State) (a : Addr) (o : Option Cell) (y : Value) (args : List Value)
+    → ProgramBelongs R p
+    → ActionStands R outside outside (call_cell p s a o y args)
 cell-stands R outside p s a None y args h = fail-stands R outside classes.TypeError (codes "Value is not a function")
 cell-stands R outside p s a (Some (cells.Function (code.BuiltIn f) n l outer x)) y args h = action-stands R outside (built_in_call s.world f y args) (gives-belongs (top_marks R outside) (built_in_call s.world f y args) (built_in-gives s.world f y args))
 cell-stands R outside p s a (Some (cells.Function (code.Script number node) n l outer x)) y args h =
@@ -232,11 +283,15 @@ cell-stands R outside p s a (Some (cells.Array vs)) y args h = fail-stands R out
 cell-stands R outside p s a (Some (cells.Text us)) y args h = fail-stands R outside classes.TypeError (codes "Value is not a function")
 cell-stands R outside p s a (Some (cells.Bindings kind n o ns)) y args h = fail-stands R outside classes.TypeError (codes "Value is not a function")
 
-value-stands : (R : Sources) (outside : List Source) (p : Program) (s : State) (f y : Value) (args : List Value) → ProgramBelongs R p → ActionStands R outside outside (call_value p s f y args)
+value-stands : (R : Sources) (outside : List Source) (p : Program) (s : State) (f y : Value) (args : List Value)
+    → ProgramBelongs R p
+    → ActionStands R outside outside (call_value p s f y args)
 value-stands R outside p s (values.Object a) y args h = cell-stands R outside p s a (read_cell s.world a) y args h
 value-stands R outside p s _ y args h = fail-stands R outside classes.TypeError (codes "Value is not a function")
 
-call-stands : (R : Sources) (outside : List Source) (p : Program) (s : State) (m : Mark) (vs : List Value) → ProgramBelongs R p → ActionStands R outside outside (call_row p s m vs)
+call-stands : (R : Sources) (outside : List Source) (p : Program) (s : State) (m : Mark) (vs : List Value)
+    → ProgramBelongs R p
+    → ActionStands R outside outside (call_row p s m vs)
 call-stands R outside p s m [] h = refl
 call-stands R outside p s m (x ∷ []) h = refl
 call-stands R outside p s m (x ∷ f ∷ args) h = value-stands R outside p s f x args h
@@ -247,15 +302,27 @@ abbrev pub Inside : Sources → List Source → Form → Terms → Terms → Lis
 Inside R outside (frame node a) now later parts = (source : Source) × (parts ≡ source ∷ outside) × R.runs source × Closes (R.marks source) node now
 Inside R outside f now later parts = (parts ≡ outside) × FormBelongs (top_marks R outside) f later
 
-pub opened : (R : Sources) (outside : List Source) (f : Form) (now later : Terms) (all : List Source) → TermStands R outside (part f now later) all → (parts : List Source) × Inside R outside f now later parts × AllStand R parts now all × AllBelong (top_marks R outside) later
+pub opened : (R : Sources) (outside : List Source) (f : Form) (now later : Terms) (all : List Source)
+    → TermStands R outside (part f now later) all
+    → (parts : List Source)
+    × Inside R outside f now later parts
+    × AllStand R parts now all
+    × AllBelong (top_marks R outside) later
 opened R outside (frame node a) now later all h = (h.0 ∷ outside, (h.0, refl, h.1, h.2), h.3, h.4)
 opened R outside f now later all h = (outside, (refl, h.0), h.1, h.2)
 
-inside-keeps : (R : Sources) (outside : List Source) (f : Form) (now ts later : Terms) (parts : List Source) → Inside R outside f now later parts → (FirstReturns now → FirstReturns ts) → Inside R outside f ts later parts
+inside-keeps : (R : Sources) (outside : List Source) (f : Form) (now ts later : Terms) (parts : List Source)
+    → Inside R outside f now later parts
+    → (FirstReturns now → FirstReturns ts)
+    → Inside R outside f ts later parts
 inside-keeps R outside (frame node a) now ts later parts i h = (i.0, i.1, i.2, closes_first (R.marks i.0) node now ts i.3 h)
 inside-keeps R outside f now ts later parts i h = i
 
-part-stands : (R : Sources) (outside : List Source) (f : Form) (now later : Terms) (parts all : List Source) → Inside R outside f now later parts → AllStand R parts now all → AllBelong (top_marks R outside) later → TermStands R outside (part f now later) all
+part-stands : (R : Sources) (outside : List Source) (f : Form) (now later : Terms) (parts all : List Source)
+    → Inside R outside f now later parts
+    → AllStand R parts now all
+    → AllBelong (top_marks R outside) later
+    → TermStands R outside (part f now later) all
 part-stands R outside (frame node a) now later parts all i h k = (i.0, i.2, i.3, subst (λ (x : List Source). AllStand R x now all) i.1 h, k)
 part-stands R outside f now later parts all i h k = (i.1, subst (λ (x : List Source). AllStand R x now all) i.0 h, k)
 
@@ -265,33 +332,59 @@ values-belong P (more (done v) ts) e = (tt, values-belong P ts e)
 values-belong P (more (standing v place) ts) e = cc
 values-belong P (more (part f now later) ts) e = cc
 
-values-stand : (R : Sources) (outside : List Source) (ts : Terms) (all : List Source) → all_done ts ≡ true → AllStand R outside ts all → all ≡ outside
+values-stand : (R : Sources) (outside : List Source) (ts : Terms) (all : List Source)
+    → all_done ts ≡ true
+    → AllStand R outside ts all
+    → all ≡ outside
 values-stand R outside end all e h = h
 values-stand R outside (more (done v) ts) all e h = values-stand R outside ts all e h
 values-stand R outside (more (standing v place) ts) all e h = cc
 values-stand R outside (more (part f now later) ts) all e h = cc
 
-at-stands : (R : Sources) (outside : List Source) (t : Term) (all : List Source) → all ≡ outside → Belongs (top_marks R outside) t → TermStands R outside t all
+at-stands : (R : Sources) (outside : List Source) (t : Term) (all : List Source)
+    → all ≡ outside
+    → Belongs (top_marks R outside) t
+    → TermStands R outside t all
 at-stands R outside t all e h = subst (λ (x : List Source). TermStands R outside t x) (sym e) (belongs-stands R outside t h)
 
-finished-stands : (R : Sources) (outside : List Source) (f : Form) (now later : Terms) (parts all : List Source) → Inside R outside f now later parts → all_done now ≡ true → AllStand R parts now all → AllBelong (top_marks R outside) later → TermStands R outside (finished f now later) all
+finished-stands : (R : Sources) (outside : List Source) (f : Form) (now later : Terms) (parts all : List Source)
+    → Inside R outside f now later parts
+    → all_done now ≡ true
+    → AllStand R parts now all
+    → AllBelong (top_marks R outside) later
+    → TermStands R outside (finished f now later) all
 finished-stands R outside (frame node a) now later parts all i e h k = part-stands R outside (frame node a) now later parts all i h k
 finished-stands R outside f now later parts all i e h k =
     at-stands R outside (finished f now later) all (values-stand R parts now all e h ∙ i.0) (finished-belongs (top_marks R outside) f now later (i.1, values-belong (top_marks R outside) now e, k))
 
-settled_if : (R : Sources) (outside : List Source) (b : Bool) (f : Form) (now later : Terms) (parts all : List Source) → all_done now ≡ b → Inside R outside f now later parts → AllStand R parts now all → AllBelong (top_marks R outside) later → TermStands R outside (if b then finished f now later else part f now later) all
+settled_if : (R : Sources) (outside : List Source) (b : Bool) (f : Form) (now later : Terms) (parts all : List Source)
+    → all_done now ≡ b
+    → Inside R outside f now later parts
+    → AllStand R parts now all
+    → AllBelong (top_marks R outside) later
+    → TermStands R outside (if b then finished f now later else part f now later) all
 settled_if R outside true f now later parts all e i h k = finished-stands R outside f now later parts all i e h k
 settled_if R outside false f now later parts all e i h k = part-stands R outside f now later parts all i h k
 
 -- ---- THE TABLE OF STEPS
 
-row-belongs : (R : Sources) (outside parts : List Source) (a : Action) → parts ≡ outside → BelongsAction (top_marks R outside) a → ActionStands R outside parts a
+row-belongs : (R : Sources) (outside parts : List Source) (a : Action)
+    → parts ≡ outside
+    → BelongsAction (top_marks R outside) a
+    → ActionStands R outside parts a
 row-belongs R outside parts a e h = subst (λ (x : List Source). ActionStands R outside x a) (sym e) (action-stands R outside a h)
 
-row-gives : (R : Sources) (outside parts : List Source) (a : Action) → parts ≡ outside → GivesValues a → ActionStands R outside parts a
+row-gives : (R : Sources) (outside parts : List Source) (a : Action)
+    → parts ≡ outside
+    → GivesValues a
+    → ActionStands R outside parts a
 row-gives R outside parts a e h = row-belongs R outside parts a e (gives-belongs (top_marks R outside) a h)
 
-row-stands : (R : Sources) (outside : List Source) (p : Program) (s : State) (scope : Addr) (f : Form) (vs : List Value) (now later : Terms) (parts : List Source) → ProgramBelongs R p → Inside R outside f now later parts → AllBelong (top_marks R outside) later → ActionStands R outside parts (row p s scope f vs later)
+row-stands : (R : Sources) (outside : List Source) (p : Program) (s : State) (scope : Addr) (f : Form) (vs : List Value) (now later : Terms) (parts : List Source)
+    → ProgramBelongs R p
+    → Inside R outside f now later parts
+    → AllBelong (top_marks R outside) later
+    → ActionStands R outside parts (row p s scope f vs later)
 row-stands R outside p s scope (script number names) vs now later parts g i k = absurd i.1
 row-stands R outside p s scope (enter node) vs now later parts g i k = row-belongs R outside parts (enter_row node later) i.0 (enter-belongs (top_marks R outside) node later k)
 row-stands R outside p s scope (enter_debugger node) vs now later parts g i k = row-belongs R outside parts (enter_row node later) i.0 (enter-belongs (top_marks R outside) node later k)
@@ -330,7 +423,10 @@ row-stands R outside p s scope _ vs now later parts g i k = i.0
 
 -- ---- THE TABLE OF COMPLETIONS
 
-taken-stands : (R : Sources) (outside : List Source) (scope : Addr) (f : Form) (c : Completion) (now later : Terms) (parts : List Source) → Inside R outside f now later parts → AllBelong (top_marks R outside) later → ActionStands R outside parts (taken scope f c later)
+taken-stands : (R : Sources) (outside : List Source) (scope : Addr) (f : Form) (c : Completion) (now later : Terms) (parts : List Source)
+    → Inside R outside f now later parts
+    → AllBelong (top_marks R outside) later
+    → ActionStands R outside parts (taken scope f c later)
 taken-stands R outside scope (catching x) (throws v m) now later parts i k = row-belongs R outside parts (catch_row scope x v later) i.0 (catch-belongs (top_marks R outside) scope x v later k)
 taken-stands R outside scope (catching x) (returns v) now later parts i k = i.0
 taken-stands R outside scope (catching x) breaks now later parts i k = i.0
@@ -362,20 +458,30 @@ abbrev WalkStands : Sources → List Source → State → Walked → Type 0
 WalkStands R outside s (all_values vs) = sources_of s.frames ≡ outside
 WalkStands R outside s (moved m) = MovesStand R outside m
 
-value_in : (R : Sources) (outside : List Source) (v : Value) (m : Move Terms) → MovesStand R outside m → MovesStand R outside (inside (λ ts. more (done v) ts) m)
+value_in : (R : Sources) (outside : List Source) (v : Value) (m : Move Terms)
+    → MovesStand R outside m
+    → MovesStand R outside (inside (λ ts. more (done v) ts) m)
 value_in R outside v (goes ts s told) h = h
 value_in R outside v (travels c s) h = h
 value_in R outside v (has_effect s) h = tt
 value_in R outside v (is_full what s) h = tt
 
-with_value-stands : (R : Sources) (outside : List Source) (s : State) (v : Value) (x : Walked) → WalkStands R outside s x → WalkStands R outside s (with_value v x)
+with_value-stands : (R : Sources) (outside : List Source) (s : State) (v : Value) (x : Walked)
+    → WalkStands R outside s x
+    → WalkStands R outside s (with_value v x)
 with_value-stands R outside s v (all_values vs) h = h
 with_value-stands R outside s v (moved m) h = value_in R outside v m h
 
-values-before : (R : Sources) (outside : List Source) (ts : Terms) (all : List Source) → all ≡ outside → AllBelong (top_marks R outside) ts → AllStand R outside ts all
+values-before : (R : Sources) (outside : List Source) (ts : Terms) (all : List Source)
+    → all ≡ outside
+    → AllBelong (top_marks R outside) ts
+    → AllStand R outside ts all
 values-before R outside ts all e h = subst (λ (x : List Source). AllStand R outside ts x) (sym e) (all-stand R outside ts h)
 
-inside-stands : (R : Sources) (outside : List Source) (ts : Terms) (m : Move Term) → AllBelong (top_marks R outside) ts → MoveStands R outside m → MovesStand R outside (inside (λ t. more t ts) m)
+inside-stands : (R : Sources) (outside : List Source) (ts : Terms) (m : Move Term)
+    → AllBelong (top_marks R outside) ts
+    → MoveStands R outside m
+    → MovesStand R outside (inside (λ t. more t ts) m)
 inside-stands R outside ts (goes (done v) s told) k h = values-before (behind_step R (Some told)) outside ts (sources_of s.frames) h k
 inside-stands R outside ts (goes (standing v place) s told) k h = (h.0, h.1, k)
 inside-stands R outside ts (goes (part f now later) s told) k h = (h, k)
@@ -383,7 +489,13 @@ inside-stands R outside ts (travels c s) k h = h
 inside-stands R outside ts (has_effect s) k h = tt
 inside-stands R outside ts (is_full what s) k h = tt
 
-around-stands : (R : Sources) (outside : List Source) (p : Program) (scope : Addr) (f : Form) (now later : Terms) (s : State) (x : Walked) (parts : List Source) → ProgramBelongs R p → Inside R outside f now later parts → AllBelong (top_marks R outside) later → WalkStands R parts s x → WalkKeeps now x → MoveStands R outside (around p scope f later s x)
+around-stands : (R : Sources) (outside : List Source) (p : Program) (scope : Addr) (f : Form) (now later : Terms) (s : State) (x : Walked) (parts : List Source)
+    → ProgramBelongs R p
+    → Inside R outside f now later parts
+    → AllBelong (top_marks R outside) later
+    → WalkStands R parts s x
+    → WalkKeeps now x
+    → MoveStands R outside (around p scope f later s x)
 around-stands R outside p scope f now later s (all_values vs) parts g i k h keep =
     perform-stands R outside (row p s scope f vs later) s (subst (λ (all : List Source). ActionStands R outside all (row p s scope f vs later)) (sym h) (row-stands R outside p s scope f vs now later parts g i k))
 around-stands R outside p scope f now later s (moved (goes ts t told)) parts g i k h keep =
@@ -394,7 +506,10 @@ around-stands R outside p scope f now later s (moved (has_effect t)) parts g i k
 around-stands R outside p scope f now later s (moved (is_full what t)) parts g i k h keep = tt
 
 mutual
-  pub next-stands : (R : Sources) (outside : List Source) (p : Program) (scope : Addr) (t : Term) (s : State) → ProgramBelongs R p → TermStands R outside t (sources_of s.frames) → MoveStands R outside (next p scope t s)
+  pub next-stands : (R : Sources) (outside : List Source) (p : Program) (scope : Addr) (t : Term) (s : State)
+      → ProgramBelongs R p
+      → TermStands R outside t (sources_of s.frames)
+      → MoveStands R outside (next p scope t s)
   next-stands R outside p scope (done v) s g h = h
   next-stands R outside p scope (standing v place) s g h = h.0
   next-stands R outside p scope (part f now later) s g h =
@@ -402,7 +517,10 @@ mutual
       around-stands R outside p scope f now later s (walk p (scope_in f scope) now s) o.0 g o.1 o.3
       (walk-stands R o.0 p (scope_in f scope) now s g o.2) (walk-keeps p (scope_in f scope) now s)
 
-  walk-stands : (R : Sources) (outside : List Source) (p : Program) (scope : Addr) (ts : Terms) (s : State) → ProgramBelongs R p → AllStand R outside ts (sources_of s.frames) → WalkStands R outside s (walk p scope ts s)
+  walk-stands : (R : Sources) (outside : List Source) (p : Program) (scope : Addr) (ts : Terms) (s : State)
+      → ProgramBelongs R p
+      → AllStand R outside ts (sources_of s.frames)
+      → WalkStands R outside s (walk p scope ts s)
   walk-stands R outside p scope end s g h = h
   walk-stands R outside p scope (more (done v) ts) s g h = with_value-stands R outside s v (walk p scope ts s) (walk-stands R outside p scope ts s g h)
   walk-stands R outside p scope (more (standing v place) ts) s g h = h.0

@@ -81,7 +81,10 @@ later-over : (b : Bool) (k x : SpotKind) (o : Option SpotKind) → IsOver k o �
 later-over true k x o h = over-strongest k x o h
 later-over false k x o h = h
 
-mark-over : (spans : List Span) (ms : Marks) (i : ℕ) (m : Marked) → i < length ms → get_or ms i m ≡ m → IsOver m.kind (kind_at spans ms (offset_of spans m.mark))
+mark-over : (spans : List Span) (ms : Marks) (i : ℕ) (m : Marked)
+    → i < length ms
+    → get_or ms i m ≡ m
+    → IsOver m.kind (kind_at spans ms (offset_of spans m.mark))
 mark-over spans [] i m l e = absurd (omega arith)
 mark-over spans (x ∷ ms) zero m l e =
     let there : nat_eq (offset_of spans m.mark) (offset_of spans m.mark) ≡ true = eq-eqb (offset_of spans m.mark) (offset_of spans m.mark) refl in
@@ -91,7 +94,9 @@ mark-over spans (x ∷ ms) zero m l e =
 mark-over spans (x ∷ ms) (suc i) m l e =
     later-over (nat_eq (offset_of spans x.mark) (offset_of spans m.mark)) m.kind x.kind (kind_at spans ms (offset_of spans m.mark)) (mark-over spans ms i m (omega arith) e)
 
-pub mark-located : (s : Script) (m : Mark) (kind : SpotKind) → Contains (script_marks s) (record { mark = m; kind = kind }) → IsLocated s m kind
+pub mark-located : (s : Script) (m : Mark) (kind : SpotKind)
+    → Contains (script_marks s) (record { mark = m; kind = kind })
+    → IsLocated s m kind
 mark-located s m kind h =
     let over : IsOver kind (kind_at s.spans (script_marks s) (offset_of s.spans m)) = mark-over s.spans (script_marks s) h.0 (record { mark = m; kind = kind }) h.1 h.2 in
     let within : offset_of s.spans m ≤ length s.source = mark_within (length s.source) s.spans s.within m in

@@ -38,12 +38,27 @@ pub record Arrives (scripts : List Script) (t : Term) (s : State) : Type 0 where
   -- the top frame is of one of the scripts
   pub in_a_script : (script : Script) × Contains scripts script × RunsIn script s
   -- and so is each active frame
-  pub each_frame : (d : ℕ) (f : Frame) → frame_at d script_scope t s ≡ Some f → (script : Script) × Contains scripts script × (f.source ≡ script_source script.number)
+  pub each_frame : (d : ℕ) (f : Frame)
+      → frame_at d script_scope t s ≡ Some f
+      → (script : Script) × Contains scripts script × (f.source ≡ script_source script.number)
   -- an arrival is at one of that script's marks, and so at one of its break locations
-  pub at_a_mark : (script : Script) (m : Mark) → Contains scripts script → RunsIn script s → at script.spans t ≡ Some m → (kind : SpotKind) × IsMark script m kind
-  pub at_a_location : (script : Script) (m : Mark) → Contains scripts script → RunsIn script s → at script.spans t ≡ Some m → IsAt (break_locations script) (position script.source (offset_of script.spans m))
+  pub at_a_mark : (script : Script) (m : Mark)
+      → Contains scripts script
+      → RunsIn script s
+      → at script.spans t ≡ Some m
+      → (kind : SpotKind) × IsMark script m kind
+  pub at_a_location : (script : Script) (m : Mark)
+      → Contains scripts script
+      → RunsIn script s
+      → at script.spans t ≡ Some m
+      → IsAt (break_locations script) (position script.source (offset_of script.spans m))
   -- one at a `debugger` statement is at a mark of that kind, and so at a location of that kind or a stronger one
-  pub at_a_debugger : (script : Script) (m : Mark) → Contains scripts script → RunsIn script s → at script.spans t ≡ Some m → is_debugger (active t) ≡ true → IsMark script m kinds.Debugger × IsLocated script m kinds.Debugger
+  pub at_a_debugger : (script : Script) (m : Mark)
+      → Contains scripts script
+      → RunsIn script s
+      → at script.spans t ≡ Some m
+      → is_debugger (active t) ≡ true
+      → IsMark script m kinds.Debugger × IsLocated script m kinds.Debugger
 
 -- what holds of a run of these scripts at each of its configurations; of one that is over nothing
 abbrev pub RunArrives : List Script → Run → Type 0

@@ -20,7 +20,10 @@ same-group p q same =
     ap₂ (λ a b. (a * 8 + b) % 4096) (equal p.pos.line q.pos.line line.1) (equal p.pos.col q.pos.col column.1)
 
 -- a mark of a group is one of each place in it
-marked-as : (marks : List ℕ) (p q : Place) → group_of p ≡ group_of q → is_marked marks p ≡ true → is_marked marks q ≡ true
+marked-as : (marks : List ℕ) (p q : Place)
+    → group_of p ≡ group_of q
+    → is_marked marks p ≡ true
+    → is_marked marks q ≡ true
 marked-as marks p q group is = rw group at is
 
 found : (key q : Place) (s : BTreeSet Place) (old new : List ℕ) (b : Bool) → is_at (place_cmp key) q ≡ b

@@ -10,7 +10,10 @@ use Rattle.breakpoints.specs.Breakpoints.{State, hits_at, is_hit}
 
 -- ---- a test and the filter by it
 
-one-stays : {X : Type 0} (passes others : Bool) (x : X) (kept : List X) → (others ≡ true → kept ≢ []) → (passes || others) ≡ true → cond passes (x ∷ kept) kept ≢ []
+one-stays : {X : Type 0} (passes others : Bool) (x : X) (kept : List X)
+    → (others ≡ true → kept ≢ [])
+    → (passes || others) ≡ true
+    → cond passes (x ∷ kept) kept ≢ []
 one-stays true others x kept ih h e = cc
 one-stays false others x kept ih h e = ih h e
 
@@ -18,7 +21,10 @@ some-stay : {X : Type 0} (test : X → Bool) (xs : List X) → list_any test xs 
 some-stay test [] h e = cc
 some-stay test (x ∷ xs) h e = one-stays (test x) (list_any test xs) x (filter test xs) (some-stay test xs) h e
 
-none-more : {X : Type 0} (passes others : Bool) (x : X) (kept : List X) → (others ≡ false → kept ≡ []) → (passes || others) ≡ false → cond passes (x ∷ kept) kept ≡ []
+none-more : {X : Type 0} (passes others : Bool) (x : X) (kept : List X)
+    → (others ≡ false → kept ≡ [])
+    → (passes || others) ≡ false
+    → cond passes (x ∷ kept) kept ≡ []
 none-more true others x kept ih h = cc
 none-more false others x kept ih h = ih h
 
@@ -28,11 +34,15 @@ none-stay test (x ∷ xs) h = none-more (test x) (list_any test xs) x (filter te
 
 -- ---- hits
 
-hit-where : (active : Bool) (place : Place) (bs : List Breakpoint) → (active && list_any (stands_at place) bs) ≡ true → (if active then hits_in place bs else []) ≢ []
+hit-where : (active : Bool) (place : Place) (bs : List Breakpoint)
+    → (active && list_any (stands_at place) bs) ≡ true
+    → (if active then hits_in place bs else []) ≢ []
 hit-where true place bs h e = some-stay (stands_at place) bs h e
 hit-where false place bs h e = cc
 
-none-where : (active : Bool) (place : Place) (bs : List Breakpoint) → (active && list_any (stands_at place) bs) ≡ false → (if active then hits_in place bs else []) ≡ []
+none-where : (active : Bool) (place : Place) (bs : List Breakpoint)
+    → (active && list_any (stands_at place) bs) ≡ false
+    → (if active then hits_in place bs else []) ≡ []
 none-where true place bs h = none-stay (stands_at place) bs h
 none-where false place bs h = refl
 

@@ -32,7 +32,8 @@ same-tied p q =
     ∙ both_tied _ _ _ _ (tied p.script q.script) (both_tied _ _ _ _ (tied p.pos.line q.pos.line) (tied p.pos.col q.pos.col))
 
 -- what a set by that order finds
-pub has-contains : (place : Place) (places : List Place) → has_place place places ≡ list_any (is_at (place_cmp place)) places
+pub has-contains : (place : Place) (places : List Place)
+    → has_place place places ≡ list_any (is_at (place_cmp place)) places
 has-contains place [] = refl
 has-contains place (p ∷ ps) = ap₂ (λ a b. a || b) (same-tied p place) (has-contains place ps)
 
@@ -49,7 +50,10 @@ insert-kept key s n u q h =
 -- ---- the index of breakpoints
 
 -- where a breakpoint stands, its place is found
-stands-in : (place : Place) (index : List Place) (bs : List Breakpoint) → IsIndexOf bs index → list_any (stands_at place) bs ≡ true → has_place place index ≡ true
+stands-in : (place : Place) (index : List Place) (bs : List Breakpoint)
+    → IsIndexOf bs index
+    → list_any (stands_at place) bs ≡ true
+    → has_place place index ≡ true
 stands-in place index [] h e = cc
 stands-in place index (b ∷ bs) h e =
     ⊎_elim
@@ -58,6 +62,9 @@ stands-in place index (b ∷ bs) h e =
     (or_cases (stands_at place b) (list_any (stands_at place) bs) e)
 
 -- where a place isn't found, no breakpoint stands
-pub none-stands : (place : Place) (index : List Place) (bs : List Breakpoint) → IsIndexOf bs index → has_place place index ≡ false → list_any (stands_at place) bs ≡ false
+pub none-stands : (place : Place) (index : List Place) (bs : List Breakpoint)
+    → IsIndexOf bs index
+    → has_place place index ≡ false
+    → list_any (stands_at place) bs ≡ false
 none-stands place index bs h none =
     false_from_ne_true (list_any (stands_at place) bs) (λ e. true≢false (sym (stands-in place index bs h e) ∙ none))

@@ -21,7 +21,10 @@ Appends-none (Some xs) None bs took = absurd took
 Appends-none (Some xs) (Some ys) bs took = took ∙ append-nil xs
 
 -- it took these bytes behind what it held
-pub Appends-more : (old now new : Option (List ℕ)) (bs : List ℕ) → Keeps old now → Appends now new bs → Appends old new bs
+pub Appends-more : (old now new : Option (List ℕ)) (bs : List ℕ)
+    → Keeps old now
+    → Appends now new bs
+    → Appends old new bs
 Appends-more None now new bs before next = tt
 Appends-more (Some xs) None new bs before next = absurd before
 Appends-more (Some xs) (Some ys) None bs before next = absurd next

@@ -47,7 +47,9 @@ plain-nexts zero scripts r = refl
 plain-nexts (suc k) scripts r = ap (next scripts) (plain-nexts k scripts r) ∙ sym (nexts-suc k scripts r)
 
 -- so many steps are one behind the others
-one_more : (k : ℕ) (scripts : List Script) (r : Run) → 0 < k → nexts scripts k r ≡ next scripts (nexts scripts (k - 1) r)
+one_more : (k : ℕ) (scripts : List Script) (r : Run)
+    → 0 < k
+    → nexts scripts k r ≡ next scripts (nexts scripts (k - 1) r)
 one_more zero scripts r few = absurd (omega arith)
 one_more (suc j) scripts r few = let e : j ≡ suc j - 1 = omega arith in nexts-suc j scripts r ∙ ap (λ i. next scripts (nexts scripts i r)) e
 
@@ -58,21 +60,30 @@ either true = refl
 either false = refl
 
 -- a seat names a step that isn't the first exactly where a rule of its session does
-named_seat : (scripts : List Script) (t : Step) (seat : Seat Session) → t.first ≡ false → names_seat (protocol scripts) t seat ≡ stops_seat t.standing t.arrival seat
+named_seat : (scripts : List Script) (t : Step) (seat : Seat Session)
+    → t.first ≡ false
+    → names_seat (protocol scripts) t seat ≡ stops_seat t.standing t.arrival seat
 named_seat scripts t (Attached x) first =
     ap (λ b. is_some (cause_of t.standing t.arrival x) || (b && (x.rules.enabled && not t.standing.over))) first ∙ either (is_some (cause_of t.standing t.arrival x))
 named_seat scripts t (Lost loss is_reported is_told) first = refl
 named_seat scripts t Left first = refl
 
-named_seats : (scripts : List Script) (t : Step) (seats : List (Seat Session)) → t.first ≡ false → some (names_seat (protocol scripts) t) seats ≡ stops_at t.standing t.arrival seats
+named_seats : (scripts : List Script) (t : Step) (seats : List (Seat Session))
+    → t.first ≡ false
+    → some (names_seat (protocol scripts) t) seats ≡ stops_at t.standing t.arrival seats
 named_seats scripts t [] first = refl
 named_seats scripts t (seat ∷ seats) first =
     ap (λ b. b || some (names_seat (protocol scripts) t) seats) (named_seat scripts t seat first) ∙ ap (λ b. stops_seat t.standing t.arrival seat || b) (named_seats scripts t seats first)
 
-silent_step : (scripts : List Script) (moment : ℕ) (t : Step) (x : Session) → t.values ≡ None → t.ending ≡ None → told (seen_behind scripts t) moment t x ≡ x
+silent_step : (scripts : List Script) (moment : ℕ) (t : Step) (x : Session)
+    → t.values ≡ None
+    → t.ending ≡ None
+    → told (seen_behind scripts t) moment t x ≡ x
 silent_step scripts moment t x values ending = rw (values, ending) refl
 
-quiet : (scripts : List Script) (moment : ℕ) (r : Run) (seats : List (Seat Session)) → prints_next scripts r ≡ None → is_over (next scripts r) ≡ false
+quiet : (scripts : List Script) (moment : ℕ) (r : Run) (seats : List (Seat Session))
+    → prints_next scripts r ≡ None
+    → is_over (next scripts r) ≡ false
     → stops_at (standing_of scripts (next scripts r)) (arrival_of scripts (next scripts r)) seats ≡ false
     → IsQuiet (protocol scripts) moment (step_of scripts false r) seats
 quiet scripts moment r seats silent goes unnamed = record {
@@ -84,7 +95,10 @@ quiet scripts moment r seats silent goes unnamed = record {
 
 -- where a machine stands is what its last step told
 told_there : (scripts : List Script) (n : Machine) (i : Heap) (after : List (List ℕ)) (values : Option (List Value)) (first : Bool) (r : Run)
-    → IsKept n.ended → machine_run n i after ≡ next scripts r → values ≡ prints_next scripts r → machine_step scripts n i values first ≡ step_of scripts first r
+    → IsKept n.ended
+    → machine_run n i after ≡ next scripts r
+    → values ≡ prints_next scripts r
+    → machine_step scripts n i values first ≡ step_of scripts first r
 told_there scripts n i after values first r kept reached printed =
     let f : Standing → Arrival → Option (List Value) → Option Ending → Step = λ s a v e. record { standing = s; arrival = a; values = v; ending = e; first = first } in
     let s : machine_standing scripts n i ≡ standing_of scripts (next scripts r) = standing-taken scripts (record { machine = n; heap = i }) after ∙ ap (standing_of scripts) reached in
@@ -105,21 +119,25 @@ beside_waits : (b : Bool) → waits (if b then Woken else Running) ≡ false
 beside_waits true = refl
 beside_waits false = refl
 
-beside_free : (first : Bool) (stops : ℕ) (seats : List (Seat Session)) (r : Run) → some waits_for_report seats ≡ false → is_held (beside first stops seats r) ≡ false
+beside_free : (first : Bool) (stops : ℕ) (seats : List (Seat Session)) (r : Run)
+    → some waits_for_report seats ≡ false
+    → is_held (beside first stops seats r) ≡ false
 beside_free first stops seats r told_all = rw (beside_waits first, told_all) refl
 
 beside_runs : (first : Bool) (k : ℕ) → (first ≡ true → k ≡ 1) → 1 < k → (if first then Woken else Running) ≡ Running
 beside_runs true k one more = let e = one refl in absurd (omega (arith, e, more))
 beside_runs false k one more = refl
 
-stop_there : (scripts : List Script) (stops : ℕ) (stopped : Option ℕ) (q : Run) → IfSome stopped (λ depth. depth ≡ (arrival_of scripts q).depth)
+stop_there : (scripts : List Script) (stops : ℕ) (stopped : Option ℕ) (q : Run)
+    → IfSome stopped (λ depth. depth ≡ (arrival_of scripts q).depth)
     → option_map (pause_behind stops) stopped ≡ (if is_some stopped then Some (pause_at scripts (next_number stops) q) else None)
 stop_there scripts stops None q there = refl
 stop_there scripts stops (Some depth) q there = ap (λ d. Some (pause_behind stops d)) there
 
 -- behind the step it is what the definition says
 behind_same : (scripts : List Script) (moment : ℕ) (first : Bool) (stops : ℕ) (seats news : List (Seat Session)) (flags : List Bool) (r q : Run) (t : Step) (stopped : Option ℕ)
-    → IfSome stopped (λ depth. depth ≡ (arrival_of scripts q).depth) → Over (Behind (protocol scripts) (is_some stopped) (next_number stops) moment t) seats news flags
+    → IfSome stopped (λ depth. depth ≡ (arrival_of scripts q).depth)
+    → Over (Behind (protocol scripts) (is_some stopped) (next_number stops) moment t) seats news flags
     → beside_behind stopped stops news q ≡ behind (protocol scripts) moment (fallen_in news) t q (is_some stopped) (beside first stops seats r)
 behind_same scripts moment first stops seats news flags r q t stopped there over =
     let f : Option Pause → List (Seat Session) → Meaning Run =
@@ -131,10 +149,15 @@ behind_same scripts moment first stops seats news flags r q t stopped there over
 
 pub advance-made : (scripts : List Script) (moment most k : ℕ) (m n : Machine) (h i : Heap) (first : Bool) (stops : ℕ) (seats news : List (Seat Session)) (flags : List Bool)
     → (stopped : Option ℕ) (values : Option (List Value)) (before after : List (List ℕ))
-    → Advances scripts seats most k (machine_run m h before) (machine_run n i after) → IsKept n.ended → (first ≡ true → k ≡ 1)
-    → AllFit (protocol scripts) seats → some waits_for_report seats ≡ false → values ≡ prints_last scripts k (machine_run m h before)
+    → Advances scripts seats most k (machine_run m h before) (machine_run n i after)
+    → IsKept n.ended
+    → (first ≡ true → k ≡ 1)
+    → AllFit (protocol scripts) seats
+    → some waits_for_report seats ≡ false
+    → values ≡ prints_last scripts k (machine_run m h before)
     → IfSome stopped (λ depth. depth ≡ (machine_arrival scripts n).depth)
-    → Over (Behind (protocol scripts) (is_some stopped) (next_number stops) moment (machine_step scripts n i values first)) seats news flags → is_some stopped ≡ any_set flags
+    → Over (Behind (protocol scripts) (is_some stopped) (next_number stops) moment (machine_step scripts n i values first)) seats news flags
+    → is_some stopped ≡ any_set flags
     → HasMade (protocol scripts) moment (beside first stops seats (machine_run m h before)) (beside_behind stopped stops news (machine_run n i after)) k
 advance-made scripts moment most k m n h i first stops seats news flags stopped values before after steps kept one fit told_all printed there over any =
     let P = protocol scripts in
@@ -170,12 +193,15 @@ advance-made scripts moment most k m n h i first stops seats news flags stopped 
 -- ---- a host that may make a step
 
 -- it isn't held, and its program isn't over
-pub ready-parts : (scripts : List Script) (m : Meaning Run) → is_ready (protocol scripts) m ≡ true → (is_held m ≡ false) × (is_over m.program ≡ false)
+pub ready-parts : (scripts : List Script) (m : Meaning Run)
+    → is_ready (protocol scripts) m ≡ true
+    → (is_held m ≡ false) × (is_over m.program ≡ false)
 ready-parts scripts m go =
     let parts = and_parts (not (is_held m)) (not (is_over m.program)) go in
     (not-true (is_held m) parts.0, not-true (is_over m.program) parts.1)
 
-held_none : (stop : Option Pause) (phase : Phase) (shut waiting : Bool) → (is_some stop || (waits phase || (shut || waiting))) ≡ false
+held_none : (stop : Option Pause) (phase : Phase) (shut waiting : Bool)
+    → (is_some stop || (waits phase || (shut || waiting))) ≡ false
     → (stop ≡ None) × (phase ≡ (if is_first phase then Woken else Running)) × (shut ≡ false) × (waiting ≡ false)
 held_none (Some p) phase shut waiting free = absurd cc
 held_none None Waiting shut waiting free = absurd cc

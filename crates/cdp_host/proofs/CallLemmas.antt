@@ -36,12 +36,20 @@ whose (Attached x) held = (x, refl)
 whose (Lost loss is_reported is_told) held = absurd cc
 whose Left held = absurd cc
 
-works-by : {X : Type 0} → (s : ℕ) (b : Bool) (seats : List (Seat X)) → (b ≡ true → some is_attached seats ≡ false) → is_attached (seat_of s seats) ≡ true → b ≡ false
+works-by : {X : Type 0}
+    → (s : ℕ) (b : Bool) (seats : List (Seat X))
+    → (b ≡ true → some is_attached seats ≡ false)
+    → is_attached (seat_of s seats) ≡ true
+    → b ≡ false
 works-by s true seats alone held = let gone = none-at s seats (alone refl) in absurd cc
 works-by s false seats alone held = refl
 
 -- a host works that has somebody attached
-pub works-at : {X : Type 0} → (s : ℕ) (b : Bool) (seats : List (Seat X)) → (b ≡ true → some is_attached seats ≡ false) → is_attached (seat_of s seats) ≡ true → b ≡ false
+pub works-at : {X : Type 0}
+    → (s : ℕ) (b : Bool) (seats : List (Seat X))
+    → (b ≡ true → some is_attached seats ≡ false)
+    → is_attached (seat_of s seats) ≡ true
+    → b ≡ false
 works-at s b seats alone held = works-by s b seats alone held
 
 -- ---- what holds of every host, with other seats
@@ -79,7 +87,8 @@ unfolding fits
 nothing-fits = refl
 
 -- the texts that wait fit behind an answer
-pub answer-fit : (scripts : List Script) (w : Answered) (answer : Answer) (s : ℕ) (seats news : List (Seat Session)) → AnswersIn w answer s seats news
+pub answer-fit : (scripts : List Script) (w : Answered) (answer : Answer) (s : ℕ) (seats news : List (Seat Session))
+    → AnswersIn w answer s seats news
     → AllFit (protocol scripts) seats → AllFit (protocol scripts) news
 answer-fit scripts (Kept asks) answer s seats news is fit = subst (AllFit (protocol scripts)) (sym is.0) (fit-put (protocol scripts) s (Attached answer.session) seats is.2 fit)
 answer-fit scripts Overran answer s seats news is fit = subst (AllFit (protocol scripts)) (sym is.0) (fit-put (protocol scripts) s Left seats tt fit)
@@ -87,13 +96,17 @@ answer-fit scripts Failed answer s seats news is fit = subst (AllFit (protocol s
 
 -- and behind a take
 pub take-fit : (scripts : List Script) (s : ℕ) (seats news : List (Seat Session)) → is_attached (seat_of s seats) ≡ true
-    → ((x : Session) → seat_of s seats ≡ Attached x → news ≡ put s (Attached (emptied x)) seats) → AllFit (protocol scripts) seats → AllFit (protocol scripts) news
+    → ((x : Session) → seat_of s seats ≡ Attached x → news ≡ put s (Attached (emptied x)) seats)
+    → AllFit (protocol scripts) seats
+    → AllFit (protocol scripts) news
 take-fit scripts s seats news held are fit =
     let it = whose (seat_of s seats) held in
     subst (AllFit (protocol scripts)) (sym (are it.0 it.1)) (fit-put (protocol scripts) s (Attached (emptied it.0)) seats nothing-fits fit)
 
 -- and with one session more
-pub attach-fit : (scripts : List Script) (x : Session) (n : ℕ) (w : Workspace) (seats news : List (Seat Session)) → x ≡ fresh n w → news ≡ seats ++ Attached x ∷ []
+pub attach-fit : (scripts : List Script) (x : Session) (n : ℕ) (w : Workspace) (seats news : List (Seat Session))
+    → x ≡ fresh n w
+    → news ≡ seats ++ Attached x ∷ []
     → AllFit (protocol scripts) seats → AllFit (protocol scripts) news
 attach-fit scripts x n w seats news is are fit =
     subst (AllFit (protocol scripts)) (sym are) (fit-more (protocol scripts) (Attached x) seats (ap (λ y. fits y.outbox) is ∙ nothing-fits) fit)
@@ -101,7 +114,9 @@ attach-fit scripts x n w seats news is are fit =
 -- ---- seats that were lent
 
 -- what became of a text, where the seats are given back
-pub answers-back : (w : Answered) (answer : Answer) (n s : ℕ) (seats lent news rest : List (Seat Session)) → lent ≡ seats → n ≡ length lent
+pub answers-back : (w : Answered) (answer : Answer) (n s : ℕ) (seats lent news rest : List (Seat Session))
+    → lent ≡ seats
+    → n ≡ length lent
     → AnswersIn w answer s lent news → AnswersIn w answer s seats (first n (news ++ rest))
 answers-back (Kept asks) answer n s seats lent news rest same full is =
     (put-back n s (Attached answer.session) lent news rest full is.0 ∙ ap (put s (Attached answer.session)) same, is.1, is.2)
@@ -141,26 +156,35 @@ take-here h s news x is are =
     (λ taken. ap (λ ss. with_seats ss (meaning_with h taken)) are ∙ ap (take (protocol h.scripts) s (meaning_with h taken)) (sym is))
     (λ none. subst (λ ss. some fell ss ≡ false) (sym are) (fell-put s (Attached (emptied x)) h.meaning.seats refl none))
 
-pub take-leaves : (h old : HostState) (s : ℕ) (news : List (Seat Session)) → h ≡ old → is_attached (seat_of s old.meaning.seats) ≡ true
-    → ((x : Session) → seat_of s h.meaning.seats ≡ Attached x → news ≡ put s (Attached (emptied x)) h.meaning.seats) → Leaves old (Take s) (seated h news)
+pub take-leaves : (h old : HostState) (s : ℕ) (news : List (Seat Session))
+    → h ≡ old
+    → is_attached (seat_of s old.meaning.seats) ≡ true
+    → ((x : Session) → seat_of s h.meaning.seats ≡ Attached x → news ≡ put s (Attached (emptied x)) h.meaning.seats)
+    → Leaves old (Take s) (seated h news)
 take-leaves h old s news same held are =
     let it = whose (seat_of s h.meaning.seats) (subst (λ o. is_attached (seat_of s o.meaning.seats) ≡ true) (sym same) held) in
     subst (λ o. Leaves o (Take s) (seated h news)) same (take-here h s news it.0 it.1 (are it.0 it.1))
 
-pub take-stands : (h old new : HostState) (s : ℕ) → h ≡ old → (h.broken ≡ true → NoneAttached h.meaning.seats) → is_attached (seat_of s old.meaning.seats) ≡ true
+pub take-stands : (h old new : HostState) (s : ℕ)
+    → h ≡ old
+    → (h.broken ≡ true → NoneAttached h.meaning.seats)
+    → is_attached (seat_of s old.meaning.seats) ≡ true
     → Leaves old (Take s) new → CarriesOn old (Take s) new
 take-stands h old new s same alone held leaves = λ scripts input wait history stood.
     let works = subst (λ o. o.broken ≡ false) same (works-at s h.broken h.meaning.seats alone (subst (λ o. is_attached (seat_of s o.meaning.seats) ≡ true) (sym same) held)) in
     stands-call scripts input wait old new history (Take s) stood refl tt held leaves works
 
-attach-here : (h : HostState) (news : List (Seat Session)) (x : Session) → x ≡ fresh (length h.meaning.seats + 1) (begun (code_of h.scripts))
+attach-here : (h : HostState) (news : List (Seat Session)) (x : Session)
+    → x ≡ fresh (length h.meaning.seats + 1) (begun (code_of h.scripts))
     → news ≡ h.meaning.seats ++ Attached x ∷ [] → Leaves h Attach (seated h news)
 attach-here h news x is are =
     seats-leave h Attach news
     (λ taken. ap (λ ss. with_seats ss (meaning_with h taken)) (are ∙ ap (λ y. h.meaning.seats ++ Attached y ∷ []) is))
     (λ none. subst (λ ss. some fell ss ≡ false) (sym are) (fell-more (Attached x) h.meaning.seats refl none))
 
-pub attach-leaves : (h old : HostState) (news : List (Seat Session)) (x : Session) → h ≡ old → x ≡ fresh (length h.meaning.seats + 1) (begun (code_of h.scripts))
+pub attach-leaves : (h old : HostState) (news : List (Seat Session)) (x : Session)
+    → h ≡ old
+    → x ≡ fresh (length h.meaning.seats + 1) (begun (code_of h.scripts))
     → news ≡ h.meaning.seats ++ Attached x ∷ [] → Leaves old Attach (seated h news)
 attach-leaves h old news x same is are = subst (λ o. Leaves o Attach (seated h news)) same (attach-here h news x is are)
 

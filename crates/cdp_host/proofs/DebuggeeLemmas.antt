@@ -36,13 +36,15 @@ world_by (Some ends.Effect) t s = refl
 world_by (Some (ends.Full what)) t s = refl
 world_by (Some ends.Lost) t s = ap (λ u. u.world) (run_of-state t s)
 
-pub standing-world : (scripts : List Script) (m : Machine) (h : Heap) → (machine_standing scripts m h).world ≡ heap_world m.names h
+pub standing-world : (scripts : List Script) (m : Machine) (h : Heap)
+    → (machine_standing scripts m h).world ≡ heap_world m.names h
 unfolding standing_of
 standing-world scripts m h = world_by m.ended (term_of m) (state_of m (heap_world m.names h) [])
 
 -- ---- the end
 
-pub standing-end : (scripts : List Script) (m : Machine) (h : Heap) → (machine_standing scripts m h).over ≡ is_over (machine_run m h [])
+pub standing-end : (scripts : List Script) (m : Machine) (h : Heap)
+    → (machine_standing scripts m h).over ≡ is_over (machine_run m h [])
 unfolding standing_of
 standing-end scripts m h = refl
 
@@ -53,42 +55,59 @@ going_thrown (done v) s = refl
 going_thrown (standing v place) s = refl
 going_thrown (part f now later) s = refl
 
-thrown_by : (o : Option End) (t : Term) (s : State) → IsKept o → thrown_of (run_by o t s) ≡ option_map value_of (until_end o (thrown t))
+thrown_by : (o : Option End) (t : Term) (s : State)
+    → IsKept o
+    → thrown_of (run_by o t s) ≡ option_map value_of (until_end o (thrown t))
 thrown_by None t s kept = going_thrown t s
 thrown_by (Some (ends.Finished f)) t s kept = refl
 thrown_by (Some ends.Effect) t s kept = refl
 thrown_by (Some (ends.Full what)) t s kept = refl
 thrown_by (Some ends.Lost) t s kept = absurd kept
 
-pub standing-thrown : (scripts : List Script) (m : Machine) (h : Heap) → IsKept m.ended → (machine_standing scripts m h).thrown ≡ option_map value_of (until_end m.ended (thrown (term_of m)))
+pub standing-thrown : (scripts : List Script) (m : Machine) (h : Heap)
+    → IsKept m.ended
+    → (machine_standing scripts m h).thrown ≡ option_map value_of (until_end m.ended (thrown (term_of m)))
 unfolding standing_of
 standing-thrown scripts m h kept = thrown_by m.ended (term_of m) (state_of m (heap_world m.names h) []) kept
 
 -- ---- frames
 
 -- a program that is over has none
-pub standing-over : (scripts : List Script) (r : Run) (f : runs.Finish) (s : State) → r ≡ over f s → (standing_of scripts r).frames ≡ []
+pub standing-over : (scripts : List Script) (r : Run) (f : runs.Finish) (s : State)
+    → r ≡ over f s
+    → (standing_of scripts r).frames ≡ []
 unfolding standing_of
 standing-over scripts r f s e = ap (frames_of scripts) e
 
-ended_frames : (scripts : List Script) (o : Option End) (t : Term) (s : State) → IsKept o → is_some o ≡ true → frames_of scripts (run_by o t s) ≡ []
+ended_frames : (scripts : List Script) (o : Option End) (t : Term) (s : State)
+    → IsKept o
+    → is_some o ≡ true
+    → frames_of scripts (run_by o t s) ≡ []
 ended_frames scripts None t s kept some = absurd cc
 ended_frames scripts (Some (ends.Finished f)) t s kept some = refl
 ended_frames scripts (Some ends.Effect) t s kept some = refl
 ended_frames scripts (Some (ends.Full what)) t s kept some = refl
 ended_frames scripts (Some ends.Lost) t s kept some = absurd kept
 
-pub standing-ended : (scripts : List Script) (m : Machine) (h : Heap) → IsKept m.ended → is_some m.ended ≡ true → (machine_standing scripts m h).frames ≡ []
+pub standing-ended : (scripts : List Script) (m : Machine) (h : Heap)
+    → IsKept m.ended
+    → is_some m.ended ≡ true
+    → (machine_standing scripts m h).frames ≡ []
 unfolding standing_of
 standing-ended scripts m h kept some = ended_frames scripts m.ended (term_of m) (state_of m (heap_world m.names h) []) kept some
 
-going_frames : (scripts : List Script) (t : Term) (s : State) → IsRunning (run_of t s) → frames_of scripts (run_of t s) ≡ walk scripts script_scope t s
+going_frames : (scripts : List Script) (t : Term) (s : State)
+    → IsRunning (run_of t s)
+    → frames_of scripts (run_of t s) ≡ walk scripts script_scope t s
 going_frames scripts (done v) s h = absurd h
 going_frames scripts (standing v place) s h = refl
 going_frames scripts (part f now later) s h = refl
 
 -- where something is left to reduce, they are those that are walked over
-pub standing-going : (scripts : List Script) (m : Machine) (h : Heap) → m.ended ≡ None → IsRunning (machine_run m h []) → (machine_standing scripts m h).frames ≡ walk scripts script_scope (term_of m) (state_of m (heap_world m.names h) [])
+pub standing-going : (scripts : List Script) (m : Machine) (h : Heap)
+    → m.ended ≡ None
+    → IsRunning (machine_run m h [])
+    → (machine_standing scripts m h).frames ≡ walk scripts script_scope (term_of m) (state_of m (heap_world m.names h) [])
 unfolding standing_of
 standing-going scripts m h e is =
     let t : Term = term_of m in

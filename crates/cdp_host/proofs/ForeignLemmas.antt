@@ -30,7 +30,9 @@ use Rattle.cdp_host.specs.Foreign.{IsOfAnother, IsRefusal, RefusesFrame, Refuses
 -- ---- texts of ids
 
 -- what stands before the point of an id
-front-number : (m : ℕ) (back : List ℕ) → m < 2 ^ 64 → halves 46 (decimal m ++ (point ++ back)) ≡ Some record { front = decimal m; back = back }
+front-number : (m : ℕ) (back : List ℕ)
+    → m < 2 ^ 64
+    → halves 46 (decimal m ++ (point ++ back)) ≡ Some record { front = decimal m; back = back }
 front-number m back small = halves-decimal m 46 back small (λ digit. omega arith)
 
 front_of : Option Halves → List ℕ
@@ -38,7 +40,11 @@ front_of None = []
 front_of (Some parts) = parts.front
 
 -- two ids that are the same text are of one session
-same-session : (m r : ℕ) (first second : List ℕ) → m < 2 ^ 64 → r < 2 ^ 64 → decimal m ++ (point ++ first) ≡ decimal r ++ (point ++ second) → r ≡ m
+same-session : (m r : ℕ) (first second : List ℕ)
+    → m < 2 ^ 64
+    → r < 2 ^ 64
+    → decimal m ++ (point ++ first) ≡ decimal r ++ (point ++ second)
+    → r ≡ m
 unfolding front_of
 same-session m r first second m_small r_small is =
     let fronts : decimal m ≡ decimal r = sym (ap front_of (front-number m first m_small)) ∙ ap (λ text. front_of (halves 46 text)) is ∙ ap front_of (front-number r second r_small) in
@@ -61,7 +67,9 @@ no-number x r n h =
     ∙ ap (λ b. if b then decimal_value (decimal n) else None) (other-number x r h)
 
 -- the id of another session's frame is that of none of this one's
-other-frame : (x : Session) (r stop depth k d : ℕ) → IsOfAnother r x → bytes_eq (frame_id x.number k d) (frame_id r stop depth) ≡ false
+other-frame : (x : Session) (r stop depth k d : ℕ)
+    → IsOfAnother r x
+    → bytes_eq (frame_id x.number k d) (frame_id r stop depth) ≡ false
 other-frame x r stop depth k d h = fails (bytes_eq (frame_id x.number k d) (frame_id r stop depth))
     (λ same. h.differs (same-session x.number r (decimal k ++ (point ++ decimal d)) (decimal stop ++ (point ++ decimal depth)) h.own_small h.small
     ((bytes_eq-Decides (frame_id x.number k d) (frame_id r stop depth)).0 same)))
@@ -78,13 +86,16 @@ both-none f None = refl
 both-none f (Some a) = refl
 
 -- a list of arguments is missing where the object of one is
-lost-argument : (x : Session) (id : List ℕ) (front back : List Argument) → object_of x id ≡ None → arguments_of x (front ++ (an_object id ∷ back)) ≡ None
+lost-argument : (x : Session) (id : List ℕ) (front back : List Argument)
+    → object_of x id ≡ None
+    → arguments_of x (front ++ (an_object id ∷ back)) ≡ None
 lost-argument x id [] back lost = ap (λ o. both ◌∷◌ (option_map given o) (arguments_of x back)) lost
 lost-argument x id (a ∷ front) back lost =
     ap (both ◌∷◌ (argument_of x a)) (lost-argument x id front back lost) ∙ both-none ◌∷◌ (argument_of x a)
 
 -- a call whose arguments are missing is refused, whatever its `this`
-lost-call : (s : Situation) (x : Session) (call : FunctionCall) (o : Option Value) → calls_given s x call o None ≡ Stops refusals.UnknownObject
+lost-call : (s : Situation) (x : Session) (call : FunctionCall) (o : Option Value)
+    → calls_given s x call o None ≡ Stops refusals.UnknownObject
 lost-call s x call None = refl
 lost-call s x call (Some v) = refl
 
@@ -112,30 +123,40 @@ foreign-object s x r n h = refuses-object s x (object_id r n) (no-handle x r n h
 -- ---- frames
 
 -- no frame is found by an id that is none of theirs
-none-found : (m k : ℕ) (id : List ℕ) (d : ℕ) (fs : List ShownFrame) → ((e : ℕ) → bytes_eq (frame_id m k e) id ≡ false) → frame_from m k id d fs ≡ None
+none-found : (m k : ℕ) (id : List ℕ) (d : ℕ) (fs : List ShownFrame)
+    → ((e : ℕ) → bytes_eq (frame_id m k e) id ≡ false)
+    → frame_from m k id d fs ≡ None
 none-found m k id d [] never = refl
 none-found m k id d (f ∷ fs) never =
     ap (λ b. if b then Some f else frame_from m k id (d + 1) fs) (never d) ∙ none-found m k id (d + 1) fs never
 
 -- wherever the program is paused
-no-frame : (s : Situation) (x : Session) (paused : Option Pause) (id : List ℕ) → ((k e : ℕ) → bytes_eq (frame_id x.number k e) id ≡ false) → frame_of s x paused id ≡ None
+no-frame : (s : Situation) (x : Session) (paused : Option Pause) (id : List ℕ)
+    → ((k e : ℕ) → bytes_eq (frame_id x.number k e) id ≡ false)
+    → frame_of s x paused id ≡ None
 no-frame s x None id never = refl
 no-frame s x (Some p) id never = none-found x.number p.number id 0 s.standing.frames (never p.number)
 
 -- what is refused by its row comes to a refusal
-refused-anyway : (o : Option Refusal) (w : Row) (why : Refusal) → w ≡ Refuses why → IsRefusal (option_map_or Refuses o w)
+refused-anyway : (o : Option Refusal) (w : Row) (why : Refusal)
+    → w ≡ Refuses why
+    → IsRefusal (option_map_or Refuses o w)
 refused-anyway None w why is = (why, is)
 refused-anyway (Some first) w why is = (first, refl)
 
 -- nothing refuses it before its row
-not-before : (s : Situation) (x : Session) (id : List ℕ) (ev : Evaluation) → x.rules.enabled ≡ true → is_some s.paused ≡ true
+not-before : (s : Situation) (x : Session) (id : List ℕ) (ev : Evaluation)
+    → x.rules.enabled ≡ true
+    → is_some s.paused ≡ true
     → refusal_of s x (params.EvaluateOnCallFrame id ev) ≡ None
 not-before s x id ev enabled paused =
     ap (λ b. if not b then Some refusals.NotEnabled else if not (is_some s.paused) then Some refusals.NotPaused else None) enabled
     ∙ ap (λ b. if not b then Some refusals.NotPaused else None) paused
 
 -- an id by which no frame is found is refused
-refuses-frame : (s : Situation) (x : Session) (id : List ℕ) → ((paused : Option Pause) → frame_of s x paused id ≡ None) → RefusesFrame s x id
+refuses-frame : (s : Situation) (x : Session) (id : List ℕ)
+    → ((paused : Option Pause) → frame_of s x paused id ≡ None)
+    → RefusesFrame s x id
 refuses-frame s x id lost =
     let wanting : (ev : Evaluation) → row s x (params.EvaluateOnCallFrame id ev) ≡ Refuses refusals.UnknownFrame = λ ev. ap (λ o. row_of (evaluates_at s x o ev)) (lost s.paused) in
     record {
@@ -147,6 +168,8 @@ refuses-frame s x id lost =
     }
 
 -- so is each id of another session's frame
-pub foreign-frame : (s : Situation) (x : Session) (r stop depth : ℕ) → IsOfAnother r x → RefusesFrame s x (frame_id r stop depth)
+pub foreign-frame : (s : Situation) (x : Session) (r stop depth : ℕ)
+    → IsOfAnother r x
+    → RefusesFrame s x (frame_id r stop depth)
 foreign-frame s x r stop depth h =
     refuses-frame s x (frame_id r stop depth) (λ paused. no-frame s x paused (frame_id r stop depth) (λ k e. other-frame x r stop depth k e h))

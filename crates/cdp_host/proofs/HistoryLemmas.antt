@@ -19,7 +19,9 @@ pub longer : (scripts : List Script) (input : List (List ℕ)) (wait : Bool) (hi
 longer scripts input wait history entry = whole-more (protocol scripts) (start scripts input) wait history entry
 
 -- where it begins
-pub stands-start : (scripts : List Script) (input : List (List ℕ)) (wait : Bool) (host : HostState) → host.scripts ≡ scripts → host.broken ≡ false
+pub stands-start : (scripts : List Script) (input : List (List ℕ)) (wait : Bool) (host : HostState)
+    → host.scripts ≡ scripts
+    → host.broken ≡ false
     → meaning_with host [] ≡ begin scripts input wait → Stands scripts input wait host []
 stands-start scripts input wait host same works is = record {
   runs = same;
@@ -49,8 +51,13 @@ stands-behind scripts input wait old new history entry stood same works fit stan
 
 -- the same of an entry that makes no steps
 pub stands-call : (scripts : List Script) (input : List (List ℕ)) (wait : Bool) (old new : HostState) (history : List Entry) (entry : Entry)
-    → Stands scripts input wait old history → steps_of entry ≡ zero → FitsEntry (protocol scripts) (whole scripts input wait history) entry
-    → IsHeld old.meaning entry → Leaves old entry new → old.broken ≡ false → Stands scripts input wait new (history ++ entry ∷ [])
+    → Stands scripts input wait old history
+    → steps_of entry ≡ zero
+    → FitsEntry (protocol scripts) (whole scripts input wait history) entry
+    → IsHeld old.meaning entry
+    → Leaves old entry new
+    → old.broken ≡ false
+    → Stands scripts input wait new (history ++ entry ∷ [])
 stands-call scripts input wait old new history entry stood none fit held leaves works =
     let m : Meaning Run = whole scripts input wait history in
     let taken : List (List ℕ) = printed_of m.program in

@@ -11,10 +11,13 @@ use Rattle.cdp_host.specs.Rules.{IsPausedThere, PrintsAsPlain}
 use Rattle.cdp_host.proofs.ProgramLemmas.{plain-grows, plain-over}
 use Rattle.cdp_host.proofs.ProtocolLemmas.{enabled-kept, plain-same}
 
-pub goes-plainly : (scripts : List Script) (input : List (List ℕ)) (wait : Bool) (history : List Entry) → (whole scripts input wait history).program ≡ plain (steps_made history) scripts input
+pub goes-plainly : (scripts : List Script) (input : List (List ℕ)) (wait : Bool) (history : List Entry)
+    → (whole scripts input wait history).program ≡ plain (steps_made history) scripts input
 goes-plainly scripts input wait history = plain-way (protocol scripts) (start scripts input) wait history ∙ plain-same (steps_made history) scripts input
 
-pub plain-prints : (scripts : List Script) (input : List (List ℕ)) (made : ℕ) (r : Run) → r ≡ plain made scripts input → PrintsAsPlain scripts input made r
+pub plain-prints : (scripts : List Script) (input : List (List ℕ)) (made : ℕ) (r : Run)
+    → r ≡ plain made scripts input
+    → PrintsAsPlain scripts input made r
 plain-prints scripts input made r is =
     let P : Run → Type 0 = PrintsAsPlain scripts input made in
     subst P (sym is) (record {
@@ -22,10 +25,12 @@ plain-prints scripts input made r is =
       all = λ ends j. ap printed_of (plain-over j made scripts input ends);
     })
 
-pub prints-plainly : (scripts : List Script) (input : List (List ℕ)) (wait : Bool) (history : List Entry) → PrintsAsPlain scripts input (steps_made history) (whole scripts input wait history).program
+pub prints-plainly : (scripts : List Script) (input : List (List ℕ)) (wait : Bool) (history : List Entry)
+    → PrintsAsPlain scripts input (steps_made history) (whole scripts input wait history).program
 prints-plainly scripts input wait history = plain-prints scripts input (steps_made history) (whole scripts input wait history).program (goes-plainly scripts input wait history)
 
-pub paused-there : (scripts : List Script) (input : List (List ℕ)) (wait : Bool) (history : List Entry) → IsPausedThere scripts (whole scripts input wait history)
+pub paused-there : (scripts : List Script) (input : List (List ℕ)) (wait : Bool) (history : List Entry)
+    → IsPausedThere scripts (whole scripts input wait history)
 paused-there scripts input wait history = λ p is.
     let well = paused-well (protocol scripts) (start scripts input) wait history (enabled-kept scripts) in
     let there = well.there p is in

@@ -24,22 +24,33 @@ use Rattle.cdp_host.proofs.StandingLemmas.{standing-taken}
 -- ---- resumes
 
 -- a paused program that went on, whose sessions were told so, but for those for which there was no memory
-pub resumed-is : {C T Q X : Type 0} → (P : Protocol C T Q X) (m : meanings.Meaning C Q X) (news : List (Seat X)) → is_paused m ≡ true → OverAll (HearsOn P) m.seats news
+pub resumed-is : {C T Q X : Type 0}
+    → (P : Protocol C T Q X) (m : meanings.Meaning C Q X) (news : List (Seat X))
+    → is_paused m ≡ true
+    → OverAll (HearsOn P) m.seats news
     → (let n : meanings.Meaning C Q X = record m { stop = None; seats = news } in n ≡ less news (resume P m))
 resumed-is P m news paused over =
     ap (λ ss. record m { stop = None; seats = ss }) (on-each P m.seats news over).0
     ∙ ap (λ b. with_seats (without (fallen_in news) (if b then record m { stop = None; seats = each (resumed_seat P) m.seats } else m).seats) (if b then record m { stop = None; seats = each (resumed_seat P) m.seats } else m)) (sym paused)
 
 -- one that wasn't paused
-pub unresumed-is : {C T Q X : Type 0} → (P : Protocol C T Q X) (m : meanings.Meaning C Q X) → is_paused m ≡ false → m ≡ less m.seats (resume P m)
+pub unresumed-is : {C T Q X : Type 0}
+    → (P : Protocol C T Q X) (m : meanings.Meaning C Q X)
+    → is_paused m ≡ false
+    → m ≡ less m.seats (resume P m)
 unresumed-is P m free =
     sym (less-self m) ∙ ap (λ b. less m.seats (if b then record m { stop = None; seats = each (resumed_seat P) m.seats } else m)) (sym free)
 
 -- where some session has the debugger enabled, and where none has
-pub settled-is : {C T Q X : Type 0} → (P : Protocol C T Q X) (m : meanings.Meaning C Q X) → some (is_enabled_seat P) m.seats ≡ true → m ≡ less m.seats (settle P m)
+pub settled-is : {C T Q X : Type 0}
+    → (P : Protocol C T Q X) (m : meanings.Meaning C Q X)
+    → some (is_enabled_seat P) m.seats ≡ true
+    → m ≡ less m.seats (settle P m)
 settled-is P m enabled = sym (less-self m) ∙ ap (λ b. less m.seats (if b then m else resume P m)) (sym enabled)
 
-pub unsettled-is : {C T Q X : Type 0} → (P : Protocol C T Q X) (m n : meanings.Meaning C Q X) (seats : List (Seat X)) → some (is_enabled_seat P) m.seats ≡ false
+pub unsettled-is : {C T Q X : Type 0}
+    → (P : Protocol C T Q X) (m n : meanings.Meaning C Q X) (seats : List (Seat X))
+    → some (is_enabled_seat P) m.seats ≡ false
     → n ≡ less seats (resume P m) → n ≡ less seats (settle P m)
 unsettled-is P m n seats none is = is ∙ ap (λ b. less seats (if b then m else resume P m)) (sym none)
 
@@ -53,9 +64,12 @@ reseated old s z = record old { meaning = record old.meaning { seats = put s z o
 abbrev pub StaysPaused : HostState → HostState → Type 0
 StaysPaused mid new = is_paused new.meaning ≡ true → (new.meaning.seats ≡ mid.meaning.seats) × (new.meaning.stop ≡ mid.meaning.stop)
 
-pub leaves-told : (old mid new : HostState) (s : ℕ) (entry : Entry) (z : Seat Session) → fell z ≡ false → mid ≡ reseated old s z
+pub leaves-told : (old mid new : HostState) (s : ℕ) (entry : Entry) (z : Seat Session)
+    → fell z ≡ false
+    → mid ≡ reseated old s z
     → new.scripts ≡ mid.scripts → new.broken ≡ mid.broken → new.fallen ≡ mid.fallen → StaysPaused mid new
-    → ((taken : List (List ℕ)) → meaning_with new taken ≡ less new.meaning.seats (apply (protocol old.scripts) (meaning_with old taken) entry)) → Leaves old entry new
+    → ((taken : List (List ℕ)) → meaning_with new taken ≡ less new.meaning.seats (apply (protocol old.scripts) (meaning_with old taken) entry))
+    → Leaves old entry new
 leaves-told old mid new s entry z whole_seat is same works kept stays means = record {
   runs = same ∙ ap (λ h. h.scripts) is;
   works = works ∙ ap (λ h. h.broken) is;
@@ -77,8 +91,13 @@ pub answer-seen : (h : HostState) (taken : List (List ℕ)) (x : Session) (text 
     → answer_of (situation h.scripts h.meaning.stop (parts_standing h.scripts h.meaning.program)) x text ≡ answer_at h.scripts h.meaning.stop (meaning_with h taken).program text x
 answer-seen h taken x text = ap (λ d. answer_of (situation h.scripts h.meaning.stop d) x text) (standing-taken h.scripts h.meaning.program taken)
 
-apply-kept : {C T Q X : Type 0} → (P : Protocol C T Q X) (s : ℕ) (text : List ℕ) (m : meanings.Meaning C Q X) (x y : X) (go begin : Bool) → seat_of s m.seats ≡ Attached x
-    → y ≡ P.reply m.stop m.program text x → go ≡ P.resumes m.stop m.program text x → begin ≡ P.wakes m.stop m.program text x → P.fits y ≡ true
+apply-kept : {C T Q X : Type 0}
+    → (P : Protocol C T Q X) (s : ℕ) (text : List ℕ) (m : meanings.Meaning C Q X) (x y : X) (go begin : Bool)
+    → seat_of s m.seats ≡ Attached x
+    → y ≡ P.reply m.stop m.program text x
+    → go ≡ P.resumes m.stop m.program text x
+    → begin ≡ P.wakes m.stop m.program text x
+    → P.fits y ≡ true
     → asked P go begin (with_seat s (Attached y) m) ≡ apply P m (Tell s text)
 apply-kept {C} {T} {Q} {X} P s text m x y go begin had is goes begins fit =
     let Y : X = P.reply m.stop m.program text x in
@@ -90,14 +109,18 @@ apply-kept {C} {T} {Q} {X} P s text m x y go begin had is goes begins fit =
     ∙ ap (λ b. if b then asked P G B (with_seat s (Attached Y) m) else settle P (with_seat s Left m)) (sym (ap P.fits (sym is) ∙ fit))
     ∙ ap (tell P s text m) (sym had)
 
-apply-over : {C T Q X : Type 0} → (P : Protocol C T Q X) (s : ℕ) (text : List ℕ) (m : meanings.Meaning C Q X) (x y : X) → seat_of s m.seats ≡ Attached x
+apply-over : {C T Q X : Type 0}
+    → (P : Protocol C T Q X) (s : ℕ) (text : List ℕ) (m : meanings.Meaning C Q X) (x y : X)
+    → seat_of s m.seats ≡ Attached x
     → y ≡ P.reply m.stop m.program text x → P.fits y ≡ false → settle P (with_seat s Left m) ≡ apply P m (Tell s text)
 apply-over {C} {T} {Q} {X} P s text m x y had is over =
     let Y : X = P.reply m.stop m.program text x in
     ap (λ b. if b then asked P (P.resumes m.stop m.program text x) (P.wakes m.stop m.program text x) (with_seat s (Attached Y) m) else settle P (with_seat s Left m)) (sym (ap P.fits (sym is) ∙ over))
     ∙ ap (tell P s text m) (sym had)
 
-apply-left : {C T Q X : Type 0} → (P : Protocol C T Q X) (s : ℕ) (m : meanings.Meaning C Q X) (x : X) → seat_of s m.seats ≡ Attached x
+apply-left : {C T Q X : Type 0}
+    → (P : Protocol C T Q X) (s : ℕ) (m : meanings.Meaning C Q X) (x : X)
+    → seat_of s m.seats ≡ Attached x
     → settle P (with_seat s Left m) ≡ apply P m (Detach s)
 apply-left P s m x had = ap (detach P s m) (sym had)
 
@@ -109,10 +132,15 @@ becomes h text x = answer_of (situation h.scripts h.meaning.stop (parts_standing
 abbrev pub OnlySeats : HostState → HostState → Type 0
 OnlySeats old mid = mid ≡ record old { meaning = record old.meaning { seats = mid.meaning.seats } }
 
-put_is : (old mid : HostState) (s : ℕ) (z : Seat Session) → OnlySeats old mid → mid.meaning.seats ≡ put s z old.meaning.seats → mid ≡ reseated old s z
+put_is : (old mid : HostState) (s : ℕ) (z : Seat Session)
+    → OnlySeats old mid
+    → mid.meaning.seats ≡ put s z old.meaning.seats
+    → mid ≡ reseated old s z
 put_is old mid s z same is = same ∙ ap (λ ss. record old { meaning = record old.meaning { seats = ss } }) is
 
-pub leaves-kept : (old mid new : HostState) (s : ℕ) (text : List ℕ) (x : Session) (asks : Asks) → seat_of s old.meaning.seats ≡ Attached x → OnlySeats old mid
+pub leaves-kept : (old mid new : HostState) (s : ℕ) (text : List ℕ) (x : Session) (asks : Asks)
+    → seat_of s old.meaning.seats ≡ Attached x
+    → OnlySeats old mid
     → AnswersIn (Kept asks) (becomes old text x) s old.meaning.seats mid.meaning.seats
     → new.scripts ≡ mid.scripts → new.broken ≡ mid.broken → new.fallen ≡ mid.fallen → StaysPaused mid new
     → ((taken : List (List ℕ)) → meaning_with new taken ≡ less new.meaning.seats (asked (protocol mid.scripts) (asks_to_resume asks) (asks_to_wake asks) (meaning_with mid taken)))
@@ -129,10 +157,13 @@ leaves-kept old mid new s text x asks had only answers same works kept stays mea
     (apply-kept (protocol old.scripts) s text (meaning_with old taken) x y (asks_to_resume asks) (asks_to_wake asks) had (ap (λ a. a.session) seen)
     (ap asks_to_resume (answers.1 ∙ ap (λ a. a.asks) seen)) (ap asks_to_wake (answers.1 ∙ ap (λ a. a.asks) seen)) answers.2))
 
-pub leaves-over : (old mid new : HostState) (s : ℕ) (text : List ℕ) (x : Session) → seat_of s old.meaning.seats ≡ Attached x → OnlySeats old mid
+pub leaves-over : (old mid new : HostState) (s : ℕ) (text : List ℕ) (x : Session)
+    → seat_of s old.meaning.seats ≡ Attached x
+    → OnlySeats old mid
     → AnswersIn Overran (becomes old text x) s old.meaning.seats mid.meaning.seats
     → new.scripts ≡ mid.scripts → new.broken ≡ mid.broken → new.fallen ≡ mid.fallen → StaysPaused mid new
-    → ((taken : List (List ℕ)) → meaning_with new taken ≡ less new.meaning.seats (settle (protocol mid.scripts) (meaning_with mid taken))) → Leaves old (Tell s text) new
+    → ((taken : List (List ℕ)) → meaning_with new taken ≡ less new.meaning.seats (settle (protocol mid.scripts) (meaning_with mid taken)))
+    → Leaves old (Tell s text) new
 leaves-over old mid new s text x had only answers same works kept stays means =
     let y : Session = (becomes old text x).session in
     let is : mid ≡ reseated old s Left = put_is old mid s Left only answers.0 in
@@ -143,9 +174,13 @@ leaves-over old mid new s text x had only answers same works kept stays means =
     ∙ ap (less new.meaning.seats) (apply-over (protocol old.scripts) s text (meaning_with old taken) x y had (ap (λ a. a.session) (answer-seen old taken x text)) answers.1))
 
 -- a session that leaves
-pub leaves-left : (old mid new : HostState) (s : ℕ) (x : Session) → seat_of s old.meaning.seats ≡ Attached x → OnlySeats old mid → mid.meaning.seats ≡ put s Left old.meaning.seats
+pub leaves-left : (old mid new : HostState) (s : ℕ) (x : Session)
+    → seat_of s old.meaning.seats ≡ Attached x
+    → OnlySeats old mid
+    → mid.meaning.seats ≡ put s Left old.meaning.seats
     → new.scripts ≡ mid.scripts → new.broken ≡ mid.broken → new.fallen ≡ mid.fallen → StaysPaused mid new
-    → ((taken : List (List ℕ)) → meaning_with new taken ≡ less new.meaning.seats (settle (protocol mid.scripts) (meaning_with mid taken))) → Leaves old (Detach s) new
+    → ((taken : List (List ℕ)) → meaning_with new taken ≡ less new.meaning.seats (settle (protocol mid.scripts) (meaning_with mid taken)))
+    → Leaves old (Detach s) new
 leaves-left old mid new s x had only seats same works kept stays means =
     let is : mid ≡ reseated old s Left = put_is old mid s Left only seats in
     leaves-told old mid new s (Detach s) Left refl is same works kept stays
@@ -168,7 +203,9 @@ leaves-shut old = record {
   means = λ taken there. record { is = sym (less-self (record (meaning_with old taken) { shut = true })); all_there = there };
 }
 
-pub shut-stands : (old : HostState) (b : Bool) → old.broken ≡ b → CarriesOn old Shut (record old { meaning = record old.meaning { shut = true } })
+pub shut-stands : (old : HostState) (b : Bool)
+    → old.broken ≡ b
+    → CarriesOn old Shut (record old { meaning = record old.meaning { shut = true } })
 shut-stands old false works = λ scripts input wait history stood.
     stands-call scripts input wait old (record old { meaning = record old.meaning { shut = true } }) history Shut stood refl tt tt (leaves-shut old) works
 shut-stands old true fails = λ scripts input wait history stood.

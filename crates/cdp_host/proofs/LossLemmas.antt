@@ -27,7 +27,9 @@ use Rattle.cdp_host.proofs.PlacedLemmas.{put-same}
 -- ---- one seat
 
 -- a seat that isn't attached fits, whoever was told
-pub told-fits : (scripts : List Script) (seat : Seat Session) → is_attached seat ≡ false → Fits (protocol scripts) (owner_told seat)
+pub told-fits : (scripts : List Script) (seat : Seat Session)
+    → is_attached seat ≡ false
+    → Fits (protocol scripts) (owner_told seat)
 told-fits scripts (Attached x) gone = absurd cc
 told-fits scripts (Lost Overrun is_reported is_told) gone = tt
 told-fits scripts (Lost Memory true is_told) gone = tt
@@ -42,7 +44,10 @@ told-gone (Lost Memory true is_told) gone = refl
 told-gone (Lost Memory false is_told) gone = refl
 told-gone Left gone = refl
 
-put_gone_in : (i : ℕ) (new : Seat Session) (seats : List (Seat Session)) → is_attached new ≡ false → some is_attached seats ≡ false → some is_attached (put_in i new seats) ≡ false
+put_gone_in : (i : ℕ) (new : Seat Session) (seats : List (Seat Session))
+    → is_attached new ≡ false
+    → some is_attached seats ≡ false
+    → some is_attached (put_in i new seats) ≡ false
 put_gone_in i new [] gone none = none
 put_gone_in zero new (seat ∷ seats) gone none = or-false (is_attached new) (some is_attached seats) gone (or_parts (is_attached seat) (some is_attached seats) none).1
 put_gone_in (suc i) new (seat ∷ seats) gone none =
@@ -50,15 +55,22 @@ put_gone_in (suc i) new (seat ∷ seats) gone none =
     or-false (is_attached seat) (some is_attached (put_in i new seats)) parts.0 (put_gone_in i new seats gone parts.1)
 
 -- nor among all seats
-pub put-gone : (s : ℕ) (new : Seat Session) (seats : List (Seat Session)) → is_attached new ≡ false → some is_attached seats ≡ false → some is_attached (put s new seats) ≡ false
+pub put-gone : (s : ℕ) (new : Seat Session) (seats : List (Seat Session))
+    → is_attached new ≡ false
+    → some is_attached seats ≡ false
+    → some is_attached (put s new seats) ≡ false
 put-gone zero new seats gone none = none
 put-gone (suc i) new seats gone none = put_gone_in i new seats gone none
 
 -- ---- a host that works
 
 -- the owner of a session that isn't attached is told, and the host stands for the history with that
-told-stands : (scripts : List Script) (host m : Meaning Run) (s : ℕ) (seat : Seat Session) → StandsAs host m → (is_told : Bool)
-    → ((b : Bool) → seat_of s host.seats ≡ Lost Memory false b → is_attached (seat_of s m.seats) ≡ true) → seat_of s host.seats ≡ seat → is_attached seat ≡ false
+told-stands : (scripts : List Script) (host m : Meaning Run) (s : ℕ) (seat : Seat Session)
+    → StandsAs host m
+    → (is_told : Bool)
+    → ((b : Bool) → seat_of s host.seats ≡ Lost Memory false b → is_attached (seat_of s m.seats) ≡ true)
+    → seat_of s host.seats ≡ seat
+    → is_attached seat ≡ false
     → StandsAs (with_seat s (owner_told seat) host) (apply (protocol scripts) m (Detach s))
 told-stands scripts host m s (Attached x) stood b there at gone = absurd cc
 told-stands scripts host m s (Lost Overrun is_reported is_told) stood b there at gone = stands-detach-lost (protocol scripts) host m s Overrun is_reported is_told stood at refl
@@ -104,7 +116,9 @@ told-broken scripts m s seats Left broken at gone told =
 -- ---- any host
 
 -- the owner of a session that isn't attached was told
-pub loss-stands : (old : HostState) (s : ℕ) (b : Bool) → old.broken ≡ b → is_attached (seat_of s old.meaning.seats) ≡ false
+pub loss-stands : (old : HostState) (s : ℕ) (b : Bool)
+    → old.broken ≡ b
+    → is_attached (seat_of s old.meaning.seats) ≡ false
     → CarriesOn old (Detach s) (reseated old s (owner_told (seat_of s old.meaning.seats)))
 loss-stands old s false works gone = λ scripts input wait history stood.
     let m : Meaning Run = whole scripts input wait history in

@@ -37,7 +37,10 @@ unnamed depth debugger (seat ∷ seats) = rw (unnamed_seat depth debugger seat) 
 
 -- no session names such a step
 pub unnamed-where : (scripts : List Script) (t : Term) (frames : List Frame) (seats : List (Seat Session)) (mark : Option Mark) (throw : Option Thrown)
-    → mark ≡ at (spans_in scripts (top_spot frames).source) t → standing_throw throw ≡ thrown t → mark ≡ None → throw ≡ None
+    → mark ≡ at (spans_in scripts (top_spot frames).source) t
+    → standing_throw throw ≡ thrown t
+    → mark ≡ None
+    → throw ≡ None
     → false ≡ may_stop (arrival_at scripts t frames) seats
 unnamed-where scripts t frames seats mark throw marks throws_it no_mark no_throw =
     let f : Option Mark → Option StandingThrow → Arrival = λ o r. record {

@@ -55,13 +55,16 @@ arrival_until scripts o t frames = record {
   raised = option_map is_uncaught (until_end o (thrown t));
 }
 
-going_arrives : (scripts : List Script) (t : Term) (s : State) → arrival_at scripts t s.frames ≡ arrival_of scripts (runs.run_of t s)
+going_arrives : (scripts : List Script) (t : Term) (s : State)
+    → arrival_at scripts t s.frames ≡ arrival_of scripts (runs.run_of t s)
 unfolding arrival_of
 going_arrives scripts (done v) s = refl
 going_arrives scripts (standing v place) s = refl
 going_arrives scripts (part f now later) s = refl
 
-arrives_by : (scripts : List Script) (o : Option End) (t : Term) (s : State) → IsKept o → arrival_until scripts o t s.frames ≡ arrival_of scripts (run_by o t s)
+arrives_by : (scripts : List Script) (o : Option End) (t : Term) (s : State)
+    → IsKept o
+    → arrival_until scripts o t s.frames ≡ arrival_of scripts (run_by o t s)
 unfolding arrival_of
 arrives_by scripts None t s kept = going_arrives scripts t s
 arrives_by scripts (Some (ends.Finished f)) t s kept = refl
@@ -70,11 +73,14 @@ arrives_by scripts (Some (ends.Full what)) t s kept = refl
 arrives_by scripts (Some ends.Lost) t s kept = absurd kept
 
 -- a machine was left where its run was
-pub arrives : (scripts : List Script) (m : Machine) (h : Heap) (taken : List (List ℕ)) → IsKept m.ended → machine_arrival scripts m ≡ arrival_of scripts (machine_run m h taken)
+pub arrives : (scripts : List Script) (m : Machine) (h : Heap) (taken : List (List ℕ))
+    → IsKept m.ended
+    → machine_arrival scripts m ≡ arrival_of scripts (machine_run m h taken)
 arrives scripts m h taken kept = arrives_by scripts m.ended (term_of m) (state_of m (heap_world m.names h) taken) kept
 
 -- nobody may name a stop where a program is over
-pub unraised : (b : Bool) (e : Exceptions) → is_some (if b then None else if stops_at_raise e None then Some causes.Exception else None) ≡ false
+pub unraised : (b : Bool) (e : Exceptions)
+    → is_some (if b then None else if stops_at_raise e None then Some causes.Exception else None) ≡ false
 unraised true e = refl
 unraised false throws.Never = refl
 unraised false throws.Uncaught = refl
@@ -90,12 +96,16 @@ unnamed-end s [] = refl
 unnamed-end s (seat ∷ seats) = rw (unnamed_seat s seat) (unnamed-end s seats)
 
 -- where they may name none, they name none, however the program stands
-never_seat : (s : Standing) (a : Arrival) (seat : Seat Session) → may_stop_seat a seat ≡ false → stops_seat s a seat ≡ false
+never_seat : (s : Standing) (a : Arrival) (seat : Seat Session)
+    → may_stop_seat a seat ≡ false
+    → stops_seat s a seat ≡ false
 never_seat s a (Attached x) never = never-causes s a x never
 never_seat s a (Lost loss is_reported is_told) never = refl
 never_seat s a Left never = refl
 
-pub never-named : (s : Standing) (a : Arrival) (seats : List (Seat Session)) → may_stop a seats ≡ false → stops_at s a seats ≡ false
+pub never-named : (s : Standing) (a : Arrival) (seats : List (Seat Session))
+    → may_stop a seats ≡ false
+    → stops_at s a seats ≡ false
 never-named s a [] never = refl
 never-named s a (seat ∷ seats) never =
     let parts = or_parts (may_stop_seat a seat) (may_stop a seats) never in
@@ -111,19 +121,26 @@ printed_by (Some (ends.Full what)) t s = refl
 printed_by (Some ends.Lost) t s = ap (λ u. u.printed) (run_of-state t s)
 
 -- those that were taken, and then those that the machine holds
-pub run-printed : (p : Parts) (taken : List (List ℕ)) → printed_of (run_with taken p) ≡ taken ++ p.machine.context.printed
+pub run-printed : (p : Parts) (taken : List (List ℕ))
+    → printed_of (run_with taken p) ≡ taken ++ p.machine.context.printed
 run-printed p taken = printed_by p.machine.ended (term_of p.machine) (state_of p.machine (heap_world p.machine.names p.heap) taken)
 
 -- texts that are taken from a machine are still those of its run
-pub handed-over : (m n : Machine) (h : Heap) (texts taken : List (List ℕ)) → texts ≡ m.context.printed → n ≡ record m { context = record m.context { printed = [] } }
+pub handed-over : (m n : Machine) (h : Heap) (texts taken : List (List ℕ))
+    → texts ≡ m.context.printed
+    → n ≡ record m { context = record m.context { printed = [] } }
     → machine_run n h (taken ++ texts) ≡ machine_run m h taken
 handed-over m n h texts taken is rest =
     let f : List (List ℕ) → Run = λ printed. run_by m.ended (term_of m) (record (state_of m (heap_world m.names h) taken) { printed = printed }) in
     ap (λ k. machine_run k h (taken ++ texts)) rest ∙ ap f (append-nil (taken ++ texts) ∙ ap (λ xs. taken ++ xs) is)
 
 -- so a stretch of steps leads to where the texts behind it are handed out
-pub advance-printed : (scripts : List Script) (seats : List (Seat Session)) (most k : ℕ) (r : Run) (n o : Machine) (i : Heap) (texts before after taken : List (List ℕ)) → Advances scripts seats most k r (machine_run n i (taken ++ before))
-    → texts ≡ n.context.printed → o ≡ record n { context = record n.context { printed = [] } } → after ≡ before ++ texts → Advances scripts seats most k r (machine_run o i (taken ++ after))
+pub advance-printed : (scripts : List Script) (seats : List (Seat Session)) (most k : ℕ) (r : Run) (n o : Machine) (i : Heap) (texts before after taken : List (List ℕ))
+    → Advances scripts seats most k r (machine_run n i (taken ++ before))
+    → texts ≡ n.context.printed
+    → o ≡ record n { context = record n.context { printed = [] } }
+    → after ≡ before ++ texts
+    → Advances scripts seats most k r (machine_run o i (taken ++ after))
 advance-printed scripts seats most k r n o i texts before after taken steps is rest all =
     let P : Run → Type 0 = Advances scripts seats most k r in
     let e : machine_run n i (taken ++ before) ≡ machine_run o i (taken ++ after) =
@@ -147,7 +164,10 @@ going_by (Some (ends.Full what)) t s kept goes = absurd cc
 going_by (Some ends.Lost) t s kept goes = absurd kept
 
 -- nothing has ended a machine whose run isn't over
-pub still-going : (m : Machine) (h : Heap) (taken : List (List ℕ)) → IsKept m.ended → is_over (machine_run m h taken) ≡ false → m.ended ≡ None
+pub still-going : (m : Machine) (h : Heap) (taken : List (List ℕ))
+    → IsKept m.ended
+    → is_over (machine_run m h taken) ≡ false
+    → m.ended ≡ None
 still-going m h taken kept goes = going_by m.ended (term_of m) (state_of m (heap_world m.names h) taken) kept goes
 
 runs_on : (r : Run) → IsRunning r → is_over r ≡ false
@@ -166,27 +186,48 @@ IsOverBy m f = (w : World) (taken : List (List ℕ)) → run_at m w taken ≡ ov
 abbrev pub Goes : Machine → Type 0
 Goes m = m.ended ≡ None → (w : World) (taken : List (List ℕ)) → IsRunning (run_at m w taken)
 
-pub finished-over : (m : Machine) (h : Heap) (taken : List (List ℕ)) (f : Finish) → IsOverBy m f → is_over (machine_run m h taken) ≡ true
+pub finished-over : (m : Machine) (h : Heap) (taken : List (List ℕ)) (f : Finish)
+    → IsOverBy m f
+    → is_over (machine_run m h taken) ≡ true
 finished-over m h taken f is = ap is_over (is (heap_world m.names h) taken)
 
-pub finished-thrown : (m : Machine) (h : Heap) (taken : List (List ℕ)) (f : Finish) (b : Bool) → IsOverBy m f → has_thrown (over (finish_of f) (state_of m (heap_world m.names h) taken)) ≡ b → has_thrown (machine_run m h taken) ≡ b
+pub finished-thrown : (m : Machine) (h : Heap) (taken : List (List ℕ)) (f : Finish) (b : Bool)
+    → IsOverBy m f
+    → has_thrown (over (finish_of f) (state_of m (heap_world m.names h) taken)) ≡ b
+    → has_thrown (machine_run m h taken) ≡ b
 finished-thrown m h taken f b is by = ap has_thrown (is (heap_world m.names h) taken) ∙ by
 
-unfinished_by : (m : Machine) (h : Heap) (taken : List (List ℕ)) (o : Option End) → m.ended ≡ o → IsKept m.ended → Goes m → is_some o ≡ is_over (machine_run m h taken)
+unfinished_by : (m : Machine) (h : Heap) (taken : List (List ℕ)) (o : Option End)
+    → m.ended ≡ o
+    → IsKept m.ended
+    → Goes m
+    → is_some o ≡ is_over (machine_run m h taken)
 unfinished_by m h taken None is kept goes = sym (runs_on (machine_run m h taken) (goes is (heap_world m.names h) taken))
 unfinished_by m h taken (Some e) is kept goes = sym (ended-over m.ended (term_of m) (state_of m (heap_world m.names h) taken) kept (ap is_some is))
 
-pub unfinished-over : (m : Machine) (h : Heap) (taken : List (List ℕ)) → IsKept m.ended → Goes m → is_some m.ended ≡ is_over (machine_run m h taken)
+pub unfinished-over : (m : Machine) (h : Heap) (taken : List (List ℕ))
+    → IsKept m.ended
+    → Goes m
+    → is_some m.ended ≡ is_over (machine_run m h taken)
 unfinished-over m h taken kept goes = unfinished_by m h taken m.ended refl kept goes
 
-not_thrown : (m : Machine) (h : Heap) (taken : List (List ℕ)) (o : Option End) → m.ended ≡ o → IsKept o → Goes m → finish_at o m.point ≡ None → has_thrown (machine_run m h taken) ≡ false
+not_thrown : (m : Machine) (h : Heap) (taken : List (List ℕ)) (o : Option End)
+    → m.ended ≡ o
+    → IsKept o
+    → Goes m
+    → finish_at o m.point ≡ None
+    → has_thrown (machine_run m h taken) ≡ false
 not_thrown m h taken None is kept goes none = unthrown (machine_run m h taken) (runs_on (machine_run m h taken) (goes is (heap_world m.names h) taken))
 not_thrown m h taken (Some (ends.Finished f)) is kept goes none = absurd cc
 not_thrown m h taken (Some ends.Effect) is kept goes none = ap (λ e. has_thrown (run_by e (term_of m) (state_of m (heap_world m.names h) taken))) is
 not_thrown m h taken (Some (ends.Full what)) is kept goes none = ap (λ e. has_thrown (run_by e (term_of m) (state_of m (heap_world m.names h) taken))) is
 not_thrown m h taken (Some ends.Lost) is kept goes none = absurd kept
 
-pub unfinished-thrown : (m : Machine) (h : Heap) (taken : List (List ℕ)) → IsKept m.ended → Goes m → finish_at m.ended m.point ≡ None → has_thrown (machine_run m h taken) ≡ false
+pub unfinished-thrown : (m : Machine) (h : Heap) (taken : List (List ℕ))
+    → IsKept m.ended
+    → Goes m
+    → finish_at m.ended m.point ≡ None
+    → has_thrown (machine_run m h taken) ≡ false
 unfinished-thrown m h taken kept goes none = not_thrown m h taken m.ended refl kept goes none
 
 -- ---- steps
@@ -199,7 +240,8 @@ same-program m n same = ap (λ t. trees.program_of n.names t) same.table ∙ ap 
 abbrev pub asked : List Script → List (Seat Session) → Term → List Frame → Bool
 asked scripts seats t frames = may_stop (arrival_at scripts t frames) seats
 
-asked_there : (scripts : List Script) (seats : List (Seat Session)) (r : Run) → asks_at (asked scripts seats) r ≡ may_stop (arrival_of scripts r) seats
+asked_there : (scripts : List Script) (seats : List (Seat Session)) (r : Run)
+    → asks_at (asked scripts seats) r ≡ may_stop (arrival_of scripts r) seats
 unfolding arrival_of
 asked_there scripts seats (running t s) = refl
 asked_there scripts seats (over f s) = sym (unnamed-end s seats)
@@ -238,30 +280,45 @@ none_ended whys.Memory most some counts = refl
 
 -- what a machine's run says of it before and behind
 pub record HasRun (scripts : List Script) (seats : List (Seat Session)) (most : ℕ) (m : Machine) (h : Heap) (n : Machine) (i : Heap) (k : ℕ) (why : Why) : Type 0 where
-  pub runs : IsKept n.ended → (taken : List (List ℕ)) → machine_run n i taken ≡ steps_in k (program_of m) script_scope (machine_run m h taken)
+  pub runs : IsKept n.ended
+      → (taken : List (List ℕ))
+      → machine_run n i taken ≡ steps_in k (program_of m) script_scope (machine_run m h taken)
   pub left : (taken : List (List ℕ)) → RunsFor k (program_of m) script_scope (machine_run m h taken)
   pub within : k ≤ most
   pub counted : CountsAs why k most
-  pub passed : (taken : List (List ℕ)) → HasPassed (asked scripts seats) (passed_steps why k) (program_of m) script_scope (machine_run m h taken)
+  pub passed : (taken : List (List ℕ))
+      → HasPassed (asked scripts seats) (passed_steps why k) (program_of m) script_scope (machine_run m h taken)
   pub end : n.ended ≡ end_of_run why
-  pub values : (taken : List (List ℕ)) → PrintsAs why (last_printed k (program_of m) script_scope (machine_run m h taken))
+  pub values : (taken : List (List ℕ))
+      → PrintsAs why (last_printed k (program_of m) script_scope (machine_run m h taken))
   pub silent : (taken : List (List ℕ)) → IsSilent (k - 1) (program_of m) script_scope (machine_run m h taken)
 
 -- the values that a step of it prints, in the words of the host's program
-prints_there : (j : ℕ) (scripts : List Script) (p : Program) (r : Run) → p ≡ code_of scripts → values_printed p script_scope (steps_in j p script_scope r) ≡ prints_next scripts (nexts scripts j r)
+prints_there : (j : ℕ) (scripts : List Script) (p : Program) (r : Run)
+    → p ≡ code_of scripts
+    → values_printed p script_scope (steps_in j p script_scope r) ≡ prints_next scripts (nexts scripts j r)
 unfolding prints_next
 prints_there j scripts p r code =
     ap (λ q. values_printed q script_scope (steps_in j q script_scope r)) code
     ∙ ap (values_printed (code_of scripts) script_scope) (nexts_are j scripts r)
 
-last_there : (k : ℕ) (scripts : List Script) (p : Program) (r : Run) → 0 < k → p ≡ code_of scripts → last_printed k p script_scope r ≡ prints_last scripts k r
+last_there : (k : ℕ) (scripts : List Script) (p : Program) (r : Run)
+    → 0 < k
+    → p ≡ code_of scripts
+    → last_printed k p script_scope r ≡ prints_last scripts k r
 last_there zero scripts p r some code = absurd (omega arith)
 last_there (suc j) scripts p r some code =
     let e : j ≡ suc j - 1 = omega arith in
     prints_there j scripts p r code ∙ ap (λ i. prints_next scripts (nexts scripts i r)) e
 
-some_steps : (most k : ℕ) (n : Machine) (h i : Heap) (m : Machine) (why : Why) (taken : List (List ℕ)) → 0 < most → CountsAs why k most → n.ended ≡ end_of_run why → IsKept n.ended
-    → machine_run n i taken ≡ steps_in k (program_of m) script_scope (machine_run m h taken) → is_over (machine_run m h taken) ≡ false → 0 < k
+some_steps : (most k : ℕ) (n : Machine) (h i : Heap) (m : Machine) (why : Why) (taken : List (List ℕ))
+    → 0 < most
+    → CountsAs why k most
+    → n.ended ≡ end_of_run why
+    → IsKept n.ended
+    → machine_run n i taken ≡ steps_in k (program_of m) script_scope (machine_run m h taken)
+    → is_over (machine_run m h taken) ≡ false
+    → 0 < k
 some_steps most zero n h i m why taken some counted end kept same goes =
     let ends : is_over (machine_run n i taken) ≡ true = ended-over n.ended (term_of n) (state_of n (heap_world n.names i) taken) kept (ap is_some end ∙ none_ended why most some counted) in
     let on : is_over (machine_run n i taken) ≡ false = ap is_over same ∙ goes in
@@ -269,8 +326,14 @@ some_steps most zero n h i m why taken some counted end kept same goes =
 some_steps most (suc k) n h i m why taken some counted end kept same goes = omega arith
 
 -- it is a stretch of steps
-pub has-advanced : (scripts : List Script) (seats : List (Seat Session)) (most : ℕ) (m : Machine) (h : Heap) (n : Machine) (i : Heap) (k : ℕ) (why : Why) → HasRun scripts seats most m h n i k why
-    → program_of m ≡ code_of scripts → 0 < most → IsKept n.ended → ((taken : List (List ℕ)) → is_over (machine_run m h taken) ≡ false) → (taken : List (List ℕ)) → Advances scripts seats most k (machine_run m h taken) (machine_run n i taken)
+pub has-advanced : (scripts : List Script) (seats : List (Seat Session)) (most : ℕ) (m : Machine) (h : Heap) (n : Machine) (i : Heap) (k : ℕ) (why : Why)
+    → HasRun scripts seats most m h n i k why
+    → program_of m ≡ code_of scripts
+    → 0 < most
+    → IsKept n.ended
+    → ((taken : List (List ℕ)) → is_over (machine_run m h taken) ≡ false)
+    → (taken : List (List ℕ))
+    → Advances scripts seats most k (machine_run m h taken) (machine_run n i taken)
 has-advanced scripts seats most m h n i k why ran code some kept goes taken =
     let r : Run = machine_run m h taken in
     let there : (j : ℕ) → steps_in j (program_of m) script_scope r ≡ nexts scripts j r = λ j. ap (λ p. steps_in j p script_scope r) code ∙ nexts_are j scripts r in
@@ -286,8 +349,13 @@ has-advanced scripts seats most m h n i k why ran code some kept goes taken =
     }
 
 -- the values that why it stopped tells are those of its last step
-pub has-printed : (scripts : List Script) (seats : List (Seat Session)) (most : ℕ) (m : Machine) (h : Heap) (n : Machine) (i : Heap) (k : ℕ) (why : Why) (values : Option (List Value)) → HasRun scripts seats most m h n i k why
-    → program_of m ≡ code_of scripts → 0 < most → IsKept n.ended → ((taken : List (List ℕ)) → is_over (machine_run m h taken) ≡ false) → ((o : Option (List Value)) → IsKept (end_of_run why) → PrintsAs why o → values ≡ o)
+pub has-printed : (scripts : List Script) (seats : List (Seat Session)) (most : ℕ) (m : Machine) (h : Heap) (n : Machine) (i : Heap) (k : ℕ) (why : Why) (values : Option (List Value))
+    → HasRun scripts seats most m h n i k why
+    → program_of m ≡ code_of scripts
+    → 0 < most
+    → IsKept n.ended
+    → ((taken : List (List ℕ)) → is_over (machine_run m h taken) ≡ false)
+    → ((o : Option (List Value)) → IsKept (end_of_run why) → PrintsAs why o → values ≡ o)
     → (taken : List (List ℕ)) → values ≡ prints_last scripts k (machine_run m h taken)
 has-printed scripts seats most m h n i k why values ran code some kept goes tells taken =
     let r : Run = machine_run m h taken in

@@ -36,7 +36,10 @@ choose : {A : Type 0} (b : Bool) (x y : A) → b ≡ false → (if b then x else
 choose true x y e = absurd cc
 choose false x y e = refl
 
-by_number : {A : Type 0} (none : A) (f : Option Script → A) (scripts : List Script) (s : Script) → ScriptsAreNumbered 1 scripts → Contains scripts s → numbered none f scripts s.number ≡ f (Some s)
+by_number : {A : Type 0} (none : A) (f : Option Script → A) (scripts : List Script) (s : Script)
+    → ScriptsAreNumbered 1 scripts
+    → Contains scripts s
+    → numbered none f scripts s.number ≡ f (Some s)
 by_number none f scripts s h k =
     let i : (slice_index_or scripts k.0 s).number ≡ 1 + k.0 = number-at 1 scripts k.0 s h k.1 in
     let j : s.number ≡ 1 + k.0 = ap (λ (x : Script). x.number) (sym k.2) ∙ i in
@@ -46,14 +49,23 @@ by_number none f scripts s h k =
 
 -- ---- places
 
-place-there : (scripts : List Script) (s : Script) (o : Option Mark) → ScriptsAreNumbered 1 scripts → Contains scripts s → place_at scripts (script_source s.number) o ≡ option_map (λ mark. place_in mark s) o
+place-there : (scripts : List Script) (s : Script) (o : Option Mark)
+    → ScriptsAreNumbered 1 scripts
+    → Contains scripts s
+    → place_at scripts (script_source s.number) o ≡ option_map (λ mark. place_in mark s) o
 place-there scripts s None h k = refl
 place-there scripts s (Some mark) h k = ap (option_map (place_in mark)) (by_number None (λ o. o) scripts s h k)
 
-spans-there : (scripts : List Script) (s : Script) → ScriptsAreNumbered 1 scripts → Contains scripts s → spans_in scripts (script_source s.number) ≡ s.spans
+spans-there : (scripts : List Script) (s : Script)
+    → ScriptsAreNumbered 1 scripts
+    → Contains scripts s
+    → spans_in scripts (script_source s.number) ≡ s.spans
 spans-there scripts s h k = by_number [] script_spans scripts s h k
 
-arrived : (scripts : List Script) (source : Source) (t : Term) (s : Script) → ScriptsAreNumbered 1 scripts → Contains scripts s → source ≡ script_source s.number
+arrived : (scripts : List Script) (source : Source) (t : Term) (s : Script)
+    → ScriptsAreNumbered 1 scripts
+    → Contains scripts s
+    → source ≡ script_source s.number
     → place_at scripts source (at (spans_in scripts source) t) ≡ option_map (λ mark. place_in mark s) (at s.spans t)
 arrived scripts source t s h k e =
     ap (λ x. place_at scripts x (at (spans_in scripts x) t)) e
@@ -61,19 +73,29 @@ arrived scripts source t s h k e =
     ∙ place-there scripts s (at s.spans t) h k
 
 -- a place that is made of a mark is the place of the mark
-mark_of : (s : Script) (o : Option Mark) (place : Place) → option_map (λ mark. place_in mark s) o ≡ Some place → (mark : Mark) × (o ≡ Some mark) × (place_in mark s ≡ place)
+mark_of : (s : Script) (o : Option Mark) (place : Place)
+    → option_map (λ mark. place_in mark s) o ≡ Some place
+    → (mark : Mark) × (o ≡ Some mark) × (place_in mark s ≡ place)
 mark_of s None place e = absurd cc
 mark_of s (Some mark) place e = (mark, refl, cc)
 
-located : (scripts : List Script) (t : Term) (s : State) (script : Script) → Arrives scripts t s → Contains scripts script → RunsIn script s
-    → (place : Place) → option_map (λ mark. place_in mark script) (at script.spans t) ≡ Some place → IsBreakLocation scripts place
+located : (scripts : List Script) (t : Term) (s : State) (script : Script)
+    → Arrives scripts t s
+    → Contains scripts script
+    → RunsIn script s
+    → (place : Place)
+    → option_map (λ mark. place_in mark script) (at script.spans t) ≡ Some place
+    → IsBreakLocation scripts place
 located scripts t s script arrives k runs place e =
     let m = mark_of script (at script.spans t) place e in
     (script, k, ap (λ (p : Place). p.script) m.2, subst (λ (p : Place). IsAt (break_locations script) p.pos) m.2 (arrives.at_a_location script m.0 k runs m.1))
 
 -- ---- runs
 
-run-located : (scripts : List Script) (r : Run) → ScriptsAreNumbered 1 scripts → RunArrives scripts r → ArrivesAtLocations scripts r
+run-located : (scripts : List Script) (r : Run)
+    → ScriptsAreNumbered 1 scripts
+    → RunArrives scripts r
+    → ArrivesAtLocations scripts r
 unfolding arrival_of
 run-located scripts (running t s) h arrives =
     let i = arrives.in_a_script in
@@ -87,6 +109,8 @@ run-located scripts (running t s) h arrives =
     }
 run-located scripts (over f s) h arrives = record { at_a_location = λ place e. absurd cc; at_its_mark = λ t u script e. absurd cc }
 
-pub plain-located : (k : ℕ) (scripts : List Script) (input : List (List ℕ)) → ScriptsAreNumbered 1 scripts → ArrivesAtLocations scripts (plain k scripts input)
+pub plain-located : (k : ℕ) (scripts : List Script) (input : List (List ℕ))
+    → ScriptsAreNumbered 1 scripts
+    → ArrivesAtLocations scripts (plain k scripts input)
 unfolding plain
 plain-located k scripts input h = run-located scripts _ h (plain-arrives k scripts input h)

@@ -13,7 +13,10 @@ use Rattle.cdp_host.specs.Watching.{IsPlace}
 
 -- ---- where it stands
 
-index-in : {X : Type 0} → (i : ℕ) (seats : List (Seat X)) (d : Seat X) → i < length seats → slice_index_or seats i d ≡ seat_in i seats
+index-in : {X : Type 0}
+    → (i : ℕ) (seats : List (Seat X)) (d : Seat X)
+    → i < length seats
+    → slice_index_or seats i d ≡ seat_in i seats
 index-in i [] d within = absurd (omega (arith, within))
 index-in zero (seat ∷ seats) d within = refl
 index-in (suc i) (seat ∷ seats) d within = index-in i seats d (omega (arith, within))
@@ -56,12 +59,17 @@ put-self zero seats = refl
 put-self (suc i) seats = put-in-self i seats
 
 -- nothing is put where this seat is there already
-pub put-same : {X : Type 0} → (s : ℕ) (seat : Seat X) (seats : List (Seat X)) → seat_of s seats ≡ seat → put s seat seats ≡ seats
+pub put-same : {X : Type 0}
+    → (s : ℕ) (seat : Seat X) (seats : List (Seat X))
+    → seat_of s seats ≡ seat
+    → put s seat seats ≡ seats
 put-same s seat seats is = ap (λ x. put s x seats) (sym is) ∙ put-self s seats
 
 -- ---- how many there are
 
-length-put-in : {X : Type 0} → (i : ℕ) (new : Seat X) (seats : List (Seat X)) → length (put_in i new seats) ≡ length seats
+length-put-in : {X : Type 0}
+    → (i : ℕ) (new : Seat X) (seats : List (Seat X))
+    → length (put_in i new seats) ≡ length seats
 length-put-in i new [] = refl
 length-put-in zero new (seat ∷ seats) = refl
 length-put-in (suc i) new (seat ∷ seats) = ap suc (length-put-in i new seats)
@@ -77,22 +85,38 @@ given-back (suc n) [] rest is = absurd (omega (arith, is))
 given-back zero (new ∷ news) rest is = absurd (omega (arith, is))
 given-back (suc n) (new ∷ news) rest is = ap (λ more. new ∷ more) (given-back n news rest (omega (arith, is)))
 
-pub put-back : {X : Type 0} → (n s : ℕ) (new : Seat X) (seats news rest : List (Seat X)) → n ≡ length seats → news ≡ put s new seats → take n (news ++ rest) ≡ put s new seats
+pub put-back : {X : Type 0}
+    → (n s : ℕ) (new : Seat X) (seats news rest : List (Seat X))
+    → n ≡ length seats
+    → news ≡ put s new seats
+    → take n (news ++ rest) ≡ put s new seats
 put-back n s new seats news rest full is = given-back n news rest (full ∙ sym (length-put s new seats) ∙ sym (ap length is)) ∙ is
 
 -- ---- what fits
 
-fit-put-in : {C T Q X : Type 0} → (P : Protocol C T Q X) (i : ℕ) (new : Seat X) (seats : List (Seat X)) → Fits P new → AllFit P seats → AllFit P (put_in i new seats)
+fit-put-in : {C T Q X : Type 0}
+    → (P : Protocol C T Q X) (i : ℕ) (new : Seat X) (seats : List (Seat X))
+    → Fits P new
+    → AllFit P seats
+    → AllFit P (put_in i new seats)
 fit-put-in P i new [] fit all = tt
 fit-put-in P zero new (seat ∷ seats) fit all = (fit, all.1)
 fit-put-in P (suc i) new (seat ∷ seats) fit all = (all.0, fit-put-in P i new seats fit all.1)
 
 -- the texts that wait for each session fit, where those of the new one do
-pub fit-put : {C T Q X : Type 0} → (P : Protocol C T Q X) (s : ℕ) (new : Seat X) (seats : List (Seat X)) → Fits P new → AllFit P seats → AllFit P (put s new seats)
+pub fit-put : {C T Q X : Type 0}
+    → (P : Protocol C T Q X) (s : ℕ) (new : Seat X) (seats : List (Seat X))
+    → Fits P new
+    → AllFit P seats
+    → AllFit P (put s new seats)
 fit-put P zero new seats fit all = all
 fit-put P (suc i) new seats fit all = fit-put-in P i new seats fit all
 
-pub fit-more : {C T Q X : Type 0} → (P : Protocol C T Q X) (new : Seat X) (seats : List (Seat X)) → Fits P new → AllFit P seats → AllFit P (seats ++ new ∷ [])
+pub fit-more : {C T Q X : Type 0}
+    → (P : Protocol C T Q X) (new : Seat X) (seats : List (Seat X))
+    → Fits P new
+    → AllFit P seats
+    → AllFit P (seats ++ new ∷ [])
 fit-more P new [] fit all = (fit, tt)
 fit-more P new (seat ∷ seats) fit all = (all.0, fit-more P new seats fit all.1)
 
@@ -102,7 +126,11 @@ fell-more-by : (b c : Bool) → b ≡ false → c ≡ false → (b || c) ≡ fal
 fell-more-by b c first rest = rw first rest
 
 -- with one more that didn't fall
-pub fell-more : {X : Type 0} → (new : Seat X) (seats : List (Seat X)) → fell new ≡ false → some fell seats ≡ false → some fell (seats ++ new ∷ []) ≡ false
+pub fell-more : {X : Type 0}
+    → (new : Seat X) (seats : List (Seat X))
+    → fell new ≡ false
+    → some fell seats ≡ false
+    → some fell (seats ++ new ∷ []) ≡ false
 fell-more new [] stands none = rw stands refl
 fell-more new (seat ∷ seats) stands none =
     let parts = or_parts (fell seat) (some fell seats) none in

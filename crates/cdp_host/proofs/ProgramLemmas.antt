@@ -15,7 +15,8 @@ pub plain-start : (scripts : List Script) (input : List (List ℕ)) → start sc
 unfolding start plain
 plain-start scripts input = refl
 
-pub plain-next : (k : ℕ) (scripts : List Script) (input : List (List ℕ)) → next scripts (plain k scripts input) ≡ plain (suc k) scripts input
+pub plain-next : (k : ℕ) (scripts : List Script) (input : List (List ℕ))
+    → next scripts (plain k scripts input) ≡ plain (suc k) scripts input
 unfolding next plain code_of
 plain-next k scripts input = sym (steps-suc k (runs.program_of (terms_of_scripts scripts)) script_scope (runs.start (terms_of_scripts scripts) input))
 
@@ -28,7 +29,10 @@ start-prints scripts input = ap (λ s. s.printed) (run_of-state _ _)
 pub prefix-same : (part : List (List ℕ)) → IsPrefix part part
 prefix-same part = ([], sym (append-nil part))
 
-pub prefix-trans : (first second third : List (List ℕ)) → IsPrefix first second → IsPrefix second third → IsPrefix first third
+pub prefix-trans : (first second third : List (List ℕ))
+    → IsPrefix first second
+    → IsPrefix second third
+    → IsPrefix first third
 prefix-trans first second third h i = (h.0 ++ i.0, i.1 ∙ ap (λ xs. xs ++ i.0) h.1 ∙ append_assoc first h.0 i.0)
 
 pub next-prints : (scripts : List Script) (r : Run) → IsPrefix (printed_of r) (printed_of (next scripts r))
@@ -36,7 +40,8 @@ unfolding next
 next-prints scripts r = (step-follows (code_of scripts) script_scope r).output
 
 -- what the plain run has printed stays in front of what it prints
-pub plain-grows : (j made : ℕ) (scripts : List Script) (input : List (List ℕ)) → IsPrefix (printed_of (plain made scripts input)) (printed_of (plain (made + j) scripts input))
+pub plain-grows : (j made : ℕ) (scripts : List Script) (input : List (List ℕ))
+    → IsPrefix (printed_of (plain made scripts input)) (printed_of (plain (made + j) scripts input))
 plain-grows zero made scripts input =
     let P : ℕ → Type 0 = λ k. IsPrefix (printed_of (plain made scripts input)) (printed_of (plain k scripts input)) in
     let e : made ≡ made + 0 = omega arith in
@@ -55,7 +60,9 @@ next-over scripts (running t s) is = absurd cc
 next-over scripts (over f s) is = refl
 
 -- a plain run that is over stays as it is
-pub plain-over : (j made : ℕ) (scripts : List Script) (input : List (List ℕ)) → is_over (plain made scripts input) ≡ true → plain (made + j) scripts input ≡ plain made scripts input
+pub plain-over : (j made : ℕ) (scripts : List Script) (input : List (List ℕ))
+    → is_over (plain made scripts input) ≡ true
+    → plain (made + j) scripts input ≡ plain made scripts input
 plain-over zero made scripts input is = let e : made + 0 ≡ made = omega arith in ap (λ k. plain k scripts input) e
 plain-over (suc j) made scripts input is =
     let e : made + suc j ≡ suc (made + j) = omega arith in

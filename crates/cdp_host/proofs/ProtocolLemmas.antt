@@ -60,6 +60,7 @@ enabled-kept scripts = λ x. refl
 
 -- ---- the plain run
 
-pub plain-same : (k : ℕ) (scripts : List Script) (input : List (List ℕ)) → stops_.plain (protocol scripts) k (start scripts input) ≡ plain k scripts input
+pub plain-same : (k : ℕ) (scripts : List Script) (input : List (List ℕ))
+    → stops_.plain (protocol scripts) k (start scripts input) ≡ plain k scripts input
 plain-same zero scripts input = plain-start scripts input
 plain-same (suc k) scripts input = ap (λ r. (protocol scripts).next r) (plain-same k scripts input) ∙ plain-next k scripts input

@@ -26,14 +26,18 @@ use Rattle.cdp_host.proofs.RunLemmas.{all-there}
 
 -- ---- one seat among others
 
-some_put_in : {X : Type 0} → (test : Seat X → Bool) (i : ℕ) (new : Seat X) (seats : List (Seat X)) → test new ≡ test (seat_in i seats)
+some_put_in : {X : Type 0}
+    → (test : Seat X → Bool) (i : ℕ) (new : Seat X) (seats : List (Seat X))
+    → test new ≡ test (seat_in i seats)
     → some test (put_in i new seats) ≡ some test seats
 some_put_in test i new [] same = refl
 some_put_in test zero new (seat ∷ seats) same = ap (λ b. b || some test seats) same
 some_put_in test (suc i) new (seat ∷ seats) same = ap (λ b. test seat || b) (some_put_in test i new seats same)
 
 -- a seat that is as the old one leaves some so, or none
-some-put : {X : Type 0} → (test : Seat X → Bool) (s : ℕ) (new : Seat X) (seats : List (Seat X)) → test new ≡ test (seat_of s seats)
+some-put : {X : Type 0}
+    → (test : Seat X → Bool) (s : ℕ) (new : Seat X) (seats : List (Seat X))
+    → test new ≡ test (seat_of s seats)
     → some test (put s new seats) ≡ some test seats
 some-put test zero new seats same = refl
 some-put test (suc i) new seats same = some_put_in test i new seats same
@@ -41,7 +45,10 @@ some-put test (suc i) new seats same = some_put_in test i new seats same
 -- ---- a host that stands for a history
 
 -- where it is paused, some session has the debugger enabled
-stands-enabled : (scripts : List Script) (host m : Meaning Run) → StandsAs host m → IsPausedWell (protocol scripts) m → is_paused host ≡ true
+stands-enabled : (scripts : List Script) (host m : Meaning Run)
+    → StandsAs host m
+    → IsPausedWell (protocol scripts) m
+    → is_paused host ≡ true
     → some (is_enabled_seat (protocol scripts)) host.seats ≡ true
 stands-enabled scripts host m stood well paused =
     let same : host ≡ m = all-there host m stood.is (stood.all_there paused) in

@@ -43,7 +43,9 @@ pub advanced : (a old : HostState) (scripts : List Script) (moment k : ℕ) (fir
     → (stopped : Option ℕ) (stop : Option Pause) (stops : ℕ) (q : Run)
     → a ≡ old → is_ready (protocol old.scripts) (meaning_with old before) ≡ true
     → scripts ≡ a.scripts → first ≡ is_first a.meaning.phase → seats ≡ a.meaning.seats
-    → stop ≡ option_map (pause_behind a.meaning.stops) stopped → stops ≡ (if is_some stopped then next_number a.meaning.stops else a.meaning.stops) → items ≡ news
+    → stop ≡ option_map (pause_behind a.meaning.stops) stopped
+    → stops ≡ (if is_some stopped then next_number a.meaning.stops else a.meaning.stops)
+    → items ≡ news
     → HasMade (protocol scripts) moment (beside first a.meaning.stops seats (run_with before a.meaning.program)) (beside_behind stopped a.meaning.stops news q) k
     → (let n : Meaning Run = record { program = q; phase = Running; stop = stop; stops = stops; shut = a.meaning.shut; seats = items } in
     HasMade (protocol old.scripts) moment (meaning_with old before) n k)
@@ -71,7 +73,8 @@ advanced a old scripts moment k first seats news items before stopped stop stops
 -- ---- stretches behind one another
 
 -- before the first stretch
-pub ran-none : (scripts : List Script) (moment : ℕ) (h : HostState) (most : ℕ) (printed taken : List (List ℕ)) → printed ≡ []
+pub ran-none : (scripts : List Script) (moment : ℕ) (h : HostState) (most : ℕ) (printed taken : List (List ℕ))
+    → printed ≡ []
     → HasMade (protocol scripts) moment (meaning_with h taken) (meaning_with h (taken ++ printed)) (most - most)
 ran-none scripts moment h most printed taken none =
     let m : Meaning Run = meaning_with h taken in
@@ -82,8 +85,14 @@ ran-none scripts moment h most printed taken none =
     subst Q (sym same) (subst P e (made-none (protocol scripts) moment m))
 
 -- a stretch more
-pub ran-more : (scripts s : List Script) (moment : ℕ) (m n o : Meaning Run) (most left k : ℕ) → s ≡ scripts → left ≤ most → 0 < k → k ≤ left
-    → HasMade (protocol scripts) moment m n (most - left) → is_ready (protocol s) n ≡ true → HasMade (protocol s) moment n o k
+pub ran-more : (scripts s : List Script) (moment : ℕ) (m n o : Meaning Run) (most left k : ℕ)
+    → s ≡ scripts
+    → left ≤ most
+    → 0 < k
+    → k ≤ left
+    → HasMade (protocol scripts) moment m n (most - left)
+    → is_ready (protocol s) n ≡ true
+    → HasMade (protocol s) moment n o k
     → HasMade (protocol scripts) moment m o (most - (left - k))
 ran-more scripts s moment m n o most left k same within few small made go next =
     let P : List Script → Type 0 = λ t. HasMade (protocol t) moment n o k in
@@ -93,7 +102,10 @@ ran-more scripts s moment m n o most left k same within few small made go next =
     (made-more (protocol scripts) moment (most - left) k m n o made (sym (ap (λ t. is_ready (protocol t) n) same) ∙ go) (subst P same next) few)
 
 -- why the loop ends
-ends_by : (left : ℕ) (b ready : Bool) → b ≡ false → (nat_lt 0 left && (not b && ready)) ≡ false → (left ≡ 0) ⊎ (ready ≡ false)
+ends_by : (left : ℕ) (b ready : Bool)
+    → b ≡ false
+    → (nat_lt 0 left && (not b && ready)) ≡ false
+    → (left ≡ 0) ⊎ (ready ≡ false)
 ends_by zero b ready works stops = inl refl
 ends_by (suc left) b true works stops =
     let above : nat_lt 0 (suc left) ≡ true = lt-ltb 0 (suc left) (omega arith) in
@@ -101,7 +113,9 @@ ends_by (suc left) b true works stops =
     absurd cc
 ends_by (suc left) b false works stops = inr refl
 
-full_by : (scripts : List Script) (most left : ℕ) (n : Meaning Run) → left ≤ most → (left ≡ 0) ⊎ (is_ready (protocol scripts) n ≡ false)
+full_by : (scripts : List Script) (most left : ℕ) (n : Meaning Run)
+    → left ≤ most
+    → (left ≡ 0) ⊎ (is_ready (protocol scripts) n ≡ false)
     → ((most - left) ≡ most) ⊎ (is_ready (protocol scripts) n ≡ false)
 full_by scripts most left n within (inl is) = inl (omega arith)
 full_by scripts most left n within (inr stays) = inr stays
@@ -109,7 +123,9 @@ full_by scripts most left n within (inr stays) = inr stays
 -- what the loop has made is the longest run
 pub ran-longest : (scripts s : List Script) (moment : ℕ) (m n : Meaning Run) (most left : ℕ) (b t : Bool) → s ≡ scripts
     → HasMade (protocol scripts) moment m n (most - left) → left ≤ most → b ≡ false
-    → t ≡ (nat_lt 0 left && (not b && is_ready (protocol s) n)) → t ≡ false → IsLongest (protocol scripts) moment most m n (most - left)
+    → t ≡ (nat_lt 0 left && (not b && is_ready (protocol s) n))
+    → t ≡ false
+    → IsLongest (protocol scripts) moment most m n (most - left)
 ran-longest scripts s moment m n most left b t same made within works test stops =
     let ready : Bool = is_ready (protocol scripts) n in
     let here : t ≡ (nat_lt 0 left && (not b && ready)) = test ∙ ap (λ ss. nat_lt 0 left && (not b && is_ready (protocol ss) n)) same in
@@ -122,7 +138,9 @@ ran-longest scripts s moment m n most left b t same made within works test stops
 -- ---- what steps print
 
 -- where all texts were handed out before and behind them
-pub ran-prints : (p q : Parts) (printed : List (List ℕ)) → p.machine.context.printed ≡ [] → q.machine.context.printed ≡ []
+pub ran-prints : (p q : Parts) (printed : List (List ℕ))
+    → p.machine.context.printed ≡ []
+    → q.machine.context.printed ≡ []
     → (taken : List (List ℕ)) → printed ≡ printed_between (run_with taken p) (run_with (taken ++ printed) q)
 ran-prints p q printed before after taken =
     let first : printed_of (run_with taken p) ≡ taken = run-printed p taken ∙ ap (λ xs. taken ++ xs) before ∙ append-nil taken in
@@ -140,7 +158,10 @@ gone-fits P (Lost loss is_reported is_told) gone = tt
 gone-fits P Left gone = tt
 
 -- where none is attached, no texts wait
-pub gone-fit : {C T Q X : Type 0} → (P : Protocol C T Q X) (seats : List (Seat X)) → some is_attached seats ≡ false → AllFit P seats
+pub gone-fit : {C T Q X : Type 0}
+    → (P : Protocol C T Q X) (seats : List (Seat X))
+    → some is_attached seats ≡ false
+    → AllFit P seats
 gone-fit P [] none = tt
 gone-fit P (seat ∷ seats) none =
     let parts = or_parts (is_attached seat) (some is_attached seats) none in
@@ -152,7 +173,10 @@ reported-fits P (Lost loss is_reported is_told) fit = tt
 reported-fits P Left fit = tt
 
 -- a report sends nothing
-pub reported-fit : {C T Q X : Type 0} → (P : Protocol C T Q X) (seats : List (Seat X)) → AllFit P seats → AllFit P (each reported seats)
+pub reported-fit : {C T Q X : Type 0}
+    → (P : Protocol C T Q X) (seats : List (Seat X))
+    → AllFit P seats
+    → AllFit P (each reported seats)
 reported-fit P [] fit = tt
 reported-fit P (seat ∷ seats) fit = (reported-fits P seat fit.0, reported-fit P seats fit.1)
 
@@ -182,13 +206,17 @@ none-settle-by : (scripts : List Script) (m : Meaning Run) (b : Bool) → some f
 none-settle-by scripts m true none = none
 none-settle-by scripts m false none = none-resume-by scripts m (is_paused m) none
 
-none-settle : (scripts : List Script) (m : Meaning Run) → some fell m.seats ≡ false → some fell (settle (protocol scripts) m).seats ≡ false
+none-settle : (scripts : List Script) (m : Meaning Run)
+    → some fell m.seats ≡ false
+    → some fell (settle (protocol scripts) m).seats ≡ false
 none-settle scripts m none = none-settle-by scripts m (some (is_enabled_seat (protocol scripts)) m.seats) none
 
 -- ---- a run, and the host behind it
 
 -- a host whose seats were reported, and then settled
-pub settled-as : (a h n : HostState) (scripts : List Script) (news : List (Seat Session)) (t : List (List ℕ)) → a ≡ h → h.scripts ≡ scripts
+pub settled-as : (a h n : HostState) (scripts : List Script) (news : List (Seat Session)) (t : List (List ℕ))
+    → a ≡ h
+    → h.scripts ≡ scripts
     → news ≡ each reported a.meaning.seats
     → meaning_with n t ≡ less n.meaning.seats (settle (protocol a.scripts) (with_seats news (meaning_with a t)))
     → meaning_with n t ≡ less n.meaning.seats (settle (protocol scripts) (with_seats (each reported h.meaning.seats) (meaning_with h t)))
@@ -226,9 +254,13 @@ runs-stand scripts moment most steps host m n printed lost stands r =
 -- and so for the history with the run behind it
 pub stands-run : (scripts : List Script) (input : List (List ℕ)) (wait : Bool) (old new : HostState) (history : List Entry)
     → (moment most steps : ℕ) (printed : List (List ℕ)) (lost : List SessionLost)
-    → new.scripts ≡ old.scripts → old.broken ≡ false → new.broken ≡ false → new.meaning.program.machine.context.printed ≡ []
+    → new.scripts ≡ old.scripts
+    → old.broken ≡ false
+    → new.broken ≡ false
+    → new.meaning.program.machine.context.printed ≡ []
     → ((taken : List (List ℕ)) → RunsTo old.scripts moment most (meaning_with old taken) steps printed lost (meaning_with new (taken ++ printed)))
-    → Stands scripts input wait old history → Stands scripts input wait new (history ++ Ran steps moment (lost_for_memory lost) ∷ [])
+    → Stands scripts input wait old history
+    → Stands scripts input wait new (history ++ Ran steps moment (lost_for_memory lost) ∷ [])
 stands-run scripts input wait old new history moment most steps printed lost same works still handed runs stood =
     let m : Meaning Run = whole scripts input wait history in
     let taken : List (List ℕ) = printed_of m.program in
@@ -249,12 +281,15 @@ stands-run scripts input wait old new history moment most steps printed lost sam
     (fits-ran (protocol scripts) moment steps host m r.middle before r.longest.made)
     (subst Q (sym out) behind)
 
-no_steps : (scripts : List Script) (m : Meaning Run) (moment : ℕ) (gone : List ℕ) → FitsEntry (protocol scripts) m (Ran zero moment gone)
+no_steps : (scripts : List Script) (m : Meaning Run) (moment : ℕ) (gone : List ℕ)
+    → FitsEntry (protocol scripts) m (Ran zero moment gone)
 no_steps scripts m moment gone = λ j small. absurd (omega (arith, small))
 
 -- a broken host makes no step
 pub stands-none : (scripts : List Script) (input : List (List ℕ)) (wait : Bool) (host : HostState) (history : List Entry) (moment : ℕ) (gone : List ℕ)
-    → host.broken ≡ true → Stands scripts input wait host history → Stands scripts input wait host (history ++ Ran zero moment gone ∷ [])
+    → host.broken ≡ true
+    → Stands scripts input wait host history
+    → Stands scripts input wait host (history ++ Ran zero moment gone ∷ [])
 stands-none scripts input wait host history moment gone fails stood =
     let m : Meaning Run = whole scripts input wait history in
     stands-broken scripts input wait host host history (Ran zero moment gone) stood refl fails (no_steps scripts m moment gone)
@@ -264,7 +299,8 @@ stands-none scripts input wait host history moment gone fails stood =
 pub stands-fails : (scripts : List Script) (input : List (List ℕ)) (wait : Bool) (old new : HostState) (history : List Entry) (moment : ℕ)
     → new.scripts ≡ old.scripts → old.broken ≡ false → new.broken ≡ true
     → new.meaning.seats ≡ each broken_seat old.meaning.seats
-    → Stands scripts input wait old history → Stands scripts input wait new (history ++ Ran zero moment (everybody old) ∷ [])
+    → Stands scripts input wait old history
+    → Stands scripts input wait new (history ++ Ran zero moment (everybody old) ∷ [])
 stands-fails scripts input wait old new history moment same works fails seats stood =
     let m : Meaning Run = whole scripts input wait history in
     let host : Meaning Run = meaning_with old (printed_of m.program) in
@@ -286,14 +322,20 @@ at-none (Ok value) P holds = holds
 at-none (Err error) P holds = tt
 
 -- a run that may make a step makes one
-pub some-longest : {C T Q X : Type 0} → (P : Protocol C T Q X) (moment most : ℕ) (m : meanings.Meaning C Q X) → 0 < most → is_ready P m ≡ true
+pub some-longest : {C T Q X : Type 0}
+    → (P : Protocol C T Q X) (moment most : ℕ) (m : meanings.Meaning C Q X)
+    → 0 < most
+    → is_ready P m ≡ true
     → 0 < longest P moment most m
 some-longest P moment zero m some_left go = absurd (omega (arith, some_left))
 some-longest P moment (suc most) m some_left go = rw go (omega arith)
 
 -- the longest run where no step may be made
-pub ran-nothing : (scripts : List Script) (moment : ℕ) (h : HostState) (most : ℕ) (printed taken : List (List ℕ)) (t : Bool) → printed ≡ [] → h.broken ≡ false
-    → t ≡ (nat_lt 0 most && (not h.broken && is_ready (protocol scripts) (meaning_with h (taken ++ printed)))) → t ≡ false
+pub ran-nothing : (scripts : List Script) (moment : ℕ) (h : HostState) (most : ℕ) (printed taken : List (List ℕ)) (t : Bool)
+    → printed ≡ []
+    → h.broken ≡ false
+    → t ≡ (nat_lt 0 most && (not h.broken && is_ready (protocol scripts) (meaning_with h (taken ++ printed))))
+    → t ≡ false
     → IsLongest (protocol scripts) moment most (meaning_with h taken) (meaning_with h (taken ++ printed)) 0
 ran-nothing scripts moment h most printed taken t none works test stops =
     let m : Meaning Run = meaning_with h taken in
@@ -303,7 +345,9 @@ ran-nothing scripts moment h most printed taken t none works test stops =
     subst P e (ran-longest scripts scripts moment m n most most h.broken t refl (ran-none scripts moment h most printed taken none) (omega arith) works test stops)
 
 -- the list of the losses is made behind a step, or where a loss waited before
-pub listed-by : (old mid : HostState) (A : Type 0) (P : A → Type 0) → (mid ≡ old) ⊎ ((a : A) → P a) → some waits_for_report mid.meaning.seats ≡ true
+pub listed-by : (old mid : HostState) (A : Type 0) (P : A → Type 0)
+    → (mid ≡ old) ⊎ ((a : A) → P a)
+    → some waits_for_report mid.meaning.seats ≡ true
     → (a : A) → P a ⊎ (some waits_for_report old.meaning.seats ≡ true)
 listed-by old mid A P (inl same) waits a = inr (sym (ap (λ h. some waits_for_report h.meaning.seats) same) ∙ waits)
 listed-by old mid A P (inr more) waits a = inl (more a)

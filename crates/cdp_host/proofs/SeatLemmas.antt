@@ -34,7 +34,8 @@ on-here R (suc i) [] news d goes = absurd goes
 on-here R (suc i) (old ∷ olds) [] d goes = absurd goes
 on-here R (suc i) (old ∷ olds) (new ∷ news) d goes = on-here R i olds news d goes.1
 
-pub along-here : {X : Type 0} → (R : Seat X → Seat X → Bool → Type 0) (i : ℕ) (olds news : List (Seat X)) (flags : List Bool) (d : Seat X)
+pub along-here : {X : Type 0}
+    → (R : Seat X → Seat X → Bool → Type 0) (i : ℕ) (olds news : List (Seat X)) (flags : List Bool) (d : Seat X)
     → GoesAlong R i olds news flags → slice_index_or news i d ≡ slice_index_or olds i d
 along-here R zero olds news flags d goes = ap (λ seats. slice_index_or seats 0 d) goes
 along-here R (suc i) [] news flags d goes = absurd goes
@@ -71,7 +72,8 @@ each-reported (old ∷ olds) (new ∷ news) over = ap (λ seat. seat ∷ news) o
 
 -- ---- losses that wait
 
-losses-cons : (s : ℕ) (seat : Seat Session) (seats : List (Seat Session)) → losses_from s (seat ∷ seats) ≡ losses_from s (seat ∷ []) ++ losses_from (s + 1) seats
+losses-cons : (s : ℕ) (seat : Seat Session) (seats : List (Seat Session))
+    → losses_from s (seat ∷ seats) ≡ losses_from s (seat ∷ []) ++ losses_from (s + 1) seats
 losses-cons s (Attached x) seats = refl
 losses-cons s (Lost loss true is_told) seats = refl
 losses-cons s (Lost loss false is_told) seats = refl
@@ -109,7 +111,9 @@ losses-more i seats d items news loss small before one is =
     ∙ ap (λ n. losses_from 1 (take n seats)) e
 
 -- all of them
-losses-all : (s i : ℕ) (seats : List (Seat Session)) → length seats ≤ i → losses_from s (take i seats) ≡ losses_from s seats
+losses-all : (s i : ℕ) (seats : List (Seat Session))
+    → length seats ≤ i
+    → losses_from s (take i seats) ≡ losses_from s seats
 losses-all s zero [] done = refl
 losses-all s (suc i) [] done = refl
 losses-all s zero (seat ∷ seats) done = absurd (omega (arith, done))
@@ -125,7 +129,8 @@ losses-done i seats items done is = is ∙ losses-all 1 i seats done
 -- ---- room
 
 -- behind a pass in which each watches a step the texts of each fit
-pub watched-fit : {C T Q X : Type 0} → (P : Protocol C T Q X) (number moment : ℕ) (t : T) (olds news : List (Seat X)) (flags : List Bool)
+pub watched-fit : {C T Q X : Type 0}
+    → (P : Protocol C T Q X) (number moment : ℕ) (t : T) (olds news : List (Seat X)) (flags : List Bool)
     → Over (Watches P number moment t) olds news flags → AllFit P news
 watched-fit P number moment t [] [] [] over = tt
 watched-fit P number moment t [] [] (flag ∷ flags) over = absurd over
@@ -135,7 +140,9 @@ watched-fit P number moment t (old ∷ olds) (new ∷ news) [] over = absurd ove
 watched-fit P number moment t (old ∷ olds) (new ∷ news) (flag ∷ flags) over = (over.0.room, watched-fit P number moment t olds news flags over.1)
 
 -- a loss that is listed waits for a run
-pub listed-waits : (s : ℕ) (seat : Seat Session) (loss : Option SessionLost) → losses_from s (seat ∷ []) ≡ option_to_list loss → is_some loss ≡ true
+pub listed-waits : (s : ℕ) (seat : Seat Session) (loss : Option SessionLost)
+    → losses_from s (seat ∷ []) ≡ option_to_list loss
+    → is_some loss ≡ true
     → waits_for_report seat ≡ true
 listed-waits s seat None are listed = absurd cc
 listed-waits s (Attached x) (Some loss) are listed = absurd cc

@@ -22,17 +22,23 @@ use Rattle.cdp_host.proofs.ProgramLemmas.{start-prints}
 use Rattle.cdp_host.proofs.PartLemmas.{run-printed}
 
 -- it means the beginning
-pub start-means : (scripts : List Script) (input : List (List ℕ)) (wait : Bool) (s : Started) → IsStarted (terms_of_scripts scripts) input s
+pub start-means : (scripts : List Script) (input : List (List ℕ)) (wait : Bool) (s : Started)
+    → IsStarted (terms_of_scripts scripts) input s
     → (let m : Meaning Run = record { program = machine_run s.machine s.heap []; phase = phase_of wait; stop = None; stops = 0; shut = false; seats = [] } in m ≡ begin scripts input wait)
 unfolding start
 start-means scripts input wait s is = let f : Run → Meaning Run = λ r. record { program = r; phase = phase_of wait; stop = None; stops = 0; shut = false; seats = [] } in ap f is.run
 
-started_prints : (scripts : List Script) (input : List (List ℕ)) (s : Started) → IsStarted (terms_of_scripts scripts) input s → s.machine.context.printed ≡ []
+started_prints : (scripts : List Script) (input : List (List ℕ)) (s : Started)
+    → IsStarted (terms_of_scripts scripts) input s
+    → s.machine.context.printed ≡ []
 started_prints scripts input s is =
     let p : Parts = record { machine = s.machine; heap = s.heap } in
     sym (run-printed p []) ∙ ap (λ m. printed_of m.program) (start-means scripts input false s is) ∙ start-prints scripts input
 
-pub start-sound : (scripts : List Script) (input lines : List (List ℕ)) (spots : List (List Spot)) (s : Started) → IsStarted (terms_of_scripts scripts) input s → AreLines scripts lines → spots ≡ map break_locations scripts
+pub start-sound : (scripts : List Script) (input lines : List (List ℕ)) (spots : List (List Spot)) (s : Started)
+    → IsStarted (terms_of_scripts scripts) input s
+    → AreLines scripts lines
+    → spots ≡ map break_locations scripts
     → (held : Fallback) → HasRoom 0 held → fallback_held held ≡ fallback_of []
     → IsSound scripts lines spots s.machine false [] 0 held []
 unfolding code_of
@@ -52,6 +58,10 @@ start-sound scripts input lines spots s is located found held room made =
     }
 
 -- what the evaluations of a session begin with
-pub code-begun : (scripts : List Script) (terms placed : Terms) (w : Workspace) → terms ≡ terms_of_scripts scripts → placed ≡ placed_scripts terms → w ≡ begun (program_from 1 placed) → w ≡ begun (code_of scripts)
+pub code-begun : (scripts : List Script) (terms placed : Terms) (w : Workspace)
+    → terms ≡ terms_of_scripts scripts
+    → placed ≡ placed_scripts terms
+    → w ≡ begun (program_from 1 placed)
+    → w ≡ begun (code_of scripts)
 unfolding code_of
 code-begun scripts terms placed w made put is = is ∙ ap (λ ts. begun (program_from 1 ts)) (put ∙ ap placed_scripts made)

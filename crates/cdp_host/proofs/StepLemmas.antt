@@ -33,19 +33,23 @@ use Rattle.cdp_host.proofs.WatchLemmas.{names-same, told-asks}
 
 -- ---- one step alone
 
-chosen : (debugger ends : Bool) → is_some (if debugger then Some causes.DebuggerStatement else if ends then Some causes.Step else None) ≡ (debugger || ends)
+chosen : (debugger ends : Bool)
+    → is_some (if debugger then Some causes.DebuggerStatement else if ends then Some causes.Step else None) ≡ (debugger || ends)
 chosen true ends = refl
 chosen false true = refl
 chosen false false = refl
 
-by_place : (x : Session) (kind : StepKind) (depth : ℕ) (s : Standing) (a : Arrival) (o : Option Place) → StepsAlone x kind depth
+by_place : (x : Session) (kind : StepKind) (depth : ℕ) (s : Standing) (a : Arrival) (o : Option Place)
+    → StepsAlone x kind depth
     → is_some (cause_at x.rules a (is_some_hit (hits s x.workspace x.breakpoints o)) o) ≡ (is_some o && (a.debugger || ends_at kind depth a.depth))
 by_place x kind depth s a None alone = refl
 by_place x kind depth s a (Some place) alone =
     rw (none-hit s x.workspace place x.breakpoints (alone.none_hit place), alone.rules.no_pause, alone.rules.step, alone.rules.no_place) (chosen a.debugger (ends_at kind depth a.depth))
 
 -- its rules name exactly the arrivals that end the step
-pub causes-step : (x : Session) (kind : StepKind) (depth : ℕ) (s : Standing) (a : Arrival) → StepsAlone x kind depth → is_some (cause_of s a x) ≡ ends_step kind depth a
+pub causes-step : (x : Session) (kind : StepKind) (depth : ℕ) (s : Standing) (a : Arrival)
+    → StepsAlone x kind depth
+    → is_some (cause_of s a x) ≡ ends_step kind depth a
 causes-step x kind depth s a alone = rw (alone.rules.enabled, alone.rules.heeded, alone.rules.no_throws) (by_place x kind depth s a a.place alone)
 
 either : (b : Bool) → (b || false) ≡ b
@@ -53,7 +57,10 @@ either true = refl
 either false = refl
 
 -- and so does the session, where the start rule has no say
-names-alone : (t : Step) (x : Session) (kind : StepKind) (depth : ℕ) → t.first ≡ false → StepsAlone x kind depth → names t x ≡ ends_step kind depth t.arrival
+names-alone : (t : Step) (x : Session) (kind : StepKind) (depth : ℕ)
+    → t.first ≡ false
+    → StepsAlone x kind depth
+    → names t x ≡ ends_step kind depth t.arrival
 names-alone t x kind depth first alone =
     ap (λ b. is_some (cause_of t.standing t.arrival x) || (b && (x.rules.enabled && not t.standing.over))) first
     ∙ either (is_some (cause_of t.standing t.arrival x))
@@ -65,7 +72,9 @@ names-alone t x kind depth first alone =
 pub unnamed-disabled : (t : Step) (y : Session) → y.rules.enabled ≡ false → names t y ≡ false
 unnamed-disabled t y off = rw off (and_right t.first false refl)
 
-unnamed_seat : (scripts : List Script) (t : Step) (seat : Seat Session) → ((y : Session) → seat ≡ Attached y → y.rules.enabled ≡ false) → names_seat (protocol scripts) t seat ≡ false
+unnamed_seat : (scripts : List Script) (t : Step) (seat : Seat Session)
+    → ((y : Session) → seat ≡ Attached y → y.rules.enabled ≡ false)
+    → names_seat (protocol scripts) t seat ≡ false
 unnamed_seat scripts t (Attached y) off = unnamed-disabled t y (off y refl)
 unnamed_seat scripts t (Lost loss is_reported is_told) off = refl
 unnamed_seat scripts t Left off = refl
@@ -81,7 +90,8 @@ steady : (scripts : List Script) → IsSteady (protocol scripts)
 steady scripts = λ moment t u x. names-same u ((protocol scripts).told moment t x) x (told-asks (seen_behind scripts t) moment t x)
 
 -- a program behind so many plain steps makes one that the session names where it ends the step
-named_there : (kind : StepKind) (depth : ℕ) (scripts : List Script) (input : List (List ℕ)) (made j : ℕ) (x : Session) → StepsAlone x kind depth
+named_there : (kind : StepKind) (depth : ℕ) (scripts : List Script) (input : List (List ℕ)) (made j : ℕ) (x : Session)
+    → StepsAlone x kind depth
     → names (step_of scripts false (stops_.plain (protocol scripts) (made + j) (start scripts input))) x
     ≡ ends_step kind depth (arrival_of scripts (plain (made + j + 1) scripts input))
 named_there kind depth scripts input made j x alone =
@@ -92,7 +102,11 @@ named_there kind depth scripts input made j x alone =
 
 -- it stops at the first step that ends the one that is asked for, or at none
 pub steps-stop : (kind : StepKind) (depth : ℕ) (scripts : List Script) (input : List (List ℕ)) (made moment : ℕ) (gone : List ℕ) (s : ℕ) (x : Session) (m : Meaning Run) (n : ℕ)
-    → m.program ≡ plain made scripts input → is_first m.phase ≡ false → seat_of s m.seats ≡ Attached x → StepsAlone x kind depth → NoOtherEnabled s m
+    → m.program ≡ plain made scripts input
+    → is_first m.phase ≡ false
+    → seat_of s m.seats ≡ Attached x
+    → StepsAlone x kind depth
+    → NoOtherEnabled s m
     → FitsEntry (protocol scripts) m (Ran n moment gone) → StopsAtFirst kind depth scripts input made moment gone s m n
 steps-stop kind depth scripts input made moment gone s x m n at begun is alone off ready =
     let found : StopsAtFirstNamed (protocol scripts) (start scripts input) made moment gone s x m n

@@ -60,24 +60,30 @@ told-asks s moment step x =
     asks-trans (told s moment step x) y x (end_asks s step.ending moment y) (print_asks s step.values moment x)
 
 -- so it names the same behind it
-pub told-names : (s : Situation) (moment : ℕ) (step : Step) (x : Session) → names step (told s moment step x) ≡ names step x
+pub told-names : (s : Situation) (moment : ℕ) (step : Step) (x : Session)
+    → names step (told s moment step x) ≡ names step x
 told-names s moment step x = names-same step (told s moment step x) x (told-asks s moment step x)
 
 -- ---- texts
 
-outbox_if : (b : Bool) (y x : Session) (texts : List (List ℕ)) → y.outbox ≡ x.outbox ++ texts → (if b then y else x).outbox ≡ x.outbox ++ (if b then texts else [])
+outbox_if : (b : Bool) (y x : Session) (texts : List (List ℕ))
+    → y.outbox ≡ x.outbox ++ texts
+    → (if b then y else x).outbox ≡ x.outbox ++ (if b then texts else [])
 outbox_if true y x texts same = same
 outbox_if false y x texts same = sym (append-nil x.outbox)
 
-pub print-outbox : (s : Situation) (o : Option (List Value)) (moment : ℕ) (x : Session) → (print_told s o moment x).outbox ≡ x.outbox ++ print_texts s o moment x
+pub print-outbox : (s : Situation) (o : Option (List Value)) (moment : ℕ) (x : Session)
+    → (print_told s o moment x).outbox ≡ x.outbox ++ print_texts s o moment x
 print-outbox s None moment x = sym (append-nil x.outbox)
 print-outbox s (Some vs) moment x = outbox_if x.runtime _ x _ refl
 
-ending_outbox : (s : Situation) (ending : Ending) (moment : ℕ) (x : Session) → (ending_told s ending moment x).outbox ≡ x.outbox ++ ending_texts s ending moment x
+ending_outbox : (s : Situation) (ending : Ending) (moment : ℕ) (x : Session)
+    → (ending_told s ending moment x).outbox ≡ x.outbox ++ ending_texts s ending moment x
 ending_outbox s endings.Finished moment x = sym (append-nil x.outbox)
 ending_outbox s (endings.Threw v place) moment x = refl
 
-end_outbox : (s : Situation) (o : Option Ending) (moment : ℕ) (x : Session) → (end_told s o moment x).outbox ≡ x.outbox ++ end_texts s o moment x
+end_outbox : (s : Situation) (o : Option Ending) (moment : ℕ) (x : Session)
+    → (end_told s o moment x).outbox ≡ x.outbox ++ end_texts s o moment x
 end_outbox s None moment x = sym (append-nil x.outbox)
 end_outbox s (Some ending) moment x =
     let last : List (List ℕ) = context_destroyed_text ∷ [] in
@@ -100,22 +106,34 @@ stopped-outbox s number moment step x false is = rw is (sym (append-nil (told s 
 -- ---- what doesn't fit
 
 -- where what is told of a print doesn't, nor does all that is told
-pub print-over : (s : Situation) (moment : ℕ) (step : Step) (x : Session) → fits (print_told s step.values moment x).outbox ≡ false → fits (told s moment step x).outbox ≡ false
+pub print-over : (s : Situation) (moment : ℕ) (step : Step) (x : Session)
+    → fits (print_told s step.values moment x).outbox ≡ false
+    → fits (told s moment step x).outbox ≡ false
 print-over s moment step x over = unfit-as _ _ _ (told-outbox s moment step x) over
 
 -- and where that doesn't, nor does it with a stop
-pub told-over : (s : Situation) (number moment : ℕ) (step : Step) (x : Session) → fits (told s moment step x).outbox ≡ false → fits (session_behind s number moment step x).outbox ≡ false
+pub told-over : (s : Situation) (number moment : ℕ) (step : Step) (x : Session)
+    → fits (told s moment step x).outbox ≡ false
+    → fits (session_behind s number moment step x).outbox ≡ false
 told-over s number moment step x over = unfit-as _ _ _ (stopped-outbox s number moment step x (names step x) refl) over
 
 -- ---- the code's tests
 
 -- a session that was told names what it named
-pub names-told : (s : Situation) (moment : ℕ) (step : Step) (x y : Session) (b c : Bool) → y ≡ told s moment step x → b ≡ names step y → b ≡ c → names step x ≡ c
+pub names-told : (s : Situation) (moment : ℕ) (step : Step) (x y : Session) (b c : Bool)
+    → y ≡ told s moment step x
+    → b ≡ names step y
+    → b ≡ c
+    → names step x ≡ c
 names-told s moment step x y b c is named test = sym (ap (names step) is ∙ told-names s moment step x) ∙ sym named ∙ test
 
 -- what a session is behind a step that it names, or doesn't
-pub behind-named : (s : Situation) (number moment : ℕ) (step : Step) (x : Session) → names step x ≡ true → stopped s number step.arrival (told s moment step x) ≡ session_behind s number moment step x
+pub behind-named : (s : Situation) (number moment : ℕ) (step : Step) (x : Session)
+    → names step x ≡ true
+    → stopped s number step.arrival (told s moment step x) ≡ session_behind s number moment step x
 behind-named s number moment step x named = ap (λ b. if b then stopped s number step.arrival (told s moment step x) else told s moment step x) (sym named)
 
-pub behind-passed : (s : Situation) (number moment : ℕ) (step : Step) (x : Session) → names step x ≡ false → told s moment step x ≡ session_behind s number moment step x
+pub behind-passed : (s : Situation) (number moment : ℕ) (step : Step) (x : Session)
+    → names step x ≡ false
+    → told s moment step x ≡ session_behind s number moment step x
 behind-passed s number moment step x named = ap (λ b. if b then stopped s number step.arrival (told s moment step x) else told s moment step x) (sym named)

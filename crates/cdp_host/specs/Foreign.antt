@@ -30,9 +30,12 @@ IsRefusal w = (why : Refusal) × (w ≡ Refuses why)
 pub record RefusesObject (s : Situation) (x : Session) (id : List ℕ) : Type 0 where
   pub no_handle : handle_of x id ≡ None
   pub no_object : object_of x id ≡ None
-  pub properties : (own preview : Bool) → comes_to s x (params.GetProperties id own preview) ≡ Refuses refusals.UnknownObject
+  pub properties : (own preview : Bool)
+      → comes_to s x (params.GetProperties id own preview) ≡ Refuses refusals.UnknownObject
   pub releasing : comes_to s x (params.ReleaseObject id) ≡ Refuses refusals.UnknownObject
-  pub receiver : (call : FunctionCall) → call.object_id ≡ Some id → comes_to s x (params.CallFunctionOn call) ≡ Refuses refusals.UnknownObject
+  pub receiver : (call : FunctionCall)
+      → call.object_id ≡ Some id
+      → comes_to s x (params.CallFunctionOn call) ≡ Refuses refusals.UnknownObject
   pub argument : (call : FunctionCall) (front back : List Argument) → call.arguments ≡ front ++ (an_object id ∷ back)
       → comes_to s x (params.CallFunctionOn call) ≡ Refuses refusals.UnknownObject
 
@@ -40,7 +43,8 @@ pub record RefusesObject (s : Situation) (x : Session) (id : List ℕ) : Type 0 
 -- enabled and the program is paused, because of the frame.
 pub record RefusesFrame (s : Situation) (x : Session) (id : List ℕ) : Type 0 where
   pub no_frame : (paused : Option Pause) → frame_of s x paused id ≡ None
-  pub by_row : (evaluation : Evaluation) → row s x (params.EvaluateOnCallFrame id evaluation) ≡ Refuses refusals.UnknownFrame
+  pub by_row : (evaluation : Evaluation)
+      → row s x (params.EvaluateOnCallFrame id evaluation) ≡ Refuses refusals.UnknownFrame
   pub refused : (evaluation : Evaluation) → IsRefusal (comes_to s x (params.EvaluateOnCallFrame id evaluation))
   pub unknown : (evaluation : Evaluation) → x.rules.enabled ≡ true → is_some s.paused ≡ true
       → comes_to s x (params.EvaluateOnCallFrame id evaluation) ≡ Refuses refusals.UnknownFrame

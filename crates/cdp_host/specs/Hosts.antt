@@ -133,7 +133,8 @@ NoneAttached seats = some is_attached seats ≡ false
 pub record Stands (scripts : List Script) (input : List (List ℕ)) (wait : Bool) (host : HostState) (history : List Entry) : Type 0 where
   pub runs : host.scripts ≡ scripts
   pub fits : IsHistory scripts input wait history
-  pub means : host.broken ≡ false → StandsAs (meaning_with host (printed_of (whole scripts input wait history).program)) (whole scripts input wait history)
+  pub means : host.broken ≡ false
+      → StandsAs (meaning_with host (printed_of (whole scripts input wait history).program)) (whole scripts input wait history)
   pub lost : host.broken ≡ true → BrokenAs host.meaning.seats (whole scripts input wait history).seats
 
 -- what a call with this entry, which makes no steps, leaves of a host

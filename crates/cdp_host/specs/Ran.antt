@@ -44,4 +44,7 @@ pub record Advances (scripts : List Script) (seats : List (Seat Session)) (most 
   pub reached : q ≡ nexts scripts k r
   pub runs : (j : ℕ) → j < k → is_over (nexts scripts j r) ≡ false
   pub silent : (j : ℕ) → j + 1 < k → prints_next scripts (nexts scripts j r) ≡ None
-  pub passes : (j : ℕ) → 0 < j → j < k → stops_at (standing_of scripts (nexts scripts j r)) (arrival_of scripts (nexts scripts j r)) seats ≡ false
+  pub passes : (j : ℕ)
+      → 0 < j
+      → j < k
+      → stops_at (standing_of scripts (nexts scripts j r)) (arrival_of scripts (nexts scripts j r)) seats ≡ false

@@ -25,7 +25,10 @@ line_of-other bytes isnt = rw (false_from_ne_true (is_utf8 bytes) (λ is. isnt (
 
 -- ---- the text of a line is read as that line
 
-tell-read : (s : ℕ) (text : List ℕ) → s < 2 ^ 64 → length text ≤ most_told → tell_rest (decimal s ++ 32 ∷ escaped text) ≡ Some (Tell s text)
+tell-read : (s : ℕ) (text : List ℕ)
+    → s < 2 ^ 64
+    → length text ≤ most_told
+    → tell_rest (decimal s ++ 32 ∷ escaped text) ≡ Some (Tell s text)
 tell-read s text small short =
     rw (halves-decimal s 32 (escaped text) small (λ digit. omega arith), decimal_value-decimal s small, read-back text, le-leb (length text) most_told short) refl
 
@@ -35,7 +38,10 @@ take-read s small = rw (decimal_value-decimal s small) refl
 detach-read : (s : ℕ) → s < 2 ^ 64 → detach_rest (decimal s) ≡ Some (Detach s)
 detach-read s small = rw (decimal_value-decimal s small) refl
 
-run-read : (most moment : ℕ) → most < 2 ^ 32 → moment < 2 ^ 53 → run_rest (decimal most ++ 32 ∷ decimal moment) ≡ Some (Run most moment)
+run-read : (most moment : ℕ)
+    → most < 2 ^ 32
+    → moment < 2 ^ 53
+    → run_rest (decimal most ++ 32 ∷ decimal moment) ≡ Some (Run most moment)
 run-read most moment few soon =
     let halves_read = halves-decimal most 32 (decimal moment) (omega arith) (λ digit. omega arith) in
     let most_read = decimal_value-decimal most (omega arith) in
@@ -61,7 +67,14 @@ pub choice-some : {A : Type 0} → (b : Bool) (x y : A) → (if b then Some x el
 choice-some true x y is = (refl, same_Some x y is)
 choice-some false x y is = absurd (none-some y is)
 
-tell-some : (rest : List ℕ) (line : Line) → tell_rest rest ≡ Some line → (s : ℕ) × (text : List ℕ) × (line ≡ Tell s text) × (s < 2 ^ 64) × (length text ≤ most_told) × (rest ≡ decimal s ++ 32 ∷ escaped text)
+tell-some : (rest : List ℕ) (line : Line)
+    → tell_rest rest ≡ Some line
+    → (s : ℕ)
+    × (text : List ℕ)
+    × (line ≡ Tell s text)
+    × (s < 2 ^ 64)
+    × (length text ≤ most_told)
+    × (rest ≡ decimal s ++ 32 ∷ escaped text)
 tell-some rest line is =
     option_and_then_some tell_in (halves 32 rest) line is (λ parts parts_is told.
     option_and_then_some (tell_at parts.back) (decimal_value parts.front) line told (λ s s_is told_at.
@@ -72,7 +85,12 @@ tell-some rest line is =
     (s, text, sym chosen.1, digits.1, leb-true (length text) most_told chosen.0, whole ∙ ap (λ written. decimal s ++ 32 ∷ written) (written-is parts.back text text_is)))))
 
 run-some : (rest : List ℕ) (line : Line) → run_rest rest ≡ Some line
-    → (most : ℕ) × (moment : ℕ) × (line ≡ Run most moment) × (most < 2 ^ 32) × (moment < 2 ^ 53) × (rest ≡ decimal most ++ 32 ∷ decimal moment)
+    → (most : ℕ)
+    × (moment : ℕ)
+    × (line ≡ Run most moment)
+    × (most < 2 ^ 32)
+    × (moment < 2 ^ 53)
+    × (rest ≡ decimal most ++ 32 ∷ decimal moment)
 run-some rest line is =
     option_and_then_some run_in (halves 32 rest) line is (λ parts parts_is ran.
     option_and_then_some (λ most. option_and_then (run_at most) (decimal_value parts.back)) (decimal_value parts.front) line ran (λ most most_is ran_most.
@@ -83,7 +101,8 @@ run-some rest line is =
     let others = decimal_value-some parts.back moment moment_is in
     (most, moment, sym chosen.1, (Decides-ltb most (2 ^ 32)).0 tests.0, (Decides-ltb moment (2 ^ 53)).0 tests.1, rw (halves-some 32 rest parts parts_is, digits.0, others.0) refl))))
 
-or_else-some : (o : Option (List ℕ)) (f : List ℕ → Option Line) (other : Option Line) (line : Line) → or_else o f other ≡ Some line
+or_else-some : (o : Option (List ℕ)) (f : List ℕ → Option Line) (other : Option Line) (line : Line)
+    → or_else o f other ≡ Some line
     → ((rest : List ℕ) × (o ≡ Some rest) × (f rest ≡ Some line)) ⊎ (other ≡ Some line)
 or_else-some None f other line is = inr is
 or_else-some (Some rest) f other line is = inl (rest, refl, is)
@@ -92,35 +111,51 @@ or_else-some (Some rest) f other line is = inl (rest, refl, is)
 abbrev IsText : List ℕ → Line → Type 0
 IsText text line = IsInForm line × (text ≡ line_text line)
 
-is-tell : (text rest : List ℕ) (line : Line) → behind (codes "tell ") text ≡ Some rest → tell_rest rest ≡ Some line → IsText text line
+is-tell : (text rest : List ℕ) (line : Line)
+    → behind (codes "tell ") text ≡ Some rest
+    → tell_rest rest ≡ Some line
+    → IsText text line
 is-tell text rest line front is =
     let told = tell-some rest line is in
     let whole = behind-some (codes "tell ") text rest front in
     rw told.2 ((told.3, told.4), whole ∙ ap (λ xs. codes "tell " ++ xs) told.5)
 
-take-some : (o : Option ℕ) (line : Line) → option_map (λ s. Take s) o ≡ Some line → (s : ℕ) × (o ≡ Some s) × (line ≡ Take s)
+take-some : (o : Option ℕ) (line : Line)
+    → option_map (λ s. Take s) o ≡ Some line
+    → (s : ℕ) × (o ≡ Some s) × (line ≡ Take s)
 take-some None line is = absurd (none-some line is)
 take-some (Some s) line is = (s, refl, sym (same_Some (Take s) line is))
 
-is-take : (text rest : List ℕ) (line : Line) → behind (codes "take ") text ≡ Some rest → take_rest rest ≡ Some line → IsText text line
+is-take : (text rest : List ℕ) (line : Line)
+    → behind (codes "take ") text ≡ Some rest
+    → take_rest rest ≡ Some line
+    → IsText text line
 is-take text rest line front is =
     let taken = take-some (decimal_value rest) line is in
     let digits = decimal_value-some rest taken.0 taken.1 in
     let whole = behind-some (codes "take ") text rest front in
     rw taken.2 (digits.1, whole ∙ ap (λ xs. codes "take " ++ xs) digits.0)
 
-detach-some : (o : Option ℕ) (line : Line) → option_map (λ s. Detach s) o ≡ Some line → (s : ℕ) × (o ≡ Some s) × (line ≡ Detach s)
+detach-some : (o : Option ℕ) (line : Line)
+    → option_map (λ s. Detach s) o ≡ Some line
+    → (s : ℕ) × (o ≡ Some s) × (line ≡ Detach s)
 detach-some None line is = absurd (none-some line is)
 detach-some (Some s) line is = (s, refl, sym (same_Some (Detach s) line is))
 
-is-detach : (text rest : List ℕ) (line : Line) → behind (codes "detach ") text ≡ Some rest → detach_rest rest ≡ Some line → IsText text line
+is-detach : (text rest : List ℕ) (line : Line)
+    → behind (codes "detach ") text ≡ Some rest
+    → detach_rest rest ≡ Some line
+    → IsText text line
 is-detach text rest line front is =
     let left = detach-some (decimal_value rest) line is in
     let digits = decimal_value-some rest left.0 left.1 in
     let whole = behind-some (codes "detach ") text rest front in
     rw left.2 (digits.1, whole ∙ ap (λ xs. codes "detach " ++ xs) digits.0)
 
-is-run : (text rest : List ℕ) (line : Line) → behind (codes "run ") text ≡ Some rest → run_rest rest ≡ Some line → IsText text line
+is-run : (text rest : List ℕ) (line : Line)
+    → behind (codes "run ") text ≡ Some rest
+    → run_rest rest ≡ Some line
+    → IsText text line
 is-run text rest line front is =
     let ran = run-some rest line is in
     let whole = behind-some (codes "run ") text rest front in
@@ -143,7 +178,10 @@ is-words text line is =
     ]
 
 -- a line that is one word, or another
-word_some : (b : Bool) (text : List ℕ) (named line : Line) (others : Option Line) → IsInForm named → (b ≡ true → text ≡ line_text named) → (others ≡ Some line → IsText text line)
+word_some : (b : Bool) (text : List ℕ) (named line : Line) (others : Option Line)
+    → IsInForm named
+    → (b ≡ true → text ≡ line_text named)
+    → (others ≡ Some line → IsText text line)
     → (if b then Some named else others) ≡ Some line → IsText text line
 word_some true text named line others form word other is = rw (sym (same_Some named line is)) (form, word refl)
 word_some false text named line others form word other is = other is
@@ -153,7 +191,10 @@ is-text text line is =
     word_some (bytes_eq text (codes "attach")) text Attach line _ tt ((bytes_eq-Decides text (codes "attach")).0)
     (word_some (bytes_eq text (codes "shut")) text Shut line _ tt ((bytes_eq-Decides text (codes "shut")).0) (is-words text line)) is
 
-utf8_some : (b : Bool) (bytes : List ℕ) (line : Line) → is_utf8 bytes ≡ b → (if b then line_of_text bytes else None) ≡ Some line → IsLine bytes line
+utf8_some : (b : Bool) (bytes : List ℕ) (line : Line)
+    → is_utf8 bytes ≡ b
+    → (if b then line_of_text bytes else None) ≡ Some line
+    → IsLine bytes line
 utf8_some true bytes line utf8 is =
     let text = is-text bytes line is in
     record { utf8 = utf8; in_form = text.0; is = text.1 }
@@ -163,11 +204,17 @@ pub line-some : (bytes : List ℕ) (line : Line) → line_of bytes ≡ Some line
 line-some bytes line is = utf8_some (is_utf8 bytes) bytes line refl is
 
 -- what the code read, and what it didn't
-pub held-is : (bytes : List ℕ) (r : Option Held) → option_map line_held r ≡ line_of bytes → IfSome r (λ line. IsLine bytes (line_held line))
+pub held-is : (bytes : List ℕ) (r : Option Held)
+    → option_map line_held r ≡ line_of bytes
+    → IfSome r (λ line. IsLine bytes (line_held line))
 held-is bytes None read = tt
 held-is bytes (Some line) read = line-some bytes (line_held line) (sym read)
 
-pub held-one : (bytes : List ℕ) (r : Option Held) → option_map line_held r ≡ line_of bytes → (line : Line) → IsLine bytes line → option_map line_held r ≡ Some line
+pub held-one : (bytes : List ℕ) (r : Option Held)
+    → option_map line_held r ≡ line_of bytes
+    → (line : Line)
+    → IsLine bytes line
+    → option_map line_held r ≡ Some line
 held-one bytes r read line is = read ∙ line-read bytes line is
 
 pub ruleset utf8 = (line_of-utf8, line_of-other, held-is, held-one)

@@ -18,7 +18,10 @@ pub one-append : (xs ys : List ℕ) → is_one_line xs ≡ true → is_one_line 
 one-append [] ys first others = others
 one-append (x ∷ xs) ys first others = let parts = and_parts (is_other x) (is_one_line xs) first in rw (parts.0, one-append xs ys parts.1 others) refl
 
-one-choice : (b : Bool) (xs ys : List ℕ) → is_one_line xs ≡ true → is_one_line ys ≡ true → is_one_line (if b then xs else ys) ≡ true
+one-choice : (b : Bool) (xs ys : List ℕ)
+    → is_one_line xs ≡ true
+    → is_one_line ys ≡ true
+    → is_one_line (if b then xs else ys) ≡ true
 one-choice true xs ys first other = first
 one-choice false xs ys first other = other
 

@@ -10,7 +10,11 @@ use Rattle.cdp_journal.specs.Escapes.{begun, byte_escaped, escaped, is_line_end,
 
 -- ---- what is written is read
 
-byte-back : (percent feed return : Bool) (byte : ℕ) (text rest : List ℕ) → (byte == 37) ≡ percent → (byte == 10) ≡ feed → (byte == 13) ≡ return → unescaped text ≡ Some rest
+byte-back : (percent feed return : Bool) (byte : ℕ) (text rest : List ℕ)
+    → (byte == 37) ≡ percent
+    → (byte == 10) ≡ feed
+    → (byte == 13) ≡ return
+    → unescaped text ≡ Some rest
     → unescaped ((if percent then codes "%25" else if feed then codes "%0A" else if return then codes "%0D" else byte ∷ []) ++ text) ≡ Some (byte ∷ rest)
 byte-back true feed return byte text rest is _ _ read = rw (eqb-true byte 37 is, read) refl
 byte-back false true return byte text rest _ is _ read = rw (eqb-true byte 10 is, read) refl
@@ -24,12 +28,18 @@ read-back (byte ∷ text) = byte-back (byte == 37) (byte == 10) (byte == 13) byt
 -- ---- and nothing else is
 
 -- what is known of a text behind a byte
-begun-some : (o : Option (List ℕ)) (byte : ℕ) (text : List ℕ) → begun o byte ≡ Some text → (rest : List ℕ) × (o ≡ Some rest) × (text ≡ byte ∷ rest)
+begun-some : (o : Option (List ℕ)) (byte : ℕ) (text : List ℕ)
+    → begun o byte ≡ Some text
+    → (rest : List ℕ) × (o ≡ Some rest) × (text ≡ byte ∷ rest)
 begun-some None byte text is = absurd (none-some text is)
 begun-some (Some rest) byte text is = (rest, refl, sym (same_Some (byte ∷ rest) text is))
 
-stands-by : (percent feed return : Bool) (first second byte : ℕ) (text : List ℕ) → (first == 50 && second == 53) ≡ percent → (first == 48 && second == 65) ≡ feed → (first == 48 && second == 68) ≡ return
-    → (if percent then Some 37 else if feed then Some 10 else if return then Some 13 else None) ≡ Some byte → 37 ∷ first ∷ second ∷ text ≡ byte_escaped byte ++ text
+stands-by : (percent feed return : Bool) (first second byte : ℕ) (text : List ℕ)
+    → (first == 50 && second == 53) ≡ percent
+    → (first == 48 && second == 65) ≡ feed
+    → (first == 48 && second == 68) ≡ return
+    → (if percent then Some 37 else if feed then Some 10 else if return then Some 13 else None) ≡ Some byte
+    → 37 ∷ first ∷ second ∷ text ≡ byte_escaped byte ++ text
 stands-by true feed return first second byte text is _ _ some =
     let tests = and_parts (first == 50) (second == 53) is in
     rw (eqb-true first 50 tests.0, eqb-true second 53 tests.1, ← same_Some 37 byte some) refl
@@ -42,11 +52,14 @@ stands-by false false true first second byte text _ _ is some =
 stands-by false false false first second byte text _ _ _ some = absurd (none-some byte some)
 
 -- a `%` with the two bytes behind it is what the byte is written as for which it stands
-stands-is : (first second byte : ℕ) (text : List ℕ) → stands_for first second ≡ Some byte → 37 ∷ first ∷ second ∷ text ≡ byte_escaped byte ++ text
+stands-is : (first second byte : ℕ) (text : List ℕ)
+    → stands_for first second ≡ Some byte
+    → 37 ∷ first ∷ second ∷ text ≡ byte_escaped byte ++ text
 stands-is first second byte text some =
     stands-by (first == 50 && second == 53) (first == 48 && second == 65) (first == 48 && second == 68) first second byte text refl refl refl some
 
-form-some : (first second : ℕ) (written text : List ℕ) (o : Option (List ℕ)) → ((rest : List ℕ) → o ≡ Some rest → written ≡ escaped rest)
+form-some : (first second : ℕ) (written text : List ℕ) (o : Option (List ℕ))
+    → ((rest : List ℕ) → o ≡ Some rest → written ≡ escaped rest)
     → option_and_then (begun o) (stands_for first second) ≡ Some text → 37 ∷ first ∷ second ∷ written ≡ escaped text
 form-some first second written text o behind is =
     option_and_then_some (begun o) (stands_for first second) text is (λ byte stands read.
@@ -54,8 +67,10 @@ form-some first second written text o behind is =
     rw (parts.2, ← behind parts.0 parts.1) (stands-is first second byte written stands))
 
 written-by : (percent end : Bool) (byte : ℕ) (written text : List ℕ) → (byte == 37) ≡ percent → is_line_end byte ≡ end
-    → ((rest : List ℕ) → unescaped written ≡ Some rest → written ≡ escaped rest) → (unescaped_form written ≡ Some text → 37 ∷ written ≡ escaped text)
-    → (if percent then unescaped_form written else if end then None else begun (unescaped written) byte) ≡ Some text → byte ∷ written ≡ escaped text
+    → ((rest : List ℕ) → unescaped written ≡ Some rest → written ≡ escaped rest)
+    → (unescaped_form written ≡ Some text → 37 ∷ written ≡ escaped text)
+    → (if percent then unescaped_form written else if end then None else begun (unescaped written) byte) ≡ Some text
+    → byte ∷ written ≡ escaped text
 written-by true end byte written text percent _ behind form is = rw (eqb-true byte 37 percent) (form is)
 written-by false true byte written text _ _ behind form is = absurd (none-some text is)
 written-by false false byte written text percent end behind form is =
@@ -103,12 +118,15 @@ map-nothing : (o : Option (List ℕ)) → o ≡ option_map (λ rest. [] ++ rest)
 map-nothing None = refl
 map-nothing (Some rest) = refl
 
-map-more : (byte : ℕ) (front : List ℕ) (o : Option (List ℕ)) → begun (option_map (λ rest. front ++ rest) o) byte ≡ option_map (λ rest. (byte ∷ front) ++ rest) o
+map-more : (byte : ℕ) (front : List ℕ) (o : Option (List ℕ))
+    → begun (option_map (λ rest. front ++ rest) o) byte ≡ option_map (λ rest. (byte ∷ front) ++ rest) o
 map-more byte front None = refl
 map-more byte front (Some rest) = refl
 
 -- a part without `%`, LF and CR is read as it is
-pub plain-front : (front behind : List ℕ) → ((i : ℕ) → i < length front → get_or front i 0 ≢ 37) → list_any is_line_end front ≡ false
+pub plain-front : (front behind : List ℕ)
+    → ((i : ℕ) → i < length front → get_or front i 0 ≢ 37)
+    → list_any is_line_end front ≡ false
     → unescaped (front ++ behind) ≡ option_map (λ rest. front ++ rest) (unescaped behind)
 plain-front [] behind lacks ends = map-nothing (unescaped behind)
 plain-front (byte ∷ front) behind lacks ends =
@@ -124,16 +142,22 @@ pub record IsReadTo (written text rest : List ℕ) : Type 0 where
 pub read-start : (written : List ℕ) → list_any is_line_end written ≡ false → IsReadTo written [] written
 read-start written ends = record { read = map-nothing (unescaped written); ends = ends }
 
-map-append : (front back : List ℕ) (o : Option (List ℕ)) → option_map (λ more. front ++ more) (option_map (λ more. back ++ more) o) ≡ option_map (λ more. (front ++ back) ++ more) o
+map-append : (front back : List ℕ) (o : Option (List ℕ))
+    → option_map (λ more. front ++ more) (option_map (λ more. back ++ more) o) ≡ option_map (λ more. (front ++ back) ++ more) o
 map-append front back None = refl
 map-append front back (Some more) = ap (λ all. Some all) (sym (append_assoc front back more))
 
 -- the parts of what is left
-split-ends : (plain form : List ℕ) → list_any is_line_end (plain ++ 37 ∷ form) ≡ false → (list_any is_line_end plain ≡ false) × (list_any is_line_end form ≡ false)
+split-ends : (plain form : List ℕ)
+    → list_any is_line_end (plain ++ 37 ∷ form) ≡ false
+    → (list_any is_line_end plain ≡ false) × (list_any is_line_end form ≡ false)
 split-ends plain form ends = or_parts (list_any is_line_end plain) (list_any is_line_end form) (sym (list_any-append is_line_end plain (37 ∷ form)) ∙ ends)
 
 -- up to the next `%`
-form-next : (written text rest plain form : List ℕ) → rest ≡ plain ++ 37 ∷ form → ((i : ℕ) → i < length plain → get_or plain i 0 ≢ 37) → IsReadTo written text rest
+form-next : (written text rest plain form : List ℕ)
+    → rest ≡ plain ++ 37 ∷ form
+    → ((i : ℕ) → i < length plain → get_or plain i 0 ≢ 37)
+    → IsReadTo written text rest
     → unescaped written ≡ option_map (λ more. (text ++ plain) ++ more) (unescaped_form form)
 form-next written text rest plain form parts lacks before =
     let ends = split-ends plain form (ap (list_any is_line_end) (sym parts) ∙ before.ends) in
@@ -142,12 +166,18 @@ form-next written text rest plain form parts lacks before =
     ∙ map-append text plain (unescaped_form form)
 
 -- which stands for no byte
-pub read-none : (written text rest plain form : List ℕ) → rest ≡ plain ++ 37 ∷ form → ((i : ℕ) → i < length plain → get_or plain i 0 ≢ 37) → unescaped_form form ≡ None → IsReadTo written text rest
+pub read-none : (written text rest plain form : List ℕ)
+    → rest ≡ plain ++ 37 ∷ form
+    → ((i : ℕ) → i < length plain → get_or plain i 0 ≢ 37)
+    → unescaped_form form ≡ None
+    → IsReadTo written text rest
     → unescaped written ≡ None
 read-none written text rest plain form parts lacks none before =
     form-next written text rest plain form parts lacks before ∙ ap (option_map (λ more. (text ++ plain) ++ more)) none
 
-stands-small : (percent feed return : Bool) (byte : ℕ) → (if percent then Some 37 else if feed then Some 10 else if return then Some 13 else None) ≡ Some byte → byte < 128
+stands-small : (percent feed return : Bool) (byte : ℕ)
+    → (if percent then Some 37 else if feed then Some 10 else if return then Some 13 else None) ≡ Some byte
+    → byte < 128
 stands-small true feed return byte is = rw (← same_Some 37 byte is) (omega arith)
 stands-small false true return byte is = rw (← same_Some 10 byte is) (omega arith)
 stands-small false false true byte is = rw (← same_Some 13 byte is) (omega arith)
@@ -158,8 +188,13 @@ stands-one first second byte is =
     encode_ascii byte (stands-small (first == 50 && second == 53) (first == 48 && second == 65) (first == 48 && second == 68) byte is)
 
 -- or for one
-pub read-next : (written text rest plain form after : List ℕ) (first second byte : ℕ) → rest ≡ plain ++ 37 ∷ form → ((i : ℕ) → i < length plain → get_or plain i 0 ≢ 37)
-    → form ≡ first ∷ second ∷ after → stands_for first second ≡ Some byte → IsReadTo written text rest → IsReadTo written ((text ++ plain) ++ encode_utf8 byte) after
+pub read-next : (written text rest plain form after : List ℕ) (first second byte : ℕ)
+    → rest ≡ plain ++ 37 ∷ form
+    → ((i : ℕ) → i < length plain → get_or plain i 0 ≢ 37)
+    → form ≡ first ∷ second ∷ after
+    → stands_for first second ≡ Some byte
+    → IsReadTo written text rest
+    → IsReadTo written ((text ++ plain) ++ encode_utf8 byte) after
 read-next written text rest plain form after first second byte parts lacks form_is stands before =
     let read_form : unescaped_form form ≡ option_map (λ more. (byte ∷ []) ++ more) (unescaped after) = ap unescaped_form form_is ∙ ap (option_and_then (begun (unescaped after))) stands in
     let ends = split-ends plain form (ap (list_any is_line_end) (sym parts) ∙ before.ends) in
@@ -172,7 +207,10 @@ read-next written text rest plain form after first second byte parts lacks form_
     }
 
 -- no `%` is left
-pub read-end : (written text rest : List ℕ) → ((i : ℕ) → i < length rest → get_or rest i 0 ≢ 37) → IsReadTo written text rest → Some (text ++ rest) ≡ unescaped written
+pub read-end : (written text rest : List ℕ)
+    → ((i : ℕ) → i < length rest → get_or rest i 0 ≢ 37)
+    → IsReadTo written text rest
+    → Some (text ++ rest) ≡ unescaped written
 read-end written text rest lacks before =
     let plain : unescaped rest ≡ Some rest =
     ap unescaped (sym (append-nil rest)) ∙ plain-front rest [] lacks before.ends ∙ ap (λ all. Some all) (append-nil rest) in

@@ -42,7 +42,9 @@ command_is_read d id method parameters is =
 -- ---- what is read is a command
 
 module _ (id : ℕ) (method : Method) (parameters : Params) where
-  from_value : (b : Bool) (r : Reading) → (if b then r else Refused None refusals.NotObject) ≡ Command id method parameters → r ≡ Command id method parameters
+  from_value : (b : Bool) (r : Reading)
+      → (if b then r else Refused None refusals.NotObject) ≡ Command id method parameters
+      → r ≡ Command id method parameters
   from_value true r e = e
   from_value false r e = cc
 
@@ -56,7 +58,8 @@ module _ (id : ℕ) (method : Method) (parameters : Params) where
   from_name n d None e = cc
   from_name n d (Some name) e = (name, refl, e)
 
-  from_method : (n : ℕ) (name : List ℕ) (d : Data) (o : Option Method) → with_method n name d o ≡ Command id method parameters
+  from_method : (n : ℕ) (name : List ℕ) (d : Data) (o : Option Method)
+      → with_method n name d o ≡ Command id method parameters
       → (m : Method) × (o ≡ Some m) × (with_given n m (given_of d) ≡ Command id method parameters)
   from_method n name d None e = cc
   from_method n name d (Some m) e = (m, refl, e)
@@ -71,7 +74,10 @@ module _ (id : ℕ) (method : Method) (parameters : Params) where
   from_params n m None e = cc
   from_params n m (Some p) e = (cc, cc, cc)
 
-safe_back : (b : Bool) (k n : ℕ) → nat_lt k (2 ^ 53) ≡ b → (if b then Some k else None) ≡ Some n → (k ≡ n) × (k < 2 ^ 53)
+safe_back : (b : Bool) (k n : ℕ)
+    → nat_lt k (2 ^ 53) ≡ b
+    → (if b then Some k else None) ≡ Some n
+    → (k ≡ n) × (k < 2 ^ 53)
 safe_back true k n is e = (cc, ltb-true k (2 ^ 53) is)
 safe_back false k n is e = cc
 
@@ -81,7 +87,9 @@ Numbered g n = (g ≡ Some (number (unsigned n))) × (n < 2 ^ 53)
 numbered_by : (k n : ℕ) → (k ≡ n) × (k < 2 ^ 53) → Numbered (Some (number (unsigned k))) n
 numbered_by k n both = (ap (λ i. Some (number (unsigned i))) both.0, subst (λ i. i < 2 ^ 53) both.0 both.1)
 
-id_back : (g : Option Data) (n : ℕ) → option_and_then if_safe (option_and_then as_u64 (option_and_then as_number g)) ≡ Some n → Numbered g n
+id_back : (g : Option Data) (n : ℕ)
+    → option_and_then if_safe (option_and_then as_u64 (option_and_then as_number g)) ≡ Some n
+    → Numbered g n
 id_back None n e = cc
 id_back (Some null) n e = cc
 id_back (Some (boolean b)) n e = cc

@@ -43,14 +43,19 @@ two_at Less Greater k l m d e f ms is js less later = rw (is, js, turned k l Les
 two_at Equal p k l m d e f ms is js less later = rw (is, above_equal k l m less is) (rw is refl)
 two_at Greater p k l m d e f ms is js less later = rw (is, above_greater k l m less is) (rw is (ap (values.member m f) later))
 
-below_first : (k l : List ℕ) (d e : Data) (ms : values.Members) → cmp k l ≡ Less → put k d (put l e ms) ≡ put l e (put k d ms)
+below_first : (k l : List ℕ) (d e : Data) (ms : values.Members)
+    → cmp k l ≡ Less
+    → put k d (put l e ms) ≡ put l e (put k d ms)
 below_first k l d e values.no_members less = rw (less, turned k l Less less) refl
 below_first k l d e (values.member m f ms) less = two_at (cmp k m) (cmp l m) k l m d e f ms refl refl less (below_first k l d e ms less)
 
 same_keys : (k l : List ℕ) → cmp k l ≡ Equal → k ≡ l
 same_keys k l is = (bytes_eq-Decides k l).0 (sym (is_eq-slice_cmp k l) ∙ ap is_eq is)
 
-either_order : (o : Ordering) (k l : List ℕ) (d e : Data) (ms : values.Members) → cmp k l ≡ o → (k ≡ l → ⊥) → put k d (put l e ms) ≡ put l e (put k d ms)
+either_order : (o : Ordering) (k l : List ℕ) (d e : Data) (ms : values.Members)
+    → cmp k l ≡ o
+    → (k ≡ l → ⊥)
+    → put k d (put l e ms) ≡ put l e (put k d ms)
 either_order Less k l d e ms is other = below_first k l d e ms is
 either_order Equal k l d e ms is other = absurd (other (same_keys k l is))
 either_order Greater k l d e ms is other = sym (below_first l k e d ms (turned k l Greater is))
@@ -82,7 +87,10 @@ abbrev Ascending : List Entry → Type 0
 Ascending [] = ⊤
 Ascending (y ∷ ys) = ((k : List ℕ) → cmp k y.0 ≡ Less → Below k ys) × Ascending ys
 
-ascends_at : (o : Ordering) (x y : Entry) (ys : List Entry) → cmp x.0 y.0 ≡ o → Ascending (y ∷ ys) → Ascending (insert_by (λ e. e.0) x ys)
+ascends_at : (o : Ordering) (x y : Entry) (ys : List Entry)
+    → cmp x.0 y.0 ≡ o
+    → Ascending (y ∷ ys)
+    → Ascending (insert_by (λ e. e.0) x ys)
     → Ascending (match_ordering o (x ∷ y ∷ ys) (y ∷ insert_by (λ e. e.0) x ys) (y ∷ insert_by (λ e. e.0) x ys))
 ascends_at Less x y ys is up later =
     (λ k below. let under = nat_list_cmp_total.trans k x.0 y.0 below is in (under, up.0 k under), up)
@@ -107,13 +115,19 @@ AllApart (x ∷ xs) = Apart x.0 xs × AllApart xs
 differ : (k l : List ℕ) → cmp k l ≡ Less → (utf8_of k ≡ utf8_of l → k ≡ l) → utf8_of l ≡ utf8_of k → ⊥
 differ k l less apart same = let tied : cmp k k ≡ Equal = tied_itself nat_list_cmp_total k in let under : cmp k k ≡ Less = ap (cmp k) (apart (sym same)) ∙ less in cc
 
-all_differ : (k : List ℕ) (ys : List Entry) → Below k ys → Apart k ys → AllByRecursion (λ x. utf8_of x.0 ≡ utf8_of k → ⊥) ys
+all_differ : (k : List ℕ) (ys : List Entry)
+    → Below k ys
+    → Apart k ys
+    → AllByRecursion (λ x. utf8_of x.0 ≡ utf8_of k → ⊥) ys
 all_differ k [] below apart = tt
 all_differ k (y ∷ ys) below apart = (differ k y.0 below.0 apart.0, all_differ k ys below.1 apart.1)
 
 -- ---- a member more
 
-inserted_at : (o : Ordering) (x y : Entry) (ys : List Entry) (found : values.Members) → cmp x.0 y.0 ≡ o → Ascending (y ∷ ys) → Apart x.0 (y ∷ ys)
+inserted_at : (o : Ordering) (x y : Entry) (ys : List Entry) (found : values.Members)
+    → cmp x.0 y.0 ≡ o
+    → Ascending (y ∷ ys)
+    → Apart x.0 (y ∷ ys)
     → puts (insert_by (λ e. e.0) x ys) (put (utf8_of y.0) y.1 found) ≡ put (utf8_of x.0) x.1 (puts ys (put (utf8_of y.0) y.1 found))
     → puts (match_ordering o (x ∷ y ∷ ys) (y ∷ insert_by (λ e. e.0) x ys) (y ∷ insert_by (λ e. e.0) x ys)) found ≡ put (utf8_of x.0) x.1 (puts (y ∷ ys) found)
 inserted_at Less x y ys found is up apart later = past x (y ∷ ys) found (all_differ x.0 (y ∷ ys) (is, up.0 x.0 is) apart)
@@ -131,7 +145,10 @@ inserted x (y ∷ ys) found up apart =
 abbrev ApartFrom : List Entry → List Entry → Type 0
 ApartFrom done = AllByRecursion (λ z. Apart z.0 done)
 
-still_apart : (x : Entry) (done es : List Entry) → ApartFrom done es → Apart x.0 es → ApartFrom (insert_by (λ e. e.0) x done) es
+still_apart : (x : Entry) (done es : List Entry)
+    → ApartFrom done es
+    → Apart x.0 es
+    → ApartFrom (insert_by (λ e. e.0) x done) es
 still_apart x done [] from apart = tt
 still_apart x done (z ∷ zs) from apart = (
   each_insert (λ y. utf8_of z.0 ≡ utf8_of y.0 → z.0 ≡ y.0) (λ e. e.0) x done (λ same. sym (apart.0 (sym same))) from.0,
@@ -149,7 +166,9 @@ onto done (x ∷ es) found up from apart =
     onto (insert_by (λ e. e.0) x done) es found (ascends x done up) (still_apart x done es from.1 apart.0) apart.1
     ∙ ap (puts es) (inserted x done found up from.0)
 
-in_any_order : (es : List Entry) (found : values.Members) → AllApart es → puts (in_order (λ e. e.0) es) found ≡ puts es found
+in_any_order : (es : List Entry) (found : values.Members)
+    → AllApart es
+    → puts (in_order (λ e. e.0) es) found ≡ puts es found
 in_any_order es found apart = onto [] es found tt (none_apart es) apart
 
 -- ---- values

@@ -17,7 +17,8 @@ use Rattle.cdp_json.specs.declared.refusal.Refusal.{Refusal}
 
 -- ---- objects of one and of two members
 
-one_member : (k : List ℕ) (a : Json) → compact_text (object (member k a no_members)) ≡ 123 ∷ (string_text k ++ 58 ∷ (compact_text a ++ 125 ∷ []))
+one_member : (k : List ℕ) (a : Json)
+    → compact_text (object (member k a no_members)) ≡ 123 ∷ (string_text k ++ 58 ∷ (compact_text a ++ 125 ∷ []))
 one_member k a = simp (append_assoc, append-nil) refl
 
 two_members : (k l : List ℕ) (a b : Json) → slice_cmp nat_cmp l k ≡ Greater

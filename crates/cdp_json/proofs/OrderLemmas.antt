@@ -21,7 +21,8 @@ match_map f Less x y ys zs ws e = refl
 match_map f Equal x y ys zs ws e = ap (λ r. f y ∷ r) e
 match_map f Greater x y ys zs ws e = ap (λ r. f y ∷ r) e
 
-insert_by-map : {A B : Type 0} (f : A → B) (key : B → List ℕ) (x : A) (ys : List A) → insert_by key (f x) (map f ys) ≡ map f (insert_by (λ a. key (f a)) x ys)
+insert_by-map : {A B : Type 0} (f : A → B) (key : B → List ℕ) (x : A) (ys : List A)
+    → insert_by key (f x) (map f ys) ≡ map f (insert_by (λ a. key (f a)) x ys)
 insert_by-map f key x [] = refl
 insert_by-map f key x (y ∷ ys) = match_map f (slice_cmp nat_cmp (key (f x)) (key (f y))) x y ys (insert_by (λ a. key (f a)) x ys) (insert_by key (f x) (map f ys)) (insert_by-map f key x ys)
 
@@ -31,13 +32,16 @@ ordered_onto f key done [] = refl
 ordered_onto f key done (x ∷ xs) =
     ap (λ ys. fold (λ ys y. insert_by key y ys) ys (map f xs)) (insert_by-map f key x done) ∙ ordered_onto f key (insert_by (λ a. key (f a)) x done) xs
 
-pub in_order-map : {A B : Type 0} (f : A → B) (key : B → List ℕ) (xs : List A) → in_order key (map f xs) ≡ map f (in_order (λ a. key (f a)) xs)
+pub in_order-map : {A B : Type 0} (f : A → B) (key : B → List ℕ) (xs : List A)
+    → in_order key (map f xs) ≡ map f (in_order (λ a. key (f a)) xs)
 in_order-map f key xs = ordered_onto f key [] xs
 
 -- ---- places
 
 -- what stands at the places is the list
-pub at_places : {A : Type 0} (f : ℕ → A) (xs : List A) (a : ℕ) (d : A) → ((i : ℕ) → i < length xs → f (a + i) ≡ get_or xs i d) → map f (range_with_len a (length xs)) ≡ xs
+pub at_places : {A : Type 0} (f : ℕ → A) (xs : List A) (a : ℕ) (d : A)
+    → ((i : ℕ) → i < length xs → f (a + i) ≡ get_or xs i d)
+    → map f (range_with_len a (length xs)) ≡ xs
 at_places f [] a d h = refl
 at_places f (x ∷ xs) a d h =
     ap (λ y. y ∷ map f (range_with_len (a + 1) (length xs))) (ap f (omega arith) ∙ h 0 (omega arith))
@@ -81,7 +85,8 @@ range-more : (a n : ℕ) → range_with_len a (suc n) ≡ range_with_len a n ++ 
 range-more a zero = ap (λ i. i ∷ []) (omega arith)
 range-more a (suc n) = ap (λ is. a ∷ is) (range-more (a + 1) n ∙ ap (λ i. range_with_len (a + 1) n ++ i ∷ []) (omega arith))
 
-pub in_order-place : (key : ℕ → List ℕ) (n : ℕ) → in_order key (range_with_len 0 (n + 1)) ≡ insert_by key n (in_order key (range_with_len 0 n))
+pub in_order-place : (key : ℕ → List ℕ) (n : ℕ)
+    → in_order key (range_with_len 0 (n + 1)) ≡ insert_by key n (in_order key (range_with_len 0 n))
 in_order-place key n =
     let next : n + 1 ≡ suc n = omega arith in
     let last : 0 + n ≡ n = omega arith in
@@ -90,7 +95,9 @@ in_order-place key n =
     ∙ fold-append (λ done x. insert_by key x done) [] (range_with_len 0 n) ((0 + n) ∷ [])
     ∙ ap (λ i. insert_by key i (in_order key (range_with_len 0 n))) last
 
-pub places_below : (keys : List (List ℕ)) (n : ℕ) (xs : List (Bor (List ℕ) × ℕ)) → Placed keys n xs → All (λ place. place < n) (map (λ x. x.1) xs)
+pub places_below : (keys : List (List ℕ)) (n : ℕ) (xs : List (Bor (List ℕ) × ℕ))
+    → Placed keys n xs
+    → All (λ place. place < n) (map (λ x. x.1) xs)
 places_below keys n [] all k d lt = omega (arith, lt)
 places_below keys n (x ∷ xs) all zero d lt = (all 0 x (omega arith)).1
 places_below keys n (x ∷ xs) all (suc k) d lt = places_below keys n xs (λ i e l. all (suc i) e (omega (arith, l))) k d (omega (arith, lt))
@@ -98,16 +105,23 @@ places_below keys n (x ∷ xs) all (suc k) d lt = places_below keys n xs (λ i e
 -- ---- keys that ascend
 
 -- the test of two texts
-pub greater : (xs ys : List ℕ) → is_some_and is_gt (slice_partial_cmp (λ x y. Some (nat_cmp x y)) xs ys) ≡ is_gt (slice_cmp nat_cmp xs ys)
+pub greater : (xs ys : List ℕ)
+    → is_some_and is_gt (slice_partial_cmp (λ x y. Some (nat_cmp x y)) xs ys) ≡ is_gt (slice_cmp nat_cmp xs ys)
 greater xs ys = ap (is_some_and is_gt) (lists_agrees (λ x y. refl) xs ys)
 
-pub falls : (key next : List ℕ) (keys : List (List ℕ)) → is_gt (slice_cmp nat_cmp key next) ≡ true → ascends (key ∷ next ∷ keys) ≡ false
+pub falls : (key next : List ℕ) (keys : List (List ℕ))
+    → is_gt (slice_cmp nat_cmp key next) ≡ true
+    → ascends (key ∷ next ∷ keys) ≡ false
 falls key next keys h = ap (λ b. not b && ascends (next ∷ keys)) h
 
-pub rises : (key next : List ℕ) (keys : List (List ℕ)) → is_gt (slice_cmp nat_cmp key next) ≡ false → ascends (key ∷ next ∷ keys) ≡ ascends (next ∷ keys)
+pub rises : (key next : List ℕ) (keys : List (List ℕ))
+    → is_gt (slice_cmp nat_cmp key next) ≡ false
+    → ascends (key ∷ next ∷ keys) ≡ ascends (next ∷ keys)
 rises key next keys h = ap (λ b. not b && ascends (next ∷ keys)) h
 
-pub only-one : {A : Type 0} (f : A → List ℕ) (key : List ℕ) (xs : List A) → length xs ≡ 0 → ascends (key ∷ map f xs) ≡ true
+pub only-one : {A : Type 0} (f : A → List ℕ) (key : List ℕ) (xs : List A)
+    → length xs ≡ 0
+    → ascends (key ∷ map f xs) ≡ true
 only-one f key [] h = refl
 only-one f key (x ∷ xs) h = absurd (omega (arith, h))
 

@@ -43,20 +43,32 @@ abbrev Each : (Json → Type 0) → List Pair → Type 0
 Each P = AllByRecursion (λ m. P m.1)
 
 each_match : {A : Type 0} (P : A → Type 0) (o : Ordering) (x y : A) (ys zs : List A)
-    → P x → P y → AllByRecursion P ys → AllByRecursion P zs → AllByRecursion P (match_ordering o (x ∷ y ∷ ys) (y ∷ zs) (y ∷ zs))
+    → P x
+    → P y
+    → AllByRecursion P ys
+    → AllByRecursion P zs
+    → AllByRecursion P (match_ordering o (x ∷ y ∷ ys) (y ∷ zs) (y ∷ zs))
 each_match P Less x y ys zs px py pys pzs = (px, (py, pys))
 each_match P Equal x y ys zs px py pys pzs = (py, pzs)
 each_match P Greater x y ys zs px py pys pzs = (py, pzs)
 
-pub each_insert : {A : Type 0} (P : A → Type 0) (key : A → List ℕ) (x : A) (ys : List A) → P x → AllByRecursion P ys → AllByRecursion P (insert_by key x ys)
+pub each_insert : {A : Type 0} (P : A → Type 0) (key : A → List ℕ) (x : A) (ys : List A)
+    → P x
+    → AllByRecursion P ys
+    → AllByRecursion P (insert_by key x ys)
 each_insert P key x [] px h = (px, tt)
 each_insert P key x (y ∷ ys) px h = each_match P (slice_cmp nat_cmp (key x) (key y)) x y ys (insert_by key x ys) px h.0 h.1 (each_insert P key x ys px h.1)
 
-each_onto : {A : Type 0} (P : A → Type 0) (key : A → List ℕ) (done xs : List A) → AllByRecursion P done → AllByRecursion P xs → AllByRecursion P (fold (λ ys y. insert_by key y ys) done xs)
+each_onto : {A : Type 0} (P : A → Type 0) (key : A → List ℕ) (done xs : List A)
+    → AllByRecursion P done
+    → AllByRecursion P xs
+    → AllByRecursion P (fold (λ ys y. insert_by key y ys) done xs)
 each_onto P key done [] d h = d
 each_onto P key done (x ∷ xs) d h = each_onto P key (insert_by key x done) xs (each_insert P key x done h.0 d) h.1
 
-each_in_order : {A : Type 0} (P : A → Type 0) (key : A → List ℕ) (xs : List A) → AllByRecursion P xs → AllByRecursion P (in_order key xs)
+each_in_order : {A : Type 0} (P : A → Type 0) (key : A → List ℕ) (xs : List A)
+    → AllByRecursion P xs
+    → AllByRecursion P (in_order key xs)
 each_in_order P key xs h = each_onto P key [] xs tt h
 
 -- ---- a value with its members as they are listed
@@ -112,7 +124,9 @@ members_first : (qs : List Pair) → Each Writes qs
 members_first [] h = refl
 members_first (q ∷ qs) h = one_member (string_text q.0) _ _ _ _ h.0 (members_behind qs h.1)
 
-members_written : (ms : Members) → Each Writes (pairs ms) → compact_text (object ms) ≡ written.compact_text (listed (ordered (object ms)))
+members_written : (ms : Members)
+    → Each Writes (pairs ms)
+    → compact_text (object ms) ≡ written.compact_text (listed (ordered (object ms)))
 members_written ms h =
     let key : Pair → List ℕ = λ m. m.0 in
     let texts = ap (in_order (λ m. m.0)) (texts_of ms) ∙ in_order-map with_text (λ m. m.0) (pairs ms) in
@@ -139,11 +153,13 @@ mutual
   value_written (list js) = ap (λ s. 91 ∷ s) (items_first js)
   value_written (object ms) = members_written ms (each_written ms)
 
-  items_first : (js : Items) → with_commas (item_texts js) ++ 93 ∷ [] ≡ written.items_text false (listed_items (ordered_items js))
+  items_first : (js : Items)
+      → with_commas (item_texts js) ++ 93 ∷ [] ≡ written.items_text false (listed_items (ordered_items js))
   items_first no_items = refl
   items_first (item j js) = one_item _ _ _ _ (value_written j) (items_behind js)
 
-  items_behind : (js : Items) → behind_commas (item_texts js) ++ 93 ∷ [] ≡ written.items_text true (listed_items (ordered_items js))
+  items_behind : (js : Items)
+      → behind_commas (item_texts js) ++ 93 ∷ [] ≡ written.items_text true (listed_items (ordered_items js))
   items_behind no_items = refl
   items_behind (item j js) = ap (λ s. 44 ∷ s) (one_item _ _ _ _ (value_written j) (items_behind js))
 
@@ -218,7 +234,9 @@ mutual
       ap (option_and_then (λ d. option_map (values.item d) (of_items (items_outline (listed_items js))))) (value_read j h.0)
       ∙ ap (option_map (values.item (data_of j))) (items_read js h.1)
 
-  members_read : (ms : Members) (found : values.Members) → MembersFit ms → of_members (members_outline (listed_members ms)) found ≡ Some (members_data ms found)
+  members_read : (ms : Members) (found : values.Members)
+      → MembersFit ms
+      → of_members (members_outline (listed_members ms)) found ≡ Some (members_data ms found)
   members_read no_members found h = refl
   members_read (member k j ms) found h =
       ap (option_and_then (λ d. of_members (members_outline (listed_members ms)) (put (utf8_of k) d found))) (value_read j h.0)

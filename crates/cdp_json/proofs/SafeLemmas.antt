@@ -27,7 +27,8 @@ module _ {A B : Type 0} (put : A → B → B) where
   one_more (x ∷ xs) a b = ap (put x) (one_more xs a b)
 
   -- one part more, where what is behind it may be refused
-  pub more : (done : List A) (a : A) (o : Option B) → option_map (onto done) (both put (Some a) o) ≡ option_map (onto (done ++ a ∷ [])) o
+  pub more : (done : List A) (a : A) (o : Option B)
+      → option_map (onto done) (both put (Some a) o) ≡ option_map (onto (done ++ a ∷ [])) o
   more done a None = refl
   more done a (Some b) = ap Some (one_more done a b)
 
@@ -44,7 +45,10 @@ all_items (j ∷ js) = ap (json.item j) (all_items js)
 abbrev pub items_behind : List Json → List Value → Option json.Items
 items_behind done left = option_map (with_items (map json_view done)) (safe_items_of (items_view left))
 
-pub items_more : (vs : List Value) (i : ℕ) (v : Value) (old new : List Json) (j : Json) → i < length vs → Some (json_view j) ≡ safe_value_of (view (get_or vs i v)) → new ≡ old ++ j ∷ []
+pub items_more : (vs : List Value) (i : ℕ) (v : Value) (old new : List Json) (j : Json)
+    → i < length vs
+    → Some (json_view j) ≡ safe_value_of (view (get_or vs i v))
+    → new ≡ old ++ j ∷ []
     → items_behind new (drop (i + 1) vs) ≡ items_behind old (drop i vs)
 items_more vs i v old new j lt is pushed =
     sym (ap (items_behind old) (drop_more vs i v lt)
@@ -52,7 +56,9 @@ items_more vs i v old new j lt is pushed =
     ∙ more json.item (map json_view old) (json_view j) (safe_items_of (items_view (drop (i + 1) vs)))
     ∙ ap (λ js. option_map (with_items js) (safe_items_of (items_view (drop (i + 1) vs)))) (sym (ap (map json_view) pushed ∙ map-append json_view old (j ∷ []))))
 
-pub items_all : (vs : List Value) (i : ℕ) (done : List Json) → length vs ≤ i → Some (items_of (map json_view done)) ≡ items_behind done (drop i vs)
+pub items_all : (vs : List Value) (i : ℕ) (done : List Json)
+    → length vs ≤ i
+    → Some (items_of (map json_view done)) ≡ items_behind done (drop i vs)
 items_all vs i done le = sym (ap (items_behind done) (drop_all i vs le) ∙ ap Some (all_items (map json_view done)))
 
 -- ---- the members of an object
@@ -73,7 +79,8 @@ all_members : (done : List Pair) → with_members done json.no_members ≡ membe
 all_members [] = refl
 all_members (m ∷ ms) = ap (put_pair m) (all_members ms)
 
-member_more : (done : List Pair) (k : List ℕ) (j : json.Json) (o : Option json.Members) → option_map (with_members done) (both (json.member k) (Some j) o) ≡ option_map (with_members (done ++ (k, j) ∷ [])) o
+member_more : (done : List Pair) (k : List ℕ) (j : json.Json) (o : Option json.Members)
+    → option_map (with_members done) (both (json.member k) (Some j) o) ≡ option_map (with_members (done ++ (k, j) ∷ [])) o
 member_more done k j None = refl
 member_more done k j (Some ms) = more put_pair done (k, j) (Some ms)
 
@@ -81,7 +88,10 @@ member_more done k j (Some ms) = more put_pair done (k, j) (Some ms)
 abbrev pub members_behind : List Member → List Entry → Option json.Members
 members_behind done left = option_map (with_members (map member_view done)) (safe_members_of (members_view left))
 
-pub members_more : (e : Entry) (left : List Entry) (old new : List Member) (m : Member) (j : Json) → Some (json_view j) ≡ safe_value_of (view e.1) → member_view m ≡ (utf16_of (string_bytes e.0), json_view j) → new ≡ old ++ m ∷ []
+pub members_more : (e : Entry) (left : List Entry) (old new : List Member) (m : Member) (j : Json)
+    → Some (json_view j) ≡ safe_value_of (view e.1)
+    → member_view m ≡ (utf16_of (string_bytes e.0), json_view j)
+    → new ≡ old ++ m ∷ []
     → members_behind new left ≡ members_behind old (e ∷ left)
 members_more e left old new m j is named pushed =
     sym (ap (λ o. option_map (with_members (map member_view old)) (both (json.member (utf16_of (string_bytes e.0))) o (safe_members_of (members_view left)))) (sym is)
@@ -105,7 +115,10 @@ all_arguments (a ∷ rest) = ap (λ xs. a ∷ xs) (all_arguments rest)
 abbrev pub arguments_behind : List Argument → List Value → Option (List arguments.Argument)
 arguments_behind done left = option_map (with_arguments (map argument_view done)) (arguments_from (items_view left))
 
-pub arguments_more : (vs : List Value) (i : ℕ) (v : Value) (old new : List Argument) (a : Argument) → i < length vs → Some (argument_view a) ≡ argument_of (view (get_or vs i v)) → new ≡ old ++ a ∷ []
+pub arguments_more : (vs : List Value) (i : ℕ) (v : Value) (old new : List Argument) (a : Argument)
+    → i < length vs
+    → Some (argument_view a) ≡ argument_of (view (get_or vs i v))
+    → new ≡ old ++ a ∷ []
     → arguments_behind new (drop (i + 1) vs) ≡ arguments_behind old (drop i vs)
 arguments_more vs i v old new a lt is pushed =
     sym (ap (arguments_behind old) (drop_more vs i v lt)
@@ -113,5 +126,7 @@ arguments_more vs i v old new a lt is pushed =
     ∙ more ◌∷◌ (map argument_view old) (argument_view a) (arguments_from (items_view (drop (i + 1) vs)))
     ∙ ap (λ xs. option_map (with_arguments xs) (arguments_from (items_view (drop (i + 1) vs)))) (sym (ap (map argument_view) pushed ∙ map-append argument_view old (a ∷ []))))
 
-pub arguments_all : (vs : List Value) (i : ℕ) (done : List Argument) → length vs ≤ i → Some (map argument_view done) ≡ arguments_behind done (drop i vs)
+pub arguments_all : (vs : List Value) (i : ℕ) (done : List Argument)
+    → length vs ≤ i
+    → Some (map argument_view done) ≡ arguments_behind done (drop i vs)
 arguments_all vs i done le = sym (ap (arguments_behind done) (drop_all i vs le) ∙ ap Some (all_arguments (map argument_view done)))

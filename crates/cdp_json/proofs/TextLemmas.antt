@@ -23,7 +23,8 @@ behind_commas-more (u ∷ us) t = ap (λ s. 44 ∷ (u ++ s)) (behind_commas-more
 comma_needed : (n : ℕ) → 0 < n → comma_before n ≡ 44 ∷ []
 comma_needed n lt = rw (lt-ltb 0 n lt) refl
 
-pub with_commas-more : (ts : List (List ℕ)) (t : List ℕ) → with_commas (ts ++ t ∷ []) ≡ with_commas ts ++ (comma_before (length ts) ++ t)
+pub with_commas-more : (ts : List (List ℕ)) (t : List ℕ)
+    → with_commas (ts ++ t ∷ []) ≡ with_commas ts ++ (comma_before (length ts) ++ t)
 with_commas-more [] t = append-nil t
 with_commas-more (u ∷ us) t =
     ap (λ s. u ++ s) (behind_commas-more us t) ∙ sym (append_assoc u (behind_commas us) (44 ∷ t))
@@ -80,27 +81,37 @@ member_texts-view [] = refl
 member_texts-view (m ∷ ms) = rw (member_parts m) (ap (λ ts. pair_of m ∷ ts) (member_texts-view ms))
 
 -- what stands at a place
-pub at_place : (ms : List Member) (place : ℕ) (m : Member) → place < length ms → m ≡ get_or ms place m → text_at ms place ≡ member_text (pair_of m)
+pub at_place : (ms : List Member) (place : ℕ) (m : Member)
+    → place < length ms
+    → m ≡ get_or ms place m
+    → text_at ms place ≡ member_text (pair_of m)
 at_place ms place m lt is =
     ap (λ k. member_text (k, get_or (map (λ m. text_of_item m.value) ms) place [])) (get_or-map (λ m. m.key) ms place m [] lt ∙ ap (λ m. m.key) (sym is))
     ∙ ap (λ t. member_text (m.key, t)) (get_or-map (λ m. text_of_item m.value) ms place m [] lt ∙ ap (λ m. text_of_item m.value) (sym is))
 
-pair_there : (ms : List Member) (i : ℕ) → i < length (map pair_of ms) → pair_at ms i ≡ get_or (map pair_of ms) i ([], [])
+pair_there : (ms : List Member) (i : ℕ)
+    → i < length (map pair_of ms)
+    → pair_at ms i ≡ get_or (map pair_of ms) i ([], [])
 pair_there [] i lt = refl
 pair_there (m ∷ ms) zero lt = refl
 pair_there (m ∷ ms) (suc i) lt = pair_there ms i (omega (arith, lt))
 
-pub members_in_order : (ms : List Member) → in_order (λ p. p.0) (member_texts (members_view ms)) ≡ map (pair_at ms) (order_of (map (λ m. m.key) ms))
+pub members_in_order : (ms : List Member)
+    → in_order (λ p. p.0) (member_texts (members_view ms)) ≡ map (pair_at ms) (order_of (map (λ m. m.key) ms))
 members_in_order ms =
     ap (in_order (λ p. p.0)) (member_texts-view ms ∙ sym (at_places (pair_at ms) (map pair_of ms) 0 ([], []) (λ i lt. ap (pair_at ms) (omega arith) ∙ pair_there ms i lt)))
     ∙ in_order-map (pair_at ms) (λ p. p.0) (range_with_len 0 (length (map pair_of ms)))
     ∙ ap (λ n. map (pair_at ms) (in_order (key_at (map (λ m. m.key) ms)) (range_with_len 0 n))) (length-map ms pair_of ∙ sym (length-map ms (λ m. m.key)))
 
 -- the texts of the places, in order, are those of the members
-pub all_members : (ms : List Member) → with_commas (map (text_at ms) (order_of (map (λ m. m.key) ms))) ≡ members_text (members_view ms)
+pub all_members : (ms : List Member)
+    → with_commas (map (text_at ms) (order_of (map (λ m. m.key) ms))) ≡ members_text (members_view ms)
 all_members ms = ap with_commas (sym (map-map member_text (pair_at ms) (order_of (map (λ m. m.key) ms))) ∙ ap (map member_text) (sym (members_in_order ms)))
 
 -- a member is its key with a colon, and its value
-pub member_pieces : (mid key new : List ℕ) (m : Member) → key ≡ (mid ++ string_text m.key) ++ 58 ∷ [] → new ≡ key ++ compact_text (json_view m.value) → new ≡ mid ++ member_text (pair_of m)
+pub member_pieces : (mid key new : List ℕ) (m : Member)
+    → key ≡ (mid ++ string_text m.key) ++ 58 ∷ []
+    → new ≡ key ++ compact_text (json_view m.value)
+    → new ≡ mid ++ member_text (pair_of m)
 member_pieces mid key new m is last =
     last ∙ ap (λ s. s ++ text_of_item m.value) is ∙ append_assoc (mid ++ string_text m.key) (58 ∷ []) (text_of_item m.value) ∙ append_assoc mid (string_text m.key) (58 ∷ text_of_item m.value)

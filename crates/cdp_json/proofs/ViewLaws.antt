@@ -47,7 +47,8 @@ pub list_items : (l : JsonList) → list_view l ≡ items_view l.items.items
 unfolding json_view list_view object_view member_view
 list_items l = fold_out-JsonList json.Json json.Items json.Members Pair json_layer list_layer object_layer member_layer l
 
-pub view_object : (members : Vec Member) → object_view (views.roll-JsonObject (record { members = members })) ≡ members_view members.items
+pub view_object : (members : Vec Member)
+    → object_view (views.roll-JsonObject (record { members = members })) ≡ members_view members.items
 unfolding json_view list_view object_view member_view
 view_object members = fold-roll-JsonObject json.Json json.Items json.Members Pair json_layer list_layer object_layer member_layer (record { members = members })
 
@@ -55,7 +56,8 @@ pub object_members : (o : JsonObject) → object_view o ≡ members_view (views.
 unfolding json_view list_view object_view member_view
 object_members o = fold_out-JsonObject json.Json json.Items json.Members Pair json_layer list_layer object_layer member_layer o
 
-pub view_member : (k : List ℕ) (v : Json) → member_view (views.roll-Member (record { key = k; value = v })) ≡ (k, json_view v)
+pub view_member : (k : List ℕ) (v : Json)
+    → member_view (views.roll-Member (record { key = k; value = v })) ≡ (k, json_view v)
 unfolding json_view list_view object_view member_view
 view_member k v = fold-roll-Member json.Json json.Items json.Members Pair json_layer list_layer object_layer member_layer (record { key = k; value = v })
 

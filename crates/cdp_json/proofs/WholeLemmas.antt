@@ -18,8 +18,12 @@ abbrev none_lone : List (Option ℕ) → Bool
 none_lone cs = list_any (λ o. not (is_some o)) cs
 
 -- a unit that is no surrogate spells itself
-lone_spelt : (t : Bool) (u : ℕ) (cs : List (Option ℕ)) (us : List ℕ) → (nat_le 0xD800 u && nat_lt u 0xE000) ≡ t → u < 2 ^ 16
-    → none_lone ((if t then None else Some u) ∷ cs) ≡ false → (none_lone cs ≡ false → Spelt cs us) → Spelt ((if t then None else Some u) ∷ cs) (u ∷ us)
+lone_spelt : (t : Bool) (u : ℕ) (cs : List (Option ℕ)) (us : List ℕ)
+    → (nat_le 0xD800 u && nat_lt u 0xE000) ≡ t
+    → u < 2 ^ 16
+    → none_lone ((if t then None else Some u) ∷ cs) ≡ false
+    → (none_lone cs ≡ false → Spelt cs us)
+    → Spelt ((if t then None else Some u) ∷ cs) (u ∷ us)
 lone_spelt true u cs us is small none later = cc
 lone_spelt false u cs us is small none later =
     let rest = later none in
@@ -27,13 +31,21 @@ lone_spelt false u cs us is small none later =
     (and_from (scalar u) _ ok rest.0, rw (lt-ltb u 0x1_0000 small) (ap (λ r. u ∷ r) rest.1))
 
 -- a pair spells its character
-pair_units : (h l : ℕ) → 0xD800 ≤ h → h < 0xDC00 → 0xDC00 ≤ l → l < 0xE000 → (scalar (surrogate_pair_char h l) ≡ true) × (encode_utf16 (surrogate_pair_char h l) ≡ h ∷ l ∷ [])
+pair_units : (h l : ℕ)
+    → 0xD800 ≤ h
+    → h < 0xDC00
+    → 0xDC00 ≤ l
+    → l < 0xE000
+    → (scalar (surrogate_pair_char h l) ≡ true) × (encode_utf16 (surrogate_pair_char h l) ≡ h ∷ l ∷ [])
 pair_units h l p q r s =
     let high : (surrogate_pair_char h l - 0x1_0000) / 0x400 ≡ h - 0xD800 = omega arith in
     let low : (surrogate_pair_char h l - 0x1_0000) % 0x400 ≡ l - 0xDC00 = omega arith in
     (grind (arith, nat_tests), rw (le-ltb (surrogate_pair_char h l) 0x1_0000 (omega arith)) (ap₂ (λ a b. a ∷ b ∷ []) (omega (arith, high)) (omega (arith, low))))
 
-pair_spelt : (h l : ℕ) (cs : List (Option ℕ)) (us : List ℕ) → (is_high_surrogate h && is_low_surrogate l) ≡ true → Spelt cs us → Spelt (Some (surrogate_pair_char h l) ∷ cs) (h ∷ l ∷ us)
+pair_spelt : (h l : ℕ) (cs : List (Option ℕ)) (us : List ℕ)
+    → (is_high_surrogate h && is_low_surrogate l) ≡ true
+    → Spelt cs us
+    → Spelt (Some (surrogate_pair_char h l) ∷ cs) (h ∷ l ∷ us)
 pair_spelt h l cs us is rest =
     let both = and_parts (is_high_surrogate h) (is_low_surrogate l) is in
     let first = and_parts (nat_le 0xD800 h) (nat_lt h 0xDC00) both.0 in
@@ -41,14 +53,19 @@ pair_spelt h l cs us is rest =
     let units = pair_units h l (leb-true 0xD800 h first.0) (ltb-true h 0xDC00 first.1) (leb-true 0xDC00 l second.0) (ltb-true l 0xE000 second.1) in
     (and_from (scalar (surrogate_pair_char h l)) _ units.0 rest.0, ap₂ (λ a b. a ++ b) units.1 rest.1)
 
-unit_or_pair : (t : Bool) (u v : ℕ) (ones twos : List (Option ℕ)) (us : List ℕ) → (is_high_surrogate u && is_low_surrogate v) ≡ t → u < 2 ^ 16
+unit_or_pair : (t : Bool) (u v : ℕ) (ones twos : List (Option ℕ)) (us : List ℕ)
+    → (is_high_surrogate u && is_low_surrogate v) ≡ t
+    → u < 2 ^ 16
     → none_lone (if t then Some (surrogate_pair_char u v) ∷ twos else lone_unit_char u ∷ ones) ≡ false
     → (none_lone twos ≡ false → Spelt twos us) → (none_lone ones ≡ false → Spelt ones (v ∷ us))
     → Spelt (if t then Some (surrogate_pair_char u v) ∷ twos else lone_unit_char u ∷ ones) (u ∷ v ∷ us)
 unit_or_pair true u v ones twos us is small none two one = pair_spelt u v twos us is (two none)
 unit_or_pair false u v ones twos us is small none two one = lone_spelt (nat_le 0xD800 u && nat_lt u 0xE000) u ones (v ∷ us) refl small none one
 
-spelt : (us : List ℕ) → AllByRecursion (λ u. u < 2 ^ 16) us → none_lone (utf16_chars us) ≡ false → Spelt (utf16_chars us) us
+spelt : (us : List ℕ)
+    → AllByRecursion (λ u. u < 2 ^ 16) us
+    → none_lone (utf16_chars us) ≡ false
+    → Spelt (utf16_chars us) us
 unfolding utf16_chars
 spelt [] small none = (refl, refl)
 spelt (u ∷ []) small none = lone_spelt (nat_le 0xD800 u && nat_lt u 0xE000) u [] [] refl small.0 none (λ e. (refl, refl))

@@ -8,7 +8,12 @@ use Rattle.cdp_json.specs.declared.flags.EvaluationFlags.{EvaluationFlags}
 use Rattle.cdp_json.specs.declared.params.FunctionCall.{FunctionCall}
 
 -- a call, where its function is there and all else is of its kind
-abbrev pub call_from : Option (List ℕ) → Option (Option (List ℕ)) → Option (List Argument) → Option (Option (List ℕ)) → Option EvaluationFlags → Option FunctionCall
+abbrev pub call_from : Option (List ℕ)
+    → Option (Option (List ℕ))
+    → Option (List Argument)
+    → Option (Option (List ℕ))
+    → Option EvaluationFlags
+    → Option FunctionCall
 call_from None id arguments group flags = None
 call_from (Some function) None arguments group flags = None
 call_from (Some function) (Some id) None group flags = None

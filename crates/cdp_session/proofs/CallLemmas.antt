@@ -41,16 +41,21 @@ use Rattle.cdp_session.specs.declared.showing.Showing.{Showing}
 abbrev pub behind : Session → List Passed → List Asked → Option (List Argument)
 behind x done left = option_map (λ rest. passed.arguments_of done ++ rest) (arguments_of x (map argument_view left))
 
-passed-append : (ps qs : List Passed) → passed.arguments_of (ps ++ qs) ≡ passed.arguments_of ps ++ passed.arguments_of qs
+passed-append : (ps qs : List Passed)
+    → passed.arguments_of (ps ++ qs) ≡ passed.arguments_of ps ++ passed.arguments_of qs
 passed-append [] qs = refl
 passed-append (p ∷ ps) qs = ap (λ xs. passed.argument_of p ∷ xs) (passed-append ps qs)
 
-behind-first : (first : List Argument) (a : Argument) (o : Option (List Argument)) → option_map (λ rest. first ++ rest) (both ◌∷◌ (Some a) o) ≡ option_map (λ rest. (first ++ a ∷ []) ++ rest) o
+behind-first : (first : List Argument) (a : Argument) (o : Option (List Argument))
+    → option_map (λ rest. first ++ rest) (both ◌∷◌ (Some a) o) ≡ option_map (λ rest. (first ++ a ∷ []) ++ rest) o
 behind-first first a None = refl
 behind-first first a (Some rest) = ap Some (sym (append_assoc first (a ∷ []) rest))
 
 -- one argument more
-behind-next : (x : Session) (done new : List Passed) (left : List Asked) (a : Asked) (p : Passed) → Some (passed.argument_of p) ≡ argument_of x (argument_view a) → new ≡ done ++ p ∷ [] → behind x new left ≡ behind x done (a ∷ left)
+behind-next : (x : Session) (done new : List Passed) (left : List Asked) (a : Asked) (p : Passed)
+    → Some (passed.argument_of p) ≡ argument_of x (argument_view a)
+    → new ≡ done ++ p ∷ []
+    → behind x new left ≡ behind x done (a ∷ left)
 behind-next x done new left a p is pushed =
     let rest = arguments_of x (map argument_view left) in
     ap (λ xs. option_map (λ r. passed.arguments_of xs ++ r) rest) pushed
@@ -58,12 +63,17 @@ behind-next x done new left a p is pushed =
     ∙ sym (behind-first (passed.arguments_of done) (passed.argument_of p) rest)
     ∙ ap (λ o. option_map (λ r. passed.arguments_of done ++ r) (both ◌∷◌ o rest)) is
 
-pub behind-more : (x : Session) (all : List Asked) (i : ℕ) (a : Asked) (done new : List Passed) (p : Passed) → i < length all → Some (passed.argument_of p) ≡ argument_of x (argument_view (get_or all i a)) → new ≡ done ++ p ∷ []
+pub behind-more : (x : Session) (all : List Asked) (i : ℕ) (a : Asked) (done new : List Passed) (p : Passed)
+    → i < length all
+    → Some (passed.argument_of p) ≡ argument_of x (argument_view (get_or all i a))
+    → new ≡ done ++ p ∷ []
     → behind x new (drop (i + 1) all) ≡ behind x done (drop i all)
 behind-more x all i a done new p lt is pushed = behind-next x done new (drop (i + 1) all) (get_or all i a) p is pushed ∙ sym (ap (behind x done) (drop_more all i a lt))
 
 -- where none is left, those that were read are all
-pub behind-all : (x : Session) (all : List Asked) (i : ℕ) (done : List Passed) → length all ≤ i → Some (passed.arguments_of done) ≡ behind x done (drop i all)
+pub behind-all : (x : Session) (all : List Asked) (i : ℕ) (done : List Passed)
+    → length all ≤ i
+    → Some (passed.arguments_of done) ≡ behind x done (drop i all)
 behind-all x all i done le = ap Some (sym (append-nil (passed.arguments_of done))) ∙ sym (ap (behind x done) (drop_all i all le))
 
 -- ---- calls
@@ -78,7 +88,9 @@ called-from w x receiver arguments f at p end o n is place ready says =
     (says f (subst (λ b. IsPreparedFunction b f p) place ready))
 
 pub text-called : (s : Situation) (x : Session) (receiver : Value) (arguments : List Argument) (how : Showing) (source : List ℕ) (f : FunctionCode)
-    → function_of source ≡ Some (expression_view f.tree) → f.source ≡ source → numbered_made (expression_view f.tree) ≡ expression_source f.tree
+    → function_of source ≡ Some (expression_view f.tree)
+    → f.source ≡ source
+    → numbered_made (expression_view f.tree) ≡ expression_source f.tree
     → outcome_of_answer s x how (expression_source f.tree) (definition x.workspace.program s.standing.world x.workspace.scratch f receiver arguments)
     ≡ outcome_of_function s x receiver arguments how source (function_of source)
 text-called s x receiver arguments how source f tree same made =
@@ -88,12 +100,16 @@ text-called s x receiver arguments how source f tree same made =
     ∙ sym (ap (outcome_of_function s x receiver arguments how source) tree)
 
 refused : (s : Situation) (x : Session) (receiver : Value) (arguments : List Argument) (how : Showing) (source : List ℕ) (result : Result Held Fault) (new : Session)
-    → function_of source ≡ None → Makes result new (row_of (no_expression x)) → Makes result new (row_of (outcome_of_function s x receiver arguments how source (function_of source)))
+    → function_of source ≡ None
+    → Makes result new (row_of (no_expression x))
+    → Makes result new (row_of (outcome_of_function s x receiver arguments how source (function_of source)))
 refused s x receiver arguments how source result new none makes = subst (λ o. Makes result new (row_of (outcome_of_function s x receiver arguments how source o))) (sym none) makes
 
 -- a text that the parser refuses
 pub fault-called : (s : Situation) (x : Session) (receiver : Value) (arguments : List Argument) (how : Showing) (source : List ℕ) (f : ParseFault) (result : Result Held Fault) (new : Session)
-    → UnlessMemory (function_of source ≡ None) f → (f ≡ parse_faults.Memory → result ≡ Err faults.Memory) → Makes result new (row_of (no_expression x))
+    → UnlessMemory (function_of source ≡ None) f
+    → (f ≡ parse_faults.Memory → result ≡ Err faults.Memory)
+    → Makes result new (row_of (no_expression x))
     → Makes result new (row_of (outcome_of_function s x receiver arguments how source (function_of source)))
 fault-called s x receiver arguments how source parse_faults.Memory result new none memory makes =
     subst (λ r. Makes r new (row_of (outcome_of_function s x receiver arguments how source (function_of source)))) (sym (memory refl)) tt

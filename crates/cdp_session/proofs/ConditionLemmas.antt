@@ -38,7 +38,9 @@ refused-for P (parse_faults.TooLong units) says some = says
 refused-for P parse_faults.TooDeep says some = says
 
 -- a condition holds where the expression to which it was parsed does
-parsed_holds : (s : Standing) (w : Workspace) (text : List ℕ) (e : Expression) → IsParsedTo text e → expression_holds s w e ≡ holds s w text
+parsed_holds : (s : Standing) (w : Workspace) (text : List ℕ) (e : Expression)
+    → IsParsedTo text e
+    → expression_holds s w e ≡ holds s w text
 unfolding holds
 parsed_holds s w text e p =
     let f : List ℕ → Source → Bool = λ t m. comes_true s.world (evaluate w.program s.world w.scratch (top_scope s.frames) (top_this s.frames) t (source_literals e.tree) m) in
@@ -47,7 +49,11 @@ parsed_holds s w text e p =
     ∙ ap (f text) (sym made)
     ∙ sym (ap (tree_holds s w text) p.tree)
 
-pub some-holds : (s : Standing) (w : Workspace) (text now : List ℕ) (o : Option Expression) (e : Expression) → IsParsed text o → o ≡ Some e → text ≡ now → expression_holds s w e ≡ holds s w now
+pub some-holds : (s : Standing) (w : Workspace) (text now : List ℕ) (o : Option Expression) (e : Expression)
+    → IsParsed text o
+    → o ≡ Some e
+    → text ≡ now
+    → expression_holds s w e ≡ holds s w now
 some-holds s w text now o e p is same = parsed_holds s w text e (subst (IsParsed text) is p) ∙ ap (holds s w) same
 
 none_holds : (s : Standing) (w : Workspace) (text : List ℕ) → expression_of text ≡ None → false ≡ holds s w text
@@ -55,7 +61,11 @@ unfolding holds
 none_holds s w text none = sym (ap (tree_holds s w text) none)
 
 -- where it is no expression it never holds
-pub none-holds : (s : Standing) (w : Workspace) (text now : List ℕ) (o : Option Expression) → IsParsed text o → o ≡ None → text ≡ now → false ≡ holds s w now
+pub none-holds : (s : Standing) (w : Workspace) (text now : List ℕ) (o : Option Expression)
+    → IsParsed text o
+    → o ≡ None
+    → text ≡ now
+    → false ≡ holds s w now
 none-holds s w text now o p is same = none_holds s w text (subst (IsParsed text) is p) ∙ ap (holds s w) same
 
 -- ---- evaluations

@@ -39,7 +39,10 @@ same_stays o n is = record { world = ap (λ k. k.world) is; before = ap (λ k. k
 behind_stays : (o n : Opened) (w : Workspace) → n ≡ record o { behind = w } → Stays o n
 behind_stays o n w is = record { world = ap (λ k. k.world) is; before = ap (λ k. k.before) is }
 
-pub stays : (a : Answer) (e : Source) (end : Evaluated) (o n : Opened) → is_memory end ≡ false → EvaluatesTo a e end o n → Stays o n
+pub stays : (a : Answer) (e : Source) (end : Evaluated) (o n : Opened)
+    → is_memory end ≡ false
+    → EvaluatesTo a e end o n
+    → Stays o n
 stays a e (ends.Value v) o n some to = behind_stays o n _ to.2
 stays a e (ends.Thrown v) o n some to = behind_stays o n _ to.2
 stays a e ends.Effect o n some to = same_stays o n to.1
@@ -48,7 +51,10 @@ stays a e ends.Spent o n some to = same_stays o n to.1
 stays a e ends.Memory o n some to = absurd cc
 
 -- the session that opened its workspace has it again
-again : (x : Session) (o n : Opened) (w : World) → o ≡ opened w x.workspace → Stays o n → with_workspace n.before (with_workspace no_workspace x) ≡ x
+again : (x : Session) (o n : Opened) (w : World)
+    → o ≡ opened w x.workspace
+    → Stays o n
+    → with_workspace n.before (with_workspace no_workspace x) ≡ x
 again x o n w is s = ap (λ k. with_workspace k (with_workspace no_workspace x)) (s.before ∙ ap (λ k. k.before) is)
 
 -- so it was opened as it is now opened anew
@@ -83,12 +89,15 @@ evaluated-from w x scope receiver ex at p end o n is place ready says =
 -- ---- texts
 
 -- a text that is no expression
-pub no-answer : (s : Situation) (x : Session) (scope : Addr) (receiver : Value) (how : Showing) (source : List ℕ) → expression_of source ≡ None
+pub no-answer : (s : Situation) (x : Session) (scope : Addr) (receiver : Value) (how : Showing) (source : List ℕ)
+    → expression_of source ≡ None
     → no_expression x ≡ outcome_of_tree s x scope receiver how source (expression_of source)
 no-answer s x scope receiver how source none = sym (ap (outcome_of_tree s x scope receiver how source) none)
 
 pub text-answer : (s : Situation) (x : Session) (scope : Addr) (receiver : Value) (how : Showing) (source : List ℕ) (ex : Expression)
-    → expression_of source ≡ Some (expression_view ex.tree) → ex.source ≡ source → numbered_made (expression_view ex.tree) ≡ expression_source ex.tree
+    → expression_of source ≡ Some (expression_view ex.tree)
+    → ex.source ≡ source
+    → numbered_made (expression_view ex.tree) ≡ expression_source ex.tree
     → outcome_of_answer s x how (expression_source ex.tree) (definition x.workspace.program s.standing.world x.workspace.scratch scope receiver ex)
     ≡ outcome_of_tree s x scope receiver how source (expression_of source)
 text-answer s x scope receiver how source ex tree same made =
@@ -98,12 +107,16 @@ text-answer s x scope receiver how source ex tree same made =
     ∙ sym (ap (outcome_of_tree s x scope receiver how source) tree)
 
 refused : (s : Situation) (x : Session) (scope : Addr) (receiver : Value) (how : Showing) (source : List ℕ) (result : Result Held Fault) (new : Session)
-    → expression_of source ≡ None → Makes result new (row_of (no_expression x)) → Makes result new (row_of (outcome_of_tree s x scope receiver how source (expression_of source)))
+    → expression_of source ≡ None
+    → Makes result new (row_of (no_expression x))
+    → Makes result new (row_of (outcome_of_tree s x scope receiver how source (expression_of source)))
 refused s x scope receiver how source result new none makes = subst (λ y. Makes result new (row_of y)) (no-answer s x scope receiver how source none) makes
 
 -- a text that the parser refuses
 pub fault-answer : (s : Situation) (x : Session) (scope : Addr) (receiver : Value) (how : Showing) (source : List ℕ) (f : ParseFault) (result : Result Held Fault) (new : Session)
-    → UnlessMemory (expression_of source ≡ None) f → (f ≡ parse_faults.Memory → result ≡ Err faults.Memory) → Makes result new (row_of (no_expression x))
+    → UnlessMemory (expression_of source ≡ None) f
+    → (f ≡ parse_faults.Memory → result ≡ Err faults.Memory)
+    → Makes result new (row_of (no_expression x))
     → Makes result new (row_of (outcome_of_tree s x scope receiver how source (expression_of source)))
 fault-answer s x scope receiver how source parse_faults.Memory result new none memory makes =
     subst (λ r. Makes r new (row_of (outcome_of_tree s x scope receiver how source (expression_of source)))) (sym (memory refl)) tt

@@ -45,7 +45,9 @@ step_keeps : (kind : StepKind) (o : Option Pause) (x : Session) → KeepsOutbox 
 step_keeps kind None x = tt
 step_keeps kind (Some at) x = refl
 
-script_keeps : (o : Option Script) (id : List ℕ) (f : Script → Row) (x : Session) → ((s : Script) → KeepsOutbox (f s) x) → KeepsOutbox (in_script o id f) x
+script_keeps : (o : Option Script) (id : List ℕ) (f : Script → Row) (x : Session)
+    → ((s : Script) → KeepsOutbox (f s) x)
+    → KeepsOutbox (in_script o id f) x
 script_keeps None id f x each = tt
 script_keeps (Some s) id f x each = each s
 
@@ -53,19 +55,23 @@ continue_keeps : (x : Session) (o : Option Place) → KeepsOutbox (continue_at x
 continue_keeps x None = tt
 continue_keeps x (Some place) = refl
 
-adds_keeps : (o : Option AddFault) (x : Session) (id : List ℕ) (condition : Option (List ℕ)) (places : List Place) (result : Json) → KeepsOutbox (adds o x id condition places result) x
+adds_keeps : (o : Option AddFault) (x : Session) (id : List ℕ) (condition : Option (List ℕ)) (places : List Place) (result : Json)
+    → KeepsOutbox (adds o x id condition places result) x
 adds_keeps None x id condition places result = refl
 adds_keeps (Some fault) x id condition places result = tt
 
-adds_at_keeps : (x : Session) (place : Place) (condition : Option (List ℕ)) (o : Option Place) → KeepsOutbox (adds_at x place condition o) x
+adds_at_keeps : (x : Session) (place : Place) (condition : Option (List ℕ)) (o : Option Place)
+    → KeepsOutbox (adds_at x place condition o) x
 adds_at_keeps x place condition None = tt
 adds_at_keeps x place condition (Some resolved) = adds_keeps _ x _ condition _ _
 
-pause_keeps : (o : Option Pause) (x : Session) → KeepsOutbox (does (if is_some o then x else with_rules (record x.rules { pause = true }) x)) x
+pause_keeps : (o : Option Pause) (x : Session)
+    → KeepsOutbox (does (if is_some o then x else with_rules (record x.rules { pause = true }) x)) x
 pause_keeps None x = refl
 pause_keeps (Some at) x = refl
 
-properties_keep : (s : Situation) (x : Session) (preview : Bool) (o : Option Handle) → KeepsOutbox (properties_of s x preview o) x
+properties_keep : (s : Situation) (x : Session) (preview : Bool) (o : Option Handle)
+    → KeepsOutbox (properties_of s x preview o) x
 properties_keep s x preview None = tt
 properties_keep s x preview (Some h) = refl
 
@@ -88,37 +94,48 @@ kept_outbox : (b : Bool) (e : Source) (w : World) (x : Session) → (kept_by b e
 kept_outbox true e w x = refl
 kept_outbox false e w x = refl
 
-answered_keeps : (result : Json → Json) (leaves : Session → Session) (x y : Session) (o : Option (Made Json)) → ((z : Session) → (leaves z).outbox ≡ z.outbox) → y.outbox ≡ x.outbox → LeavesOutbox (answered_by result leaves y o) x
+answered_keeps : (result : Json → Json) (leaves : Session → Session) (x y : Session) (o : Option (Made Json))
+    → ((z : Session) → (leaves z).outbox ≡ z.outbox)
+    → y.outbox ≡ x.outbox
+    → LeavesOutbox (answered_by result leaves y o) x
 answered_keeps result leaves x y None left same = tt
 answered_keeps result leaves x y (Some m) left same = left (with_handles m.handles y) ∙ same
 
-answer_keeps : (s : Situation) (x : Session) (how : Showing) (e : Source) (a : Answer) → LeavesOutbox (outcome_of_answer s x how e a) x
+answer_keeps : (s : Situation) (x : Session) (how : Showing) (e : Source) (a : Answer)
+    → LeavesOutbox (outcome_of_answer s x how e a) x
 answer_keeps s x how e (a_result v w) = answered_keeps value_result as_it_is x (behind_value x how e v w) (described s x how v w) (λ z. refl) (kept_outbox (keeps how v x.handles) e w x)
 answer_keeps s x how e (a_throw v w) = answered_keeps (thrown_result (with_exception x).exceptions) with_exception x (behind_value x how e v w) (described s x how v w) (λ z. refl) (kept_outbox (keeps how v x.handles) e w x)
 answer_keeps s x how e an_effect = refl
 answer_keeps s x how e (is_full_of what) = tt
 answer_keeps s x how e spent = tt
 
-tree_keeps : (s : Situation) (x : Session) (scope : Addr) (receiver : Value) (how : Showing) (source : List ℕ) (o : Option Expression) → LeavesOutbox (outcome_of_tree s x scope receiver how source o) x
+tree_keeps : (s : Situation) (x : Session) (scope : Addr) (receiver : Value) (how : Showing) (source : List ℕ) (o : Option Expression)
+    → LeavesOutbox (outcome_of_tree s x scope receiver how source o) x
 tree_keeps s x scope receiver how source None = refl
 tree_keeps s x scope receiver how source (Some e) = answer_keeps s x how _ _
 
-asked_keeps : (s : Situation) (x : Session) (b : Bool) (e : Evaluates) → LeavesOutbox e x → LeavesOutbox (if b then e else Stops refusals.NeedsNoSideEffect) x
+asked_keeps : (s : Situation) (x : Session) (b : Bool) (e : Evaluates)
+    → LeavesOutbox e x
+    → LeavesOutbox (if b then e else Stops refusals.NeedsNoSideEffect) x
 asked_keeps s x true e same = same
 asked_keeps s x false e same = tt
 
-evaluated_keeps : (s : Situation) (x : Session) (scope : Addr) (receiver : Value) (ev : Evaluation) → LeavesOutbox (evaluates_in s x scope receiver ev) x
+evaluated_keeps : (s : Situation) (x : Session) (scope : Addr) (receiver : Value) (ev : Evaluation)
+    → LeavesOutbox (evaluates_in s x scope receiver ev) x
 evaluated_keeps s x scope receiver ev = asked_keeps s x ev.throw_on_side_effect _ (tree_keeps s x scope receiver (showing_of ev) ev.expression (expression_of ev.expression))
 
-at_frame_keeps : (s : Situation) (x : Session) (o : Option ShownFrame) (ev : Evaluation) → LeavesOutbox (evaluates_at s x o ev) x
+at_frame_keeps : (s : Situation) (x : Session) (o : Option ShownFrame) (ev : Evaluation)
+    → LeavesOutbox (evaluates_at s x o ev) x
 at_frame_keeps s x None ev = tt
 at_frame_keeps s x (Some f) ev = evaluated_keeps s x _ _ ev
 
-function_keeps : (s : Situation) (x : Session) (receiver : Value) (arguments : List Argument) (how : Showing) (source : List ℕ) (o : Option Expression) → LeavesOutbox (outcome_of_function s x receiver arguments how source o) x
+function_keeps : (s : Situation) (x : Session) (receiver : Value) (arguments : List Argument) (how : Showing) (source : List ℕ) (o : Option Expression)
+    → LeavesOutbox (outcome_of_function s x receiver arguments how source o) x
 function_keeps s x receiver arguments how source None = refl
 function_keeps s x receiver arguments how source (Some f) = answer_keeps s x how _ _
 
-called_keeps : (s : Situation) (x : Session) (call : FunctionCall) (receiver : Option Value) (arguments : Option (List Argument)) → LeavesOutbox (calls_given s x call receiver arguments) x
+called_keeps : (s : Situation) (x : Session) (call : FunctionCall) (receiver : Option Value) (arguments : Option (List Argument))
+    → LeavesOutbox (calls_given s x call receiver arguments) x
 called_keeps s x call None arguments = tt
 called_keeps s x call (Some receiver) None = tt
 called_keeps s x call (Some receiver) (Some arguments) = asked_keeps s x call.throw_on_side_effect _ (function_keeps s x receiver arguments (showing_for x call) call.function_declaration (function_of call.function_declaration))
@@ -158,15 +175,19 @@ comes_keeps : (o : Option Refusal) (r : Row) (x : Session) → KeepsOutbox r x �
 comes_keeps None r x same = same
 comes_keeps (Some refusal) r x same = tt
 
-by_row : (id : ℕ) (r : Row) (x : Session) → KeepsOutbox r x → (answer_by x (outcome_by id r)).session.outbox ≡ x.outbox ++ answer_texts (outcome_by id r)
+by_row : (id : ℕ) (r : Row) (x : Session)
+    → KeepsOutbox r x
+    → (answer_by x (outcome_by id r)).session.outbox ≡ x.outbox ++ answer_texts (outcome_by id r)
 by_row id (Refuses refusal) x same = refl
 by_row id (Does done) x same = ap (λ texts. texts ++ answer_texts (IsDone id done)) same
 
-for_reading : (s : Situation) (x : Session) (r : Reading) → (answer_by x (outcome_for s x r)).session.outbox ≡ x.outbox ++ answer_texts (outcome_for s x r)
+for_reading : (s : Situation) (x : Session) (r : Reading)
+    → (answer_by x (outcome_for s x r)).session.outbox ≡ x.outbox ++ answer_texts (outcome_for s x r)
 for_reading s x (readings.Command id method ps) = by_row id (comes_to s x ps) x (comes_keeps (refusal_of s x ps) (row s x ps) x (row_keeps s x ps))
 for_reading s x (readings.Refused id refusal) = refl
 for_reading s x readings.Memory = refl
 
 -- the texts of an answer come behind those that wait
-pub answer-outbox : (s : Situation) (x : Session) (text : List ℕ) → (answer_of s x text).session.outbox ≡ x.outbox ++ answer_texts (outcome_of s x text)
+pub answer-outbox : (s : Situation) (x : Session) (text : List ℕ)
+    → (answer_of s x text).session.outbox ≡ x.outbox ++ answer_texts (outcome_of s x text)
 answer-outbox s x text = for_reading s x (reading_of (read text))

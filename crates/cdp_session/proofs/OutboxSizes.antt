@@ -67,7 +67,12 @@ outbox-none texts none =
     subst P (sym none) (record { counted = refl; fit = refl })
 
 -- one more waits, which fits
-pub outbox-more : (texts all : List (List ℕ)) (bytes size : ℕ) (text : List ℕ) → IsOutbox texts bytes → all ≡ texts ++ text ∷ [] → size ≡ length text → fits (texts ++ text ∷ []) ≡ true → IsOutbox all (bytes + size)
+pub outbox-more : (texts all : List (List ℕ)) (bytes size : ℕ) (text : List ℕ)
+    → IsOutbox texts bytes
+    → all ≡ texts ++ text ∷ []
+    → size ≡ length text
+    → fits (texts ++ text ∷ []) ≡ true
+    → IsOutbox all (bytes + size)
 outbox-more texts all bytes size text is pushed sized fit = record {
   counted =
       let e : bytes_of all ≡ bytes_of texts + (length text + 0) = ap bytes_of pushed ∙ bytes-append texts (text ∷ []) in
@@ -81,7 +86,11 @@ pub bytes-below : (texts : List (List ℕ)) (bytes : ℕ) → IsOutbox texts byt
 bytes-below texts bytes is = let both = fit-parts texts is.fit in let e = is.counted in omega (arith, both.1, e)
 
 -- nor with one more that fits
-pub bytes-more : (texts : List (List ℕ)) (bytes size : ℕ) (text : List ℕ) → IsOutbox texts bytes → size ≡ length text → fits (texts ++ text ∷ []) ≡ true → bytes + size ≤ most_bytes
+pub bytes-more : (texts : List (List ℕ)) (bytes size : ℕ) (text : List ℕ)
+    → IsOutbox texts bytes
+    → size ≡ length text
+    → fits (texts ++ text ∷ []) ≡ true
+    → bytes + size ≤ most_bytes
 bytes-more texts bytes size text is sized fit =
     let both = fit-parts (texts ++ text ∷ []) fit in
     let e : bytes_of (texts ++ text ∷ []) ≡ bytes_of texts + (length text + 0) = bytes-append texts (text ∷ []) in
@@ -93,7 +102,11 @@ room_by true small fit is few = sym is
 room_by false small fit is few = absurd cc
 
 -- where there aren't too many, one more fits where its bytes do
-pub room-few : (texts : List (List ℕ)) (bytes size : ℕ) (text : List ℕ) → IsOutbox texts bytes → length texts < most_texts → size ≡ length text → nat_le size (most_bytes - bytes) ≡ fits (texts ++ text ∷ [])
+pub room-few : (texts : List (List ℕ)) (bytes size : ℕ) (text : List ℕ)
+    → IsOutbox texts bytes
+    → length texts < most_texts
+    → size ≡ length text
+    → nat_le size (most_bytes - bytes) ≡ fits (texts ++ text ∷ [])
 unfolding fits
 room-few texts bytes size text is few sized =
     let all : List (List ℕ) = texts ++ text ∷ [] in
@@ -105,7 +118,10 @@ room-few texts bytes size text is few sized =
     room_by (nat_le (length all) most_texts) (nat_le size (most_bytes - bytes)) (fits all) (ap (λ b. nat_le (length all) most_texts && b) (sym same)) (le-leb (length all) most_texts (omega (arith, n, few)))
 
 -- one more than there may be doesn't
-pub room-full : (texts : List (List ℕ)) (text : List ℕ) (b : Bool) → b ≡ false → most_texts ≤ length texts → b ≡ fits (texts ++ text ∷ [])
+pub room-full : (texts : List (List ℕ)) (text : List ℕ) (b : Bool)
+    → b ≡ false
+    → most_texts ≤ length texts
+    → b ≡ fits (texts ++ text ∷ [])
 unfolding fits
 room-full texts text b full many =
     let all : List (List ℕ) = texts ++ text ∷ [] in

@@ -15,10 +15,14 @@ use Rattle.cdp_session.specs.Situations.{Standing}
 use Rattle.cdp_session.specs.Stops.{cause_of, may_be_hit, may_name}
 
 -- no breakpoint is hit where none stands
-pub none-hit : (s : Standing) (w : Workspace) (place : Place) (b : breakpoints.State) → is_hit place b ≡ false → is_some_hit (hits s w b (Some place)) ≡ false
+pub none-hit : (s : Standing) (w : Workspace) (place : Place) (b : breakpoints.State)
+    → is_hit place b ≡ false
+    → is_some_hit (hits s w b (Some place)) ≡ false
 none-hit s w place b never = ap (λ bs. is_some_hit (filter (is_met s w) bs)) (is_hit-none place b never)
 
-none-anywhere : (s : Standing) (w : Workspace) (o : Option Place) (b : breakpoints.State) → may_be_hit o b ≡ false → is_some_hit (hits s w b o) ≡ false
+none-anywhere : (s : Standing) (w : Workspace) (o : Option Place) (b : breakpoints.State)
+    → may_be_hit o b ≡ false
+    → is_some_hit (hits s w b o) ≡ false
 none-anywhere s w None b never = refl
 none-anywhere s w (Some place) b never = none-hit s w place b never
 
@@ -33,7 +37,10 @@ without_hit false true hit r a o never = absurd cc
 without_hit false false hit r a None never = refl
 without_hit false false hit r a (Some place) never = absurd cc
 
-fewer : (may hit : Bool) (r : Rules) (a : Arrival) → (may ≡ false → hit ≡ false) → is_some (first_cause r a may) ≡ false → is_some (first_cause r a hit) ≡ false
+fewer : (may hit : Bool) (r : Rules) (a : Arrival)
+    → (may ≡ false → hit ≡ false)
+    → is_some (first_cause r a may) ≡ false
+    → is_some (first_cause r a hit) ≡ false
 fewer true hit r a less never = without_hit (not r.enabled || r.skip) (stops_at_raise r.exceptions a.raised) hit r a a.place never
 fewer false hit r a less never = ap (λ b. is_some (first_cause r a b)) (less refl) ∙ never
 

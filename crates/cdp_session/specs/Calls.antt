@@ -80,7 +80,14 @@ answer_to s x receiver arguments source f =
     evaluate_call x.workspace.program s.standing.world x.workspace.scratch source (expression_literals f) (numbered_made f) receiver arguments
 
 -- of a text, by its tree, if it is a function
-abbrev pub outcome_of_function : Situation → Session → Value → List Argument → Showing → List ℕ → Option Expression → Evaluates
+abbrev pub outcome_of_function : Situation
+    → Session
+    → Value
+    → List Argument
+    → Showing
+    → List ℕ
+    → Option Expression
+    → Evaluates
 outcome_of_function s x receiver arguments how source None = no_expression x
 outcome_of_function s x receiver arguments how source (Some f) = outcome_of_answer s x how (numbered_made f) (answer_to s x receiver arguments source f)
 

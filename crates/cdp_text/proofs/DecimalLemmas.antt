@@ -20,7 +20,9 @@ digits_value_after-ge n [] = omega arith
 digits_value_after-ge n (digit ∷ digits) = omega (arith, digits_value_after-ge (n * 10 + digit_value digit) digits)
 
 -- digits that have come past the limit
-pub digits_number_past : (digits : List ℕ) (i n : ℕ) → i < length digits → digits_value_after 10 n (drop i digits) ≡ digits_value 10 digits
+pub digits_number_past : (digits : List ℕ) (i n : ℕ)
+    → i < length digits
+    → digits_value_after 10 n (drop i digits) ≡ digits_value 10 digits
     → 2 ^ 64 ≤ n * 10 + digit_value (get_or digits i 0) → digits_number digits ≡ None
 digits_number_past digits i n h e past =
     let step : digits_value_after 10 n (drop i digits) ≡ digits_value_after 10 (n * 10 + digit_value (get_or digits i 0)) (drop (i + 1) digits) = rw (drop_more digits i 0 h) refl in
@@ -66,11 +68,15 @@ decimal_value-decimal n h =
     rw (begins_shortest-decimal n h, digits_decimal own n h, digits_value-decimal own n h, small)
 
 -- what the value tells of the text
-pub shortest_from_value : (digits : List ℕ) (r : Option ℕ) → r ≡ decimal_value digits → IfSome r (λ n. digits ≡ decimal n)
+pub shortest_from_value : (digits : List ℕ) (r : Option ℕ)
+    → r ≡ decimal_value digits
+    → IfSome r (λ n. digits ≡ decimal n)
 shortest_from_value digits None e = tt
 shortest_from_value digits (Some n) e = (decimal_value-some digits n (sym e)).0
 
-pub none_from_value : (digits : List ℕ) (r : Option ℕ) → r ≡ decimal_value digits → IfNone r ((n : ℕ) → n < 2 ^ 64 → digits ≢ decimal n)
+pub none_from_value : (digits : List ℕ) (r : Option ℕ)
+    → r ≡ decimal_value digits
+    → IfNone r ((n : ℕ) → n < 2 ^ 64 → digits ≢ decimal n)
 none_from_value digits None e = λ n h same. let read = decimal_value-decimal n h in cc
 none_from_value digits (Some n) e = tt
 

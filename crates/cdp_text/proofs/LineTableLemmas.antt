@@ -20,7 +20,8 @@ not_false true e = refl
 not_false false e = sym e
 
 -- one more offset begins a line where its column is 0
-pub line_starts_below-more : (u : List ℕ) (n : ℕ) → line_starts_below u (n + 1) ≡ line_starts_below u n ++ cond (eqb (position u n).col 0) (n ∷ []) []
+pub line_starts_below-more : (u : List ℕ) (n : ℕ)
+    → line_starts_below u (n + 1) ≡ line_starts_below u n ++ cond (eqb (position u n).col 0) (n ∷ []) []
 line_starts_below-more u n =
     simp map-id at (filter_of_map_range_with_len_more (λ i. eqb (position u i).col 0) (λ i. i) 0 n n (omega arith))
 
@@ -42,7 +43,10 @@ AreStarts-zero u = record {
   placed = λ k l. let e : k ≡ 0 = omega arith in rw e refl;
 }
 
-AreStarts-push : (u : List ℕ) (n : ℕ) (starts : List ℕ) → AreStarts u n starts → position u (n + 1) ≡ record { line = (position u n).line + 1; col = 0 } → AreStarts u (n + 1) (starts ++ (n + 1) ∷ [])
+AreStarts-push : (u : List ℕ) (n : ℕ) (starts : List ℕ)
+    → AreStarts u n starts
+    → position u (n + 1) ≡ record { line = (position u n).line + 1; col = 0 }
+    → AreStarts u (n + 1) (starts ++ (n + 1) ∷ [])
 AreStarts-push u n starts h e =
     let long : length (starts ++ (n + 1) ∷ []) ≡ length starts + 1 = length-append starts ((n + 1) ∷ []) in
     record {
@@ -57,14 +61,19 @@ AreStarts-push u n starts h e =
       ];
     }
 
-AreStarts-stay : (u : List ℕ) (n : ℕ) (starts : List ℕ) → AreStarts u n starts → (position u (n + 1)).line ≡ (position u n).line → AreStarts u (n + 1) starts
+AreStarts-stay : (u : List ℕ) (n : ℕ) (starts : List ℕ)
+    → AreStarts u n starts
+    → (position u (n + 1)).line ≡ (position u n).line
+    → AreStarts u (n + 1) starts
 AreStarts-stay u n starts h e = record {
   counted = omega (arith, h.counted, e);
   within = λ k l. omega (arith, h.within k l);
   placed = h.placed;
 }
 
-AreStarts-more : (u : List ℕ) (n : ℕ) (starts : List ℕ) → AreStarts u n starts → AreStarts u (n + 1) (starts ++ cond (eqb (position u (n + 1)).col 0) ((n + 1) ∷ []) [])
+AreStarts-more : (u : List ℕ) (n : ℕ) (starts : List ℕ)
+    → AreStarts u n starts
+    → AreStarts u (n + 1) (starts ++ cond (eqb (position u (n + 1)).col 0) ((n + 1) ∷ []) [])
 AreStarts-more u n starts h =
     elim (cases_Bool (ends_line u n)) [
       | inl ends ↦ let e = position-end u n ends in rw e (AreStarts-push u n starts h e)
@@ -81,7 +90,13 @@ unfolding line_starts
 AreStarts-line_starts u = AreStarts-below u (length u)
 
 -- from a line's start up to the next line's, the line stays and the column counts the units
-pub position-from_start : (u : List ℕ) (n : ℕ) (starts : List ℕ) (k i : ℕ) → AreStarts u n starts → i ≤ n → k < length starts → get_or starts k 0 ≤ i → (k + 1 < length starts → i < get_or starts (k + 1) 0) → position u i ≡ record { line = k; col = i - get_or starts k 0 }
+pub position-from_start : (u : List ℕ) (n : ℕ) (starts : List ℕ) (k i : ℕ)
+    → AreStarts u n starts
+    → i ≤ n
+    → k < length starts
+    → get_or starts k 0 ≤ i
+    → (k + 1 < length starts → i < get_or starts (k + 1) 0)
+    → position u i ≡ record { line = k; col = i - get_or starts k 0 }
 position-from_start u n starts k i h in_text in_table from below =
     let start = get_or starts k 0 in
     let here = h.placed k in_table in
@@ -99,7 +114,12 @@ position-from_start u n starts k i h in_text in_table from below =
     absurd (⊎_elim (λ same. omega arith) (λ after. omega arith) (ahead u i (get_or starts (k + 1) 0) (omega arith))))
     (ahead u start i from)
 
-AreStarts-ordered : (u : List ℕ) (n : ℕ) (starts : List ℕ) → AreStarts u n starts → (i j : ℕ) → i ≤ j → j < length starts → get_or starts i 0 ≤ get_or starts j 0
+AreStarts-ordered : (u : List ℕ) (n : ℕ) (starts : List ℕ)
+    → AreStarts u n starts
+    → (i j : ℕ)
+    → i ≤ j
+    → j < length starts
+    → get_or starts i 0 ≤ get_or starts j 0
 AreStarts-ordered u n starts h i j from in_table =
     let first = h.placed i (omega arith) in
     let second = h.placed j in_table in
@@ -128,13 +148,20 @@ AreStarts-first u n starts h =
     position_once u (get_or starts 0 0) 0 (ap (λ q. q.line) first ∙ sym (ap (λ q. q.line) (position-zero u))) (ap (λ q. q.col) first ∙ sym (ap (λ q. q.col) (position-zero u)))
 
 -- a line that isn't in the table has no offset
-pub no_line : (u : List ℕ) (starts : List ℕ) (p : Pos) (i : ℕ) → AreStarts u (length u) starts → length starts ≤ p.line → IsOffset u p i → ⊥
+pub no_line : (u : List ℕ) (starts : List ℕ) (p : Pos) (i : ℕ)
+    → AreStarts u (length u) starts
+    → length starts ≤ p.line
+    → IsOffset u p i
+    → ⊥
 no_line u starts p i h past at =
     let line : (position u i).line ≡ p.line = ap (λ q. q.line) at.placed in
     ⊎_elim (λ same. omega (arith, h.counted)) (λ after. omega (arith, h.counted)) (ahead u i (length u) at.within)
 
 -- the offset of a position is as far behind its line's start as its column says
-pub offset_from_start : (u : List ℕ) (start : ℕ) (p : Pos) (i : ℕ) → position u start ≡ record { line = p.line; col = 0 } → IsOffset u p i → i ≡ start + p.col
+pub offset_from_start : (u : List ℕ) (start : ℕ) (p : Pos) (i : ℕ)
+    → position u start ≡ record { line = p.line; col = 0 }
+    → IsOffset u p i
+    → i ≡ start + p.col
 offset_from_start u start p i here at =
     let line : (position u start).line ≡ p.line = ap (λ q. q.line) here in
     let col : (position u start).col ≡ 0 = ap (λ q. q.col) here in
@@ -146,7 +173,10 @@ offset_from_start u start p i here at =
     ]
 
 -- an offset is before the next line's start
-pub offset_before_next : (u : List ℕ) (next : ℕ) (p : Pos) (i : ℕ) → position u next ≡ record { line = p.line + 1; col = 0 } → IsOffset u p i → i < next
+pub offset_before_next : (u : List ℕ) (next : ℕ) (p : Pos) (i : ℕ)
+    → position u next ≡ record { line = p.line + 1; col = 0 }
+    → IsOffset u p i
+    → i < next
 offset_before_next u next p i there at =
     let line : (position u next).line ≡ p.line + 1 = ap (λ q. q.line) there in
     let at_line : (position u i).line ≡ p.line = ap (λ q. q.line) at.placed in
@@ -156,7 +186,10 @@ offset_before_next u next p i there at =
     ]
 
 -- what a binary search of the starts finds: the line that begins at the offset, or the one after the offset's
-searched_starts : (u : List ℕ) (offset : ℕ) (found : Result ℕ ℕ) → offset ≤ length u → IsBinarySearchResult (λ y. nat_cmp y offset) (line_starts u) found → MatchResult found (λ line. IsLineOf u (line_starts u) offset line) (λ next. (0 < next) × IsLineOf u (line_starts u) offset (next - 1))
+searched_starts : (u : List ℕ) (offset : ℕ) (found : Result ℕ ℕ)
+    → offset ≤ length u
+    → IsBinarySearchResult (λ y. nat_cmp y offset) (line_starts u) found
+    → MatchResult found (λ line. IsLineOf u (line_starts u) offset line) (λ next. (0 < next) × IsLineOf u (line_starts u) offset (next - 1))
 searched_starts u offset (Ok line) in_text search =
     let starts = line_starts u in
     let h = AreStarts-line_starts u in
@@ -182,7 +215,12 @@ searched_starts u offset (Err next) in_text search =
       },
     )
 
-pub searched_line : (u table searched : List ℕ) (offset : ℕ) (found : Result ℕ ℕ) → table ≡ line_starts u → searched ≡ table → offset ≤ length u → IsBinarySearchResult (λ y. nat_cmp y offset) searched found → MatchResult found (λ line. IsLineOf u table offset line) (λ next. (0 < next) × IsLineOf u table offset (next - 1))
+pub searched_line : (u table searched : List ℕ) (offset : ℕ) (found : Result ℕ ℕ)
+    → table ≡ line_starts u
+    → searched ≡ table
+    → offset ≤ length u
+    → IsBinarySearchResult (λ y. nat_cmp y offset) searched found
+    → MatchResult found (λ line. IsLineOf u table offset line) (λ next. (0 < next) × IsLineOf u table offset (next - 1))
 searched_line u table searched offset found of_text same in_text search =
     let search_starts = rw (same, of_text) at search in
     rw of_text (searched_starts u offset found in_text search_starts)
@@ -192,14 +230,17 @@ abbrev pub end_of_line : List ℕ → ℕ → ℕ
 end_of_line u line = unwrap_or (slice_get (line_starts u) (line + 1)) (length u + 1)
 
 -- it is the next line's start, or there is no next line and it is past the text
-end_of_line_cases : (u : List ℕ) (line : ℕ) → ((line + 1 < length (line_starts u)) × (end_of_line u line ≡ get_or (line_starts u) (line + 1) 0)) ⊎ ((length (line_starts u) ≤ line + 1) × (end_of_line u line ≡ length u + 1))
+end_of_line_cases : (u : List ℕ) (line : ℕ)
+    → ((line + 1 < length (line_starts u)) × (end_of_line u line ≡ get_or (line_starts u) (line + 1) 0)) ⊎ ((length (line_starts u) ≤ line + 1) × (end_of_line u line ≡ length u + 1))
 end_of_line_cases u line =
     let starts = line_starts u in
     let end = λ (o : Option ℕ). unwrap_or o (length u + 1) in
     ⊎_elim (λ more. inl (more, ap end (slice_get-get_or starts (line + 1) 0 more))) (λ last. inr (last, ap end (slice_get_past starts (line + 1) last))) (cases_lt (line + 1) (length starts))
 
 -- a line's start by the table
-started : (u : List ℕ) (line start : ℕ) → slice_get (line_starts u) line ≡ Some start → (line < length (line_starts u)) × (get_or (line_starts u) line 0 ≡ start)
+started : (u : List ℕ) (line start : ℕ)
+    → slice_get (line_starts u) line ≡ Some start
+    → (line < length (line_starts u)) × (get_or (line_starts u) line 0 ≡ start)
 started u line start at =
     let starts = line_starts u in
     let past : length starts ≤ line → ⊥ = λ ge. cc (slice_get_past starts line ge, at) in
@@ -210,13 +251,19 @@ start_within u line start at =
     let s = started u line start at in
     omega (arith, s.1, (AreStarts-line_starts u).within line s.0)
 
-start_placed : (u : List ℕ) (line start : ℕ) → slice_get (line_starts u) line ≡ Some start → position u start ≡ record { line = line; col = 0 }
+start_placed : (u : List ℕ) (line start : ℕ)
+    → slice_get (line_starts u) line ≡ Some start
+    → position u start ≡ record { line = line; col = 0 }
 start_placed u line start at =
     let s = started u line start at in
     ap (position u) (sym s.1) ∙ (AreStarts-line_starts u).placed line s.0
 
 -- an offset of a line, outside a CR LF
-pub offset_by_table : (u : List ℕ) (p : Pos) (start : ℕ) → slice_get (line_starts u) p.line ≡ Some start → start + p.col < end_of_line u p.line → is_inside_cr_lf u (start + p.col) ≡ false → IsOffset u p (start + p.col)
+pub offset_by_table : (u : List ℕ) (p : Pos) (start : ℕ)
+    → slice_get (line_starts u) p.line ≡ Some start
+    → start + p.col < end_of_line u p.line
+    → is_inside_cr_lf u (start + p.col) ≡ false
+    → IsOffset u p (start + p.col)
 offset_by_table u p start at below outside =
     let starts = line_starts u in
     let h = AreStarts-line_starts u in
@@ -239,7 +286,11 @@ offset_past_table u p i none at =
     (cases_lt p.line (length starts))
 
 -- an offset that isn't on the line, or is inside a CR LF
-pub no_offset_by_table : (u : List ℕ) (p : Pos) (start i : ℕ) → slice_get (line_starts u) p.line ≡ Some start → (start + p.col < end_of_line u p.line → is_inside_cr_lf u (start + p.col) ≡ true) → IsOffset u p i → ⊥
+pub no_offset_by_table : (u : List ℕ) (p : Pos) (start i : ℕ)
+    → slice_get (line_starts u) p.line ≡ Some start
+    → (start + p.col < end_of_line u p.line → is_inside_cr_lf u (start + p.col) ≡ true)
+    → IsOffset u p i
+    → ⊥
 no_offset_by_table u p start i at none is_offset =
     let h = AreStarts-line_starts u in
     let there : i ≡ start + p.col = offset_from_start u start p i (start_placed u p.line start at) is_offset in
@@ -250,11 +301,15 @@ no_offset_by_table u p start i at none is_offset =
     false≢true (sym is_offset.whole ∙ ap (is_inside_cr_lf u) there ∙ none below)
 
 -- a loop over the units that keeps the starts
-pub line_starts_below-end : (u : List ℕ) (i : ℕ) → ends_line u i ≡ true → line_starts_below u (i + 1 + 1) ≡ line_starts_below u (i + 1) ++ (i + 1) ∷ []
+pub line_starts_below-end : (u : List ℕ) (i : ℕ)
+    → ends_line u i ≡ true
+    → line_starts_below u (i + 1 + 1) ≡ line_starts_below u (i + 1) ++ (i + 1) ∷ []
 line_starts_below-end u i e =
     line_starts_below-more u (i + 1) ∙ ap (λ (b : Bool). line_starts_below u (i + 1) ++ cond b ((i + 1) ∷ []) []) (eq-eqb (position u (i + 1)).col 0 (ap (λ q. q.col) (position-end u i e)))
 
-pub line_starts_below-on : (u : List ℕ) (i : ℕ) → ends_line u i ≡ false → line_starts_below u (i + 1 + 1) ≡ line_starts_below u (i + 1)
+pub line_starts_below-on : (u : List ℕ) (i : ℕ)
+    → ends_line u i ≡ false
+    → line_starts_below u (i + 1 + 1) ≡ line_starts_below u (i + 1)
 line_starts_below-on u i e =
     line_starts_below-more u (i + 1) ∙ ap (λ (b : Bool). line_starts_below u (i + 1) ++ cond b ((i + 1) ∷ []) []) (ne_eqb (position u (i + 1)).col 0 (λ z. omega (arith, ap (λ q. q.col) (position-on u i e), z))) ∙ append-nil (line_starts_below u (i + 1))
 
@@ -278,7 +333,9 @@ in_line : (u : List ℕ) (start k : ℕ) → k < line_len u start → is_line_te
 in_line u start k h =
     not-true (is_line_terminator (get_or u (start + k) 0)) (rw (← get_or-drop start u k 0) (prefix_len_passes (λ c. not (is_line_terminator c)) (drop start u) k 0 h))
 
-at_line_end : (u : List ℕ) (start : ℕ) → start + line_len u start < length u → is_line_terminator (get_or u (start + line_len u start) 0) ≡ true
+at_line_end : (u : List ℕ) (start : ℕ)
+    → start + line_len u start < length u
+    → is_line_terminator (get_or u (start + line_len u start) 0) ≡ true
 at_line_end u start h =
     not_false (is_line_terminator (get_or u (start + line_len u start) 0)) (rw (← get_or-drop start u (line_len u start) 0) (prefix_len_stops (λ c. not (is_line_terminator c)) (drop start u) 0 (omega (arith, length-drop start u))))
 
@@ -286,7 +343,9 @@ not_cr : (c : ℕ) → is_line_terminator c ≡ false → eqb c 0x0D ≡ false
 not_cr c h = ne_eqb c 0x0D (λ e. let P : ℕ → Type 0 = λ y. is_line_terminator y ≡ false in absurd (false≢true (sym (subst P e h))))
 
 -- on a line the column counts the units
-along_line : (u : List ℕ) (start k : ℕ) → k ≤ line_len u start → position u (start + k) ≡ record { line = (position u start).line; col = (position u start).col + k }
+along_line : (u : List ℕ) (start k : ℕ)
+    → k ≤ line_len u start
+    → position u (start + k) ≡ record { line = (position u start).line; col = (position u start).col + k }
 along_line u start zero h = simp add-zero refl
 along_line u start (suc k) h =
     let on : ends_line u (start + k) ≡ false = rw (in_line u start k (omega arith)) refl in
@@ -295,14 +354,21 @@ along_line u start (suc k) h =
     next ∙ same_pos (record { line = (position u (start + k)).line; col = (position u (start + k)).col + 1 }) (record { line = (position u start).line; col = (position u start).col + suc k }) (ap (λ q. q.line) so_far) (omega (arith, ap (λ q. q.col) so_far))
 
 -- on a line, its end included, no offset is inside a CR LF
-outside_in_line : (u : List ℕ) (start k : ℕ) → (position u start).col ≡ 0 → k ≤ line_len u start → is_inside_cr_lf u (start + k) ≡ false
+outside_in_line : (u : List ℕ) (start k : ℕ)
+    → (position u start).col ≡ 0
+    → k ≤ line_len u start
+    → is_inside_cr_lf u (start + k) ≡ false
 outside_in_line u start zero e h = rw add-zero (outside_at_start u start e)
 outside_in_line u start (suc k) e h =
     let after : start + suc k ≡ suc (start + k) = omega arith in
     rw (after, not_cr (get_or u (start + k) 0) (in_line u start k (omega arith))) refl
 
 -- the column of a line up to its end is an offset's
-pub offset_in_line : (u : List ℕ) (p : Pos) (start : ℕ) → start ≤ length u → position u start ≡ record { line = p.line; col = 0 } → p.col ≤ length (line_from u start) → IsOffset u p (start + p.col)
+pub offset_in_line : (u : List ℕ) (p : Pos) (start : ℕ)
+    → start ≤ length u
+    → position u start ≡ record { line = p.line; col = 0 }
+    → p.col ≤ length (line_from u start)
+    → IsOffset u p (start + p.col)
 offset_in_line u p start in_text here in_line =
     let col : (position u start).col ≡ 0 = ap (λ q. q.col) here in
     let long : p.col ≤ line_len u start = omega (arith, length-line_from u start) in
@@ -313,7 +379,11 @@ offset_in_line u p start in_text here in_line =
     }
 
 -- behind a unit that ends its line the line is a later one
-later_line : (u : List ℕ) (start end i : ℕ) → ends_line u end ≡ true → start ≤ end → end < i → (position u start).line < (position u i).line
+later_line : (u : List ℕ) (start end i : ℕ)
+    → ends_line u end ≡ true
+    → start ≤ end
+    → end < i
+    → (position u start).line < (position u i).line
 later_line u start end i ends from below =
     let line : (position u (end + 1)).line ≡ (position u end).line + 1 = ap (λ q. q.line) (position-end u end ends) in
     let to_end : (position u start).line ≤ (position u end).line = ⊎_elim (λ same. omega arith) (λ after. omega arith) (ahead u start end from) in
@@ -327,7 +397,11 @@ cr_lf-ends_line u i e =
     rw lf refl
 
 -- past the end of its line a column is no offset's
-pub offset_past_line : (u : List ℕ) (p : Pos) (start i : ℕ) → position u start ≡ record { line = p.line; col = 0 } → length (line_from u start) < p.col → IsOffset u p i → ⊥
+pub offset_past_line : (u : List ℕ) (p : Pos) (start i : ℕ)
+    → position u start ≡ record { line = p.line; col = 0 }
+    → length (line_from u start) < p.col
+    → IsOffset u p i
+    → ⊥
 offset_past_line u p start i here past at =
     let end = start + line_len u start in
     let there : i ≡ start + p.col = offset_from_start u start p i here at in
@@ -376,7 +450,12 @@ not_found-IsPastLine u p past i at =
     ]
 
 -- the first line terminator ends the line, or the end of the text
-pub line_end_is : (u : List ℕ) (start end : ℕ) → start ≤ end → end ≤ length u → ((k : ℕ) → start ≤ k → k < end → is_line_terminator (get_or u k 0) ≡ false) → (end < length u → is_line_terminator (get_or u end 0) ≡ true) → end ≡ start + length (line_from u start)
+pub line_end_is : (u : List ℕ) (start end : ℕ)
+    → start ≤ end
+    → end ≤ length u
+    → ((k : ℕ) → start ≤ k → k < end → is_line_terminator (get_or u k 0) ≡ false)
+    → (end < length u → is_line_terminator (get_or u end 0) ≡ true)
+    → end ≡ start + length (line_from u start)
 line_end_is u start end from in_text before stop =
     let rest = drop start u in
     let long : length rest ≡ length u - start = length-drop start u in

@@ -25,7 +25,9 @@ lines_of-last byte (second ∷ line) h =
     rw (other, lines_of-last second line (All-tail (λ b. b ≢ 10) byte (second ∷ line) h))
 
 -- the LF that a text lacks adds no line
-pub lines_of-lacking : (front : List ℕ) (byte : ℕ) → byte ≢ 10 → lines_of ((front ++ byte ∷ []) ++ 10 ∷ []) ≡ lines_of (front ++ byte ∷ [])
+pub lines_of-lacking : (front : List ℕ) (byte : ℕ)
+    → byte ≢ 10
+    → lines_of ((front ++ byte ∷ []) ++ 10 ∷ []) ≡ lines_of (front ++ byte ∷ [])
 lines_of-lacking [] byte h =
     let other : eqb byte 10 ≡ false = ne_eqb byte 10 h in rw other
 lines_of-lacking (first ∷ front) byte h = rw (lines_of-lacking front byte h)
@@ -51,7 +53,10 @@ lines_of-only text others h =
     ]
 
 -- a byte before the lines of a text
-begun_with-are : (byte : ℕ) (text : List ℕ) (lines : List (List ℕ)) → byte ≢ 10 → AreLines text lines → AreLines (byte ∷ text) (begun_with byte lines)
+begun_with-are : (byte : ℕ) (text : List ℕ) (lines : List (List ℕ))
+    → byte ≢ 10
+    → AreLines text lines
+    → AreLines (byte ∷ text) (begun_with byte lines)
 begun_with-are byte text [] other h = record {
   apart = All-cons IsOneLine (byte ∷ []) [] (All-cons (λ b. b ≢ 10) byte [] other (All-nil (λ b. b ≢ 10))) (All-nil IsOneLine);
   together = elim h.together [

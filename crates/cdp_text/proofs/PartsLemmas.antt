@@ -15,7 +15,9 @@ behind-append [] rest = refl
 behind-append (byte ∷ front) rest = rw (eq-eqb byte byte refl) (behind-append front rest)
 
 behind_step : (b : Bool) (byte first : ℕ) (front text rest : List ℕ) → (b ≡ true → byte ≡ first)
-    → (behind front text ≡ Some rest → text ≡ front ++ rest) → (if b then behind front text else None) ≡ Some rest → first ∷ text ≡ byte ∷ (front ++ rest)
+    → (behind front text ≡ Some rest → text ≡ front ++ rest)
+    → (if b then behind front text else None) ≡ Some rest
+    → first ∷ text ≡ byte ∷ (front ++ rest)
 behind_step true byte first front text rest same others is = let e = same refl in let f = others is in cc
 behind_step false byte first front text rest same others is = cc
 
@@ -46,13 +48,17 @@ halves-append separator [] back lacks = rw (eq-eqb separator separator refl) ref
 halves-append separator (byte ∷ front) back lacks =
     rw (ne_eqb byte separator (lacks 0 (omega arith)), halves-append separator front back (λ i below. lacks (suc i) (omega arith))) refl
 
-halves-none : (separator : ℕ) (text : List ℕ) → ((i : ℕ) → i < length text → get_or text i 0 ≢ separator) → halves separator text ≡ None
+halves-none : (separator : ℕ) (text : List ℕ)
+    → ((i : ℕ) → i < length text → get_or text i 0 ≢ separator)
+    → halves separator text ≡ None
 halves-none separator [] lacks = refl
 halves-none separator (byte ∷ text) lacks =
     rw (ne_eqb byte separator (lacks 0 (omega arith)), halves-none separator text (λ i below. lacks (suc i) (omega arith))) refl
 
 -- what the text's own call says
-pub halves-split : (separator : ℕ) (text : List ℕ) (r : Option (Bor (List ℕ) × Bor (List ℕ))) → separator < 128 → IsSplitOnceResult separator text r
+pub halves-split : (separator : ℕ) (text : List ℕ) (r : Option (Bor (List ℕ) × Bor (List ℕ)))
+    → separator < 128
+    → IsSplitOnceResult separator text r
     → option_map (λ parts. record { front = parts.0.now; back = parts.1.now }) r ≡ halves separator text
 halves-split separator text None small found = sym (halves-none separator text (split_parts separator text None found small))
 halves-split separator text (Some x) small found =
@@ -68,7 +74,8 @@ halves-decimal n separator back small apart =
 
 halves_step : (separator : ℕ) (b : Bool) (byte : ℕ) (text : List ℕ) (parts : Halves) → (b ≡ true → byte ≡ separator)
     → (o : Option Halves) → ((p : Halves) → o ≡ Some p → text ≡ p.front ++ separator ∷ p.back)
-    → (if b then Some record { front = []; back = text } else option_map (longer byte) o) ≡ Some parts → byte ∷ text ≡ parts.front ++ separator ∷ parts.back
+    → (if b then Some record { front = []; back = text } else option_map (longer byte) o) ≡ Some parts
+    → byte ∷ text ≡ parts.front ++ separator ∷ parts.back
 halves_step separator true byte text parts same o others is =
     let e = same refl in let f : record { front = []; back = text } ≡ parts = cc in rw (← f, e) refl
 halves_step separator false byte text parts same None others is = cc
@@ -76,7 +83,9 @@ halves_step separator false byte text parts same (Some p) others is =
     let e = others p refl in let f : longer byte p ≡ parts = cc in rw (← f, e) refl
 
 -- what has halves is put together from them
-pub halves-some : (separator : ℕ) (text : List ℕ) (parts : Halves) → halves separator text ≡ Some parts → text ≡ parts.front ++ separator ∷ parts.back
+pub halves-some : (separator : ℕ) (text : List ℕ) (parts : Halves)
+    → halves separator text ≡ Some parts
+    → text ≡ parts.front ++ separator ∷ parts.back
 halves-some separator [] parts is = cc
 halves-some separator (byte ∷ text) parts is =
     halves_step separator (eqb byte separator) byte text parts (eqb-true byte separator) (halves separator text) (halves-some separator text) is
@@ -94,12 +103,16 @@ pub behind-lacks : (front text : List ℕ) (r : Option (Bor (List ℕ)))
 behind-lacks front text None lacks = lacks
 behind-lacks front text (Some x) found = tt
 
-pub halves-parts : (separator : ℕ) (text : List ℕ) (r : Option (Bor (List ℕ) × Bor (List ℕ))) → separator < 128 → IsSplitOnceResult separator text r
+pub halves-parts : (separator : ℕ) (text : List ℕ) (r : Option (Bor (List ℕ) × Bor (List ℕ)))
+    → separator < 128
+    → IsSplitOnceResult separator text r
     → IfSome r (λ x. (text ≡ x.0.now ++ separator ∷ x.1.now) × ((i : ℕ) → i < length x.0.now → get_or x.0.now i 0 ≢ separator))
 halves-parts separator text None small found = tt
 halves-parts separator text (Some x) small found = split_parts separator text (Some x) found small
 
-pub halves-lacks : (separator : ℕ) (text : List ℕ) (r : Option (Bor (List ℕ) × Bor (List ℕ))) → separator < 128 → IsSplitOnceResult separator text r
+pub halves-lacks : (separator : ℕ) (text : List ℕ) (r : Option (Bor (List ℕ) × Bor (List ℕ)))
+    → separator < 128
+    → IsSplitOnceResult separator text r
     → IfNone r ((i : ℕ) → i < length text → get_or text i 0 ≢ separator)
 halves-lacks separator text None small found = split_parts separator text None found small
 halves-lacks separator text (Some x) small found = tt

@@ -42,7 +42,10 @@ ahead u i j h =
     subst P there (ahead_by u i (j - i))
 
 -- a position has one offset at most
-pub position_once : (u : List ℕ) (i j : ℕ) → (position u i).line ≡ (position u j).line → (position u i).col ≡ (position u j).col → i ≡ j
+pub position_once : (u : List ℕ) (i j : ℕ)
+    → (position u i).line ≡ (position u j).line
+    → (position u i).col ≡ (position u j).col
+    → i ≡ j
 position_once u i j e f =
     elim (cases_lt i j) [
       | inl lt ↦ let h : IsAhead (position u i) (position u j) (j - i) = ahead u i j (omega arith) in ⊎_elim (λ same. omega arith) (λ later. omega arith) h
@@ -55,7 +58,9 @@ IsOffset-once u p i j h k =
     position_once u i j (ap (λ q. q.line) e) (ap (λ q. q.col) e)
 
 -- neither number passes the offset
-bound_step : (p : Pos) (ends : Bool) (i : ℕ) → (p.line ≤ i) × (p.col ≤ i) → ((advanced p ends).line ≤ suc i) × ((advanced p ends).col ≤ suc i)
+bound_step : (p : Pos) (ends : Bool) (i : ℕ)
+    → (p.line ≤ i) × (p.col ≤ i)
+    → ((advanced p ends).line ≤ suc i) × ((advanced p ends).col ≤ suc i)
 bound_step p true i h = (omega arith, omega arith)
 bound_step p false i h = (omega arith, omega arith)
 
@@ -65,10 +70,14 @@ position_bound u zero = (omega arith, omega arith)
 position_bound u (suc i) = bound_step (position u i) (ends_line u i) i (position_bound u i)
 
 -- what the unit at i makes of the position
-pub position-end : (u : List ℕ) (i : ℕ) → ends_line u i ≡ true → position u (i + 1) ≡ record { line = (position u i).line + 1; col = 0 }
+pub position-end : (u : List ℕ) (i : ℕ)
+    → ends_line u i ≡ true
+    → position u (i + 1) ≡ record { line = (position u i).line + 1; col = 0 }
 position-end u i e = position-next u i ∙ ap (advanced (position u i)) e
 
-pub position-on : (u : List ℕ) (i : ℕ) → ends_line u i ≡ false → position u (i + 1) ≡ record { line = (position u i).line; col = (position u i).col + 1 }
+pub position-on : (u : List ℕ) (i : ℕ)
+    → ends_line u i ≡ false
+    → position u (i + 1) ≡ record { line = (position u i).line; col = (position u i).col + 1 }
 position-on u i e = position-next u i ∙ ap (advanced (position u i)) e
 
 outside_at_start-by : (p : Pos) (t inside : Bool) → (advanced p (t && not inside)).col ≡ 0 → inside ≡ false

@@ -17,12 +17,19 @@ one_unit c [] h = grind (arith, nat_tests)
 one_unit c (v ∷ us) h = grind (arith, nat_tests)
 
 -- a pair spells its character
-two_units : (h l : ℕ) (us : List ℕ) → 0xD800 ≤ h → h < 0xDC00 → 0xDC00 ≤ l → l < 0xE000 → utf16_chars (h ∷ l ∷ us) ≡ Some (surrogate_pair_char h l) ∷ utf16_chars us
+two_units : (h l : ℕ) (us : List ℕ)
+    → 0xD800 ≤ h
+    → h < 0xDC00
+    → 0xDC00 ≤ l
+    → l < 0xE000
+    → utf16_chars (h ∷ l ∷ us) ≡ Some (surrogate_pair_char h l) ∷ utf16_chars us
 unfolding utf16_chars
 two_units h l us p q r s = grind (arith, nat_tests)
 
 -- the units of a character spell it
-utf16_chars-encode_utf16 : (c : ℕ) (us : List ℕ) → IsScalar c → utf16_chars (encode_utf16 c ++ us) ≡ Some c ∷ utf16_chars us
+utf16_chars-encode_utf16 : (c : ℕ) (us : List ℕ)
+    → IsScalar c
+    → utf16_chars (encode_utf16 c ++ us) ≡ Some c ∷ utf16_chars us
 utf16_chars-encode_utf16 c us s =
     let h : (c < 0xD800) ⊎ ((0xE000 ≤ c) × (c < 0x11_0000)) = scalar_cases c s in
     elim (cases_lt c 0x1_0000) [

@@ -29,7 +29,9 @@ drilled n script scripts input journal before now line one none is began written
 -- ---- causes
 
 -- why it ended so whose journal wasn't replayed to its end
-pub unplayed : (end : Outcome) (n was : ℕ) (old : Option (List ℕ)) (script : Script) → IsDrillScript n script → BecauseJournalOf end n script
+pub unplayed : (end : Outcome) (n was : ℕ) (old : Option (List ℕ)) (script : Script)
+    → IsDrillScript n script
+    → BecauseJournalOf end n script
     → BecauseDrill end n was was old old
 unplayed ends.Done n was old script is h = absurd h
 unplayed (ends.Threw text) n was old script is h = absurd h
@@ -43,7 +45,9 @@ unplayed (ends.LineRefused line) n was old script is (output, replay) =
 
 -- ---- what is written of the summary
 
-pub wrote-all : (n : ℕ) (script : Script) (output text : List ℕ) (old new : Option (List ℕ)) → IsDrillScript n script → IsDrilled n script None output
+pub wrote-all : (n : ℕ) (script : Script) (output text : List ℕ) (old new : Option (List ℕ))
+    → IsDrillScript n script
+    → IsDrilled n script None output
     → text ≡ summary output → new ≡ gains old text → DrillsWhole n old new
 wrote-all n script output text old new is replay sum whole = record {
   script = script;
@@ -53,7 +57,9 @@ wrote-all n script output text old new is replay sum whole = record {
   whole = subst (λ (t : List ℕ). new ≡ gains old t) sum whole;
 }
 
-pub wrote-less : (n : ℕ) (script : Script) (output text : List ℕ) (old new : Option (List ℕ)) → IsDrillScript n script → IsDrilled n script None output
+pub wrote-less : (n : ℕ) (script : Script) (output text : List ℕ) (old new : Option (List ℕ))
+    → IsDrillScript n script
+    → IsDrilled n script None output
     → text ≡ summary output → GainsLess old new text → DrillsShort n old new
 wrote-less n script output text old new is replay sum less = record {
   script = script;
@@ -63,7 +69,9 @@ wrote-less n script output text old new is replay sum less = record {
   less = subst (λ (t : List ℕ). GainsLess old new t) sum less;
 }
 
-pub wrote-part : (n : ℕ) (script : Script) (output text : List ℕ) (old new : Option (List ℕ)) → IsDrillScript n script → IsDrilled n script None output
+pub wrote-part : (n : ℕ) (script : Script) (output text : List ℕ) (old new : Option (List ℕ))
+    → IsDrillScript n script
+    → IsDrilled n script None output
     → text ≡ summary output → GainsLess old new text → DrillsInPart n old new
 wrote-part n script output text old new is replay sum less = record {
   script = script;

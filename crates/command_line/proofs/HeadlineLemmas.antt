@@ -67,7 +67,9 @@ out-overrun true s = refl
 out-overrun false s = refl
 
 -- an entry that makes no steps prints nothing
-out-none : (scripts : List Script) (m : Meaning Program) (entry : Entry) (texts : List (List ℕ)) → steps_of entry ≡ zero → texts ≡ []
+out-none : (scripts : List Script) (m : Meaning Program) (entry : Entry) (texts : List (List ℕ))
+    → steps_of entry ≡ zero
+    → texts ≡ []
     → printed_of m.program ++ texts ≡ printed_of (apply scripts m entry).program
 out-none scripts m entry texts none empty =
     ap (λ xs. printed_of m.program ++ xs) empty ∙ append-nil (printed_of m.program) ∙ ap printed_of (sym (call-program (protocol scripts) m entry none))
@@ -122,7 +124,10 @@ record GoesOn (scripts : List Script) (m : Meaning Program) (entry : Entry) : Ty
   fits : FitsEntry (protocol scripts) m entry
   is : IsOfLine entry
 
-line-goes : (scripts : List Script) (m : Meaning Program) (line : lines.Line) (entry : Entry) → IsInForm line → entry_at scripts m line ≡ Some entry → GoesOn scripts m entry
+line-goes : (scripts : List Script) (m : Meaning Program) (line : lines.Line) (entry : Entry)
+    → IsInForm line
+    → entry_at scripts m line ≡ Some entry
+    → GoesOn scripts m entry
 line-goes scripts m lines.Attach entry form is =
     rw (sym (same_Some Attach entry is)) (record { fits = tt; is = tt })
 line-goes scripts m (lines.Tell s text) entry form is =
@@ -140,7 +145,9 @@ line-goes scripts m (lines.Run most moment) entry form is =
 line-goes scripts m lines.Shut entry form is =
     rw (sym (same_Some Shut entry is)) (record { fits = tt; is = tt })
 
-option-goes : (scripts : List Script) (m : Meaning Program) (text : List ℕ) (o : Option lines.Line) (entry : Entry) → line_of text ≡ o → option_and_then (entry_at scripts m) o ≡ Some entry
+option-goes : (scripts : List Script) (m : Meaning Program) (text : List ℕ) (o : Option lines.Line) (entry : Entry)
+    → line_of text ≡ o
+    → option_and_then (entry_at scripts m) o ≡ Some entry
     → GoesOn scripts m entry
 option-goes scripts m text None entry read is = cc
 option-goes scripts m text (Some line) entry read is = line-goes scripts m line entry (line-some text line read).in_form is
@@ -148,7 +155,8 @@ option-goes scripts m text (Some line) entry read is = line-goes scripts m line 
 entries-go_by : (scripts : List Script) (m : Meaning Program) (texts : List (List ℕ)) (o : Option Entry)
     → ((entry : Entry) → o ≡ Some entry → GoesOn scripts m entry)
     → ((entry : Entry) → FitsAll (protocol scripts) (apply scripts m entry) (entries scripts (apply scripts m entry) texts) × AreOfLines (entries scripts (apply scripts m entry) texts))
-    → FitsAll (protocol scripts) m (option_map_or (λ entry. entry ∷ entries scripts (apply scripts m entry) texts) o []) × AreOfLines (option_map_or (λ entry. entry ∷ entries scripts (apply scripts m entry) texts) o [])
+    → FitsAll (protocol scripts) m (option_map_or (λ entry. entry ∷ entries scripts (apply scripts m entry) texts) o [])
+    × AreOfLines (option_map_or (λ entry. entry ∷ entries scripts (apply scripts m entry) texts) o [])
 entries-go_by scripts m texts None goes behind = (tt, tt)
 entries-go_by scripts m texts (Some entry) goes behind =
     let here = goes entry refl in
@@ -156,7 +164,8 @@ entries-go_by scripts m texts (Some entry) goes behind =
     ((here.fits, rest.0), (here.is, rest.1))
 
 -- the entries of a journal's lines are a history of such entries
-entries-go : (texts : List (List ℕ)) (scripts : List Script) (m : Meaning Program) → FitsAll (protocol scripts) m (entries scripts m texts) × AreOfLines (entries scripts m texts)
+entries-go : (texts : List (List ℕ)) (scripts : List Script) (m : Meaning Program)
+    → FitsAll (protocol scripts) m (entries scripts m texts) × AreOfLines (entries scripts m texts)
 entries-go [] scripts m = (tt, tt)
 entries-go (text ∷ texts) scripts m =
     entries-go_by scripts m texts (entry_of scripts m text)
@@ -179,7 +188,9 @@ name_by false false false true held = refl
 name_by false false false false true = refl
 name_by false false false false false = refl
 
-stopped-is : (scripts : List Script) (input : List (List ℕ)) (moment made n : ℕ) (m : Meaning Program) → m.program ≡ plain made scripts input → IsPausedWell (protocol scripts) m
+stopped-is : (scripts : List Script) (input : List (List ℕ)) (moment made n : ℕ) (m : Meaning Program)
+    → m.program ≡ plain made scripts input
+    → IsPausedWell (protocol scripts) m
     → is_paused (apply scripts m (Ran n moment [])) ≡ is_stopped scripts input moment [] made m n
 stopped-is scripts input moment made zero m is well = rest-paused (protocol scripts) moment m well
 stopped-is scripts input moment made (suc n) m is well =
@@ -187,14 +198,18 @@ stopped-is scripts input moment made (suc n) m is well =
     run-paused (protocol scripts) (names-enabled scripts) moment [] n m
     ∙ ap (λ r. is_named (protocol scripts) moment [] r k) (steps-plain scripts input made moment n m is)
 
-waits-run : (scripts : List Script) (moment n : ℕ) (m : Meaning Program) → waits (after_run (protocol scripts) moment [] n m).phase ≡ is_waiting m n
+waits-run : (scripts : List Script) (moment n : ℕ) (m : Meaning Program)
+    → waits (after_run (protocol scripts) moment [] n m).phase ≡ is_waiting m n
 waits-run scripts moment zero m = refl
 waits-run scripts moment (suc n) m = refl
 
-waits-is : (scripts : List Script) (moment n : ℕ) (m : Meaning Program) → waits (apply scripts m (Ran n moment [])).phase ≡ is_waiting m n
+waits-is : (scripts : List Script) (moment n : ℕ) (m : Meaning Program)
+    → waits (apply scripts m (Ran n moment [])).phase ≡ is_waiting m n
 waits-is scripts moment n m = ap waits (run-phase (protocol scripts) moment [] n m) ∙ waits-run scripts moment n m
 
-state-told : (scripts : List Script) (input : List (List ℕ)) (moment made n : ℕ) (m : Meaning Program) → m.program ≡ plain made scripts input → IsPausedWell (protocol scripts) m
+state-told : (scripts : List Script) (input : List (List ℕ)) (moment made n : ℕ) (m : Meaning Program)
+    → m.program ≡ plain made scripts input
+    → IsPausedWell (protocol scripts) m
     → state_name (state_of (apply scripts m (Ran n moment []))) ≡ ran_state scripts input moment [] made m n
 state-told scripts input moment made n m is well =
     let k : Meaning Program = apply scripts m (Ran n moment []) in
@@ -209,7 +224,9 @@ ran-overrun : (b : Bool) (s : ℕ) → ran_of (if b then Overran s ∷ [] else [
 ran-overrun true s = refl
 ran-overrun false s = refl
 
-ran-run : (scripts : List Script) (input : List (List ℕ)) (made n moment : ℕ) (m : Meaning Program) → m.program ≡ plain made scripts input → IsPausedWell (protocol scripts) m
+ran-run : (scripts : List Script) (input : List (List ℕ)) (made n moment : ℕ) (m : Meaning Program)
+    → m.program ≡ plain made scripts input
+    → IsPausedWell (protocol scripts) m
     → ran_of (output_at scripts m (Ran n moment [])) ≡ ran_at scripts input made m (Ran n moment [])
 ran-run scripts input made n moment m is well =
     let printed : List (List ℕ) = printed_at scripts moment [] n m in
@@ -220,7 +237,10 @@ ran-run scripts input made n moment m is well =
     ∙ lost-ran lost last
     ∙ ap (λ word. (decimal n ++ 32 ∷ word) ∷ []) (state-told scripts input moment made n m is well)
 
-ran-entry : (scripts : List Script) (input : List (List ℕ)) (made : ℕ) (m : Meaning Program) (entry : Entry) → m.program ≡ plain made scripts input → IsPausedWell (protocol scripts) m → IsOfLine entry
+ran-entry : (scripts : List Script) (input : List (List ℕ)) (made : ℕ) (m : Meaning Program) (entry : Entry)
+    → m.program ≡ plain made scripts input
+    → IsPausedWell (protocol scripts) m
+    → IsOfLine entry
     → ran_of (output_at scripts m entry) ≡ ran_at scripts input made m entry
 ran-entry scripts input made m Attach is well of = refl
 ran-entry scripts input made m (Tell s text) is well of = ran-overrun (overruns scripts m text (seat_of s m.seats)) s
@@ -229,7 +249,10 @@ ran-entry scripts input made m (Detach s) is well of = refl
 ran-entry scripts input made m (Ran n moment gone) is well of = rw of (ran-run scripts input made n moment m is well)
 ran-entry scripts input made m Shut is well of = refl
 
-ran-all : (history : List Entry) (scripts : List Script) (input : List (List ℕ)) (made : ℕ) (m : Meaning Program) → m.program ≡ plain made scripts input → IsPausedWell (protocol scripts) m → AreOfLines history
+ran-all : (history : List Entry) (scripts : List Script) (input : List (List ℕ)) (made : ℕ) (m : Meaning Program)
+    → m.program ≡ plain made scripts input
+    → IsPausedWell (protocol scripts) m
+    → AreOfLines history
     → ran_of (output_of scripts m history) ≡ ran_texts scripts input made m history
 ran-all [] scripts input made m is well of = refl
 ran-all (entry ∷ history) scripts input made m is well of =
@@ -245,7 +268,8 @@ lost-overrun : (b : Bool) (s : ℕ) → lost_of (if b then Overran s ∷ [] else
 lost-overrun true s = refl
 lost-overrun false s = refl
 
-lost-at : (scripts : List Script) (m : Meaning Program) (entry : Entry) → lost_of (output_at scripts m entry) ≡ losses_at scripts m entry
+lost-at : (scripts : List Script) (m : Meaning Program) (entry : Entry)
+    → lost_of (output_at scripts m entry) ≡ losses_at scripts m entry
 lost-at scripts m Attach = refl
 lost-at scripts m (Tell s text) = lost-overrun (overruns scripts m text (seat_of s m.seats)) s
 lost-at scripts m (Take s) = lost-sent s (waiting (protocol scripts) (seat_of s m.seats))
@@ -260,7 +284,8 @@ lost-at scripts m (Ran n moment gone) =
     ∙ append-nil lost
 lost-at scripts m Shut = refl
 
-lost-all : (history : List Entry) (scripts : List Script) (m : Meaning Program) → lost_of (output_of scripts m history) ≡ losses_of scripts m history
+lost-all : (history : List Entry) (scripts : List Script) (m : Meaning Program)
+    → lost_of (output_of scripts m history) ≡ losses_of scripts m history
 lost-all [] scripts m = refl
 lost-all (entry ∷ history) scripts m =
     lost-append (output_at scripts m entry) (output_of scripts (apply scripts m entry) history)
@@ -273,7 +298,11 @@ to-overrun : (s n : ℕ) (b : Bool) → to_of s (if b then Overran n ∷ [] else
 to-overrun s n true = refl
 to-overrun s n false = refl
 
-taken-by : (s n : ℕ) (texts : List (List ℕ)) (b : Bool) → s < 2 ^ 64 → n < 2 ^ 64 → (n == s) ≡ b → to_of s (map (To n) texts) ≡ map escaped (if b then texts else [])
+taken-by : (s n : ℕ) (texts : List (List ℕ)) (b : Bool)
+    → s < 2 ^ 64
+    → n < 2 ^ 64
+    → (n == s) ≡ b
+    → to_of s (map (To n) texts) ≡ map escaped (if b then texts else [])
 taken-by s n texts true s_small n_small is = ap (λ r. to_of s (map (To r) texts)) (eqb-true n s is) ∙ to-own s texts
 taken-by s n texts false s_small n_small is = to-others s n texts s_small n_small (eqb-false n s is)
 
@@ -293,7 +322,9 @@ sent-at scripts m (Ran n moment gone) s s_small of =
 sent-at scripts m Shut s s_small of = refl
 
 -- what a history's lines send to a session is what it hands out to it
-sent-all : (history : List Entry) (scripts : List Script) (m : Meaning Program) (s : ℕ) → s < 2 ^ 64 → AreOfLines history
+sent-all : (history : List Entry) (scripts : List Script) (m : Meaning Program) (s : ℕ)
+    → s < 2 ^ 64
+    → AreOfLines history
     → to_of s (output_of scripts m history) ≡ map escaped (handed_of (protocol scripts) s m history)
 sent-all [] scripts m s s_small of = refl
 sent-all (entry ∷ history) scripts m s s_small of =
@@ -305,24 +336,32 @@ sent-all (entry ∷ history) scripts m s s_small of =
     ∙ ap (λ xs. map escaped first ++ xs) (sent-all history scripts later s s_small of.1)
     ∙ sym (map-append escaped first others)
 
-kept-all : {C T Q X : Type 0} → (P : Protocol C T Q X) (handed : List (List ℕ)) (seat : Seat X) (made : List (List ℕ)) → is_attached seat ≡ true → Keeps P handed seat made
+kept-all : {C T Q X : Type 0}
+    → (P : Protocol C T Q X) (handed : List (List ℕ)) (seat : Seat X) (made : List (List ℕ))
+    → is_attached seat ≡ true
+    → Keeps P handed seat made
     → handed ++ waiting P seat ≡ made
 kept-all P handed (seats.Attached x) made there keeps = keeps
 kept-all P handed (seats.Lost loss is_reported is_told) made there keeps = absurd cc
 kept-all P handed seats.Left made there keeps = absurd cc
 
-kept-first : {C T Q X : Type 0} → (P : Protocol C T Q X) (handed : List (List ℕ)) (seat : Seat X) (made : List (List ℕ)) → Keeps P handed seat made → IsPrefix handed made
+kept-first : {C T Q X : Type 0}
+    → (P : Protocol C T Q X) (handed : List (List ℕ)) (seat : Seat X) (made : List (List ℕ))
+    → Keeps P handed seat made
+    → IsPrefix handed made
 kept-first P handed (seats.Attached x) made keeps = (P.outbox x, sym keeps)
 kept-first P handed (seats.Lost loss is_reported is_told) made keeps = keeps
 kept-first P handed seats.Left made keeps = keeps
 
 -- of the texts that are made for a session those that were handed out are the first; the others wait, while it is attached
-keeps-of : (scripts : List Script) (input : List (List ℕ)) (wait : Bool) (history : List Entry) (s : ℕ) → IsHistory scripts input wait history
+keeps-of : (scripts : List Script) (input : List (List ℕ)) (wait : Bool) (history : List Entry) (s : ℕ)
+    → IsHistory scripts input wait history
     → Keeps (protocol scripts) (sent_to scripts input wait s history) (seat_of s (whole scripts input wait history).seats) (texts_to s scripts input wait history)
 keeps-of scripts input wait history s fits = in-order (protocol scripts) (texts scripts) (sent scripts) s (start scripts input) wait history fits
 
 -- where a session is attached at the end, all texts that are made for it were sent, or wait
-sends-exact : (scripts : List Script) (input : List (List ℕ)) (wait : Bool) (history : List Entry) (s : ℕ) (lines : List (List ℕ)) → IsHistory scripts input wait history
+sends-exact : (scripts : List Script) (input : List (List ℕ)) (wait : Bool) (history : List Entry) (s : ℕ) (lines : List (List ℕ))
+    → IsHistory scripts input wait history
     → lines ≡ map escaped (sent_to scripts input wait s history) → is_there (whole scripts input wait history) s ≡ true
     → lines ++ map escaped (waiting_to s scripts (whole scripts input wait history)) ≡ map escaped (texts_to s scripts input wait history)
 sends-exact scripts input wait history s lines fits are there =
@@ -333,8 +372,10 @@ sends-exact scripts input wait history s lines fits are there =
     ∙ ap (map escaped) (kept-all (protocol scripts) handed (seat_of s m.seats) (texts_to s scripts input wait history) there (keeps-of scripts input wait history s fits))
 
 -- and of any session the texts that were sent are the first that were made
-sends-first : (scripts : List Script) (input : List (List ℕ)) (wait : Bool) (history : List Entry) (s : ℕ) (lines : List (List ℕ)) → IsHistory scripts input wait history
-    → lines ≡ map escaped (sent_to scripts input wait s history) → IsPrefix lines (map escaped (texts_to s scripts input wait history))
+sends-first : (scripts : List Script) (input : List (List ℕ)) (wait : Bool) (history : List Entry) (s : ℕ) (lines : List (List ℕ))
+    → IsHistory scripts input wait history
+    → lines ≡ map escaped (sent_to scripts input wait s history)
+    → IsPrefix lines (map escaped (texts_to s scripts input wait history))
 sends-first scripts input wait history s lines fits are =
     let handed : List (List ℕ) = sent_to scripts input wait s history in
     let first = kept-first (protocol scripts) handed (seat_of s (whole scripts input wait history).seats) (texts_to s scripts input wait history) (keeps-of scripts input wait history s fits) in
@@ -342,7 +383,8 @@ sends-first scripts input wait history s lines fits are =
 
 -- ---- the headline
 
-pub headline-of : (lines : List (List ℕ)) (scripts : List Script) (input : List (List ℕ)) (wait : Bool) → let history = entries scripts (begin scripts input wait) lines in
+pub headline-of : (lines : List (List ℕ)) (scripts : List Script) (input : List (List ℕ)) (wait : Bool)
+    → let history = entries scripts (begin scripts input wait) lines in
     Headline scripts input wait history (output_bytes (output_of scripts (begin scripts input wait) history))
 headline-of lines scripts input wait =
     let first : Meaning Program = begin scripts input wait in

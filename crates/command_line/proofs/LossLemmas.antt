@@ -8,7 +8,8 @@ use Rattle.command_line.specs.Output.{Overran, output_text, overrun_in}
 
 -- ---- those that are written
 
-choice_append : (b : Bool) (s : ℕ) (xs ys : List ℕ) → (if b then xs ++ ys else s ∷ (xs ++ ys)) ≡ (if b then xs else s ∷ xs) ++ ys
+choice_append : (b : Bool) (s : ℕ) (xs ys : List ℕ)
+    → (if b then xs ++ ys else s ∷ (xs ++ ys)) ≡ (if b then xs else s ∷ xs) ++ ys
 choice_append true s xs ys = refl
 choice_append false s xs ys = refl
 
@@ -28,8 +29,11 @@ overrun_texts-append xs ys =
     ∙ ap (map output_text) (map-append Overran (overrun_in xs) (overrun_in ys))
     ∙ map-append output_text (map Overran (overrun_in xs)) (map Overran (overrun_in ys))
 
-pub overruns-more : (losses : List SessionLost) (i : ℕ) (d : SessionLost) (before now new : List (List ℕ)) → i < length losses
-    → now ≡ before ++ overrun_texts (take i losses) → new ≡ now ++ overrun_texts (get_or losses i d ∷ []) → new ≡ before ++ overrun_texts (take (i + 1) losses)
+pub overruns-more : (losses : List SessionLost) (i : ℕ) (d : SessionLost) (before now new : List (List ℕ))
+    → i < length losses
+    → now ≡ before ++ overrun_texts (take i losses)
+    → new ≡ now ++ overrun_texts (get_or losses i d ∷ [])
+    → new ≡ before ++ overrun_texts (take (i + 1) losses)
 overruns-more losses i d before now new within so_far more =
     let last : List SessionLost = get_or losses i d ∷ [] in
     more
@@ -40,7 +44,9 @@ overruns-more losses i d before now new within so_far more =
 
 -- ---- those for want of memory
 
-memory_by : (b : Bool) (s : ℕ) (all xs ys : List ℕ) → all ≡ xs ++ ys → (if b then s ∷ all else all) ≡ (if b then s ∷ xs else xs) ++ ys
+memory_by : (b : Bool) (s : ℕ) (all xs ys : List ℕ)
+    → all ≡ xs ++ ys
+    → (if b then s ∷ all else all) ≡ (if b then s ∷ xs else xs) ++ ys
 memory_by true s all xs ys is = ap (λ more. s ∷ more) is
 memory_by false s all xs ys is = is
 
@@ -48,7 +54,9 @@ memory-append : (xs ys : List SessionLost) → lost_for_memory (xs ++ ys) ≡ lo
 memory-append [] ys = refl
 memory-append (lost ∷ xs) ys = memory_by (is_for_memory lost.loss) lost.session (lost_for_memory (xs ++ ys)) (lost_for_memory xs) (lost_for_memory ys) (memory-append xs ys)
 
-pub memory-more : (losses : List SessionLost) (i : ℕ) (d : SessionLost) → i < length losses → lost_for_memory (take i losses) ≡ []
+pub memory-more : (losses : List SessionLost) (i : ℕ) (d : SessionLost)
+    → i < length losses
+    → lost_for_memory (take i losses) ≡ []
     → is_for_memory (get_or losses i d).loss ≡ false → lost_for_memory (take (i + 1) losses) ≡ []
 memory-more losses i d within none kept =
     let last : SessionLost = get_or losses i d in

@@ -23,7 +23,11 @@ use Rattle.cdp_host.proofs.WatchLemmas.{told-asks}
 abbrev pub NamesEnabled : {C T Q X : Type 0} → Protocol C T Q X → Type 0
 NamesEnabled {C} {T} {Q} {X} P = (number moment : ℕ) (t : T) (x : X) → P.names t x ≡ true → P.is_enabled (P.stopped number t (P.told moment t x)) ≡ true
 
-stops-enabled : {C T Q X : Type 0} → (P : Protocol C T Q X) → NamesEnabled P → (number moment : ℕ) (t : T) (seat : Seat X) → stops_for P number moment t seat ≡ true
+stops-enabled : {C T Q X : Type 0}
+    → (P : Protocol C T Q X)
+    → NamesEnabled P
+    → (number moment : ℕ) (t : T) (seat : Seat X)
+    → stops_for P number moment t seat ≡ true
     → is_enabled_seat P (seat_behind P true number moment t seat) ≡ true
 stops-enabled {X = X} P enabled number moment t (Attached x) stops =
     let y : X = P.stopped number t (P.told moment t x) in
@@ -45,38 +49,57 @@ or_more true b c d is first other = ap (λ e. e || d) (first refl)
 or_more false b c d is first other = ap (λ e. c || e) (other is) ∙ or_right c
 
 -- where one seat is so, one is so behind what was done to each
-some-each : {X : Type 0} → (f g : Seat X → Bool) (h : Seat X → Seat X) → ((seat : Seat X) → f seat ≡ true → g (h seat) ≡ true)
+some-each : {X : Type 0}
+    → (f g : Seat X → Bool) (h : Seat X → Seat X)
+    → ((seat : Seat X) → f seat ≡ true → g (h seat) ≡ true)
     → (seats : List (Seat X)) → some f seats ≡ true → some g (each h seats) ≡ true
 some-each f g h more [] is = absurd cc
 some-each f g h more (seat ∷ seats) is = or_more (f seat) (some f seats) (g (h seat)) (some g (each h seats)) is (more seat) (some-each f g h more seats)
 
 -- a report leaves who is enabled
-reported-enabled : {C T Q X : Type 0} → (P : Protocol C T Q X) (seat : Seat X) → is_enabled_seat P seat ≡ true → is_enabled_seat P (reported seat) ≡ true
+reported-enabled : {C T Q X : Type 0}
+    → (P : Protocol C T Q X) (seat : Seat X)
+    → is_enabled_seat P seat ≡ true
+    → is_enabled_seat P (reported seat) ≡ true
 reported-enabled P (Attached x) is = is
 reported-enabled P (Lost loss is_reported is_told) is = is
 reported-enabled P Left is = is
 
 -- ---- behind a run
 
-resumed_free : {C T Q X : Type 0} → (P : Protocol C T Q X) (m : Meaning C Q X) (b : Bool) → is_paused m ≡ false → is_paused (if b then m else resume P m) ≡ false
+resumed_free : {C T Q X : Type 0}
+    → (P : Protocol C T Q X) (m : Meaning C Q X) (b : Bool)
+    → is_paused m ≡ false
+    → is_paused (if b then m else resume P m) ≡ false
 resumed_free P m true is = is
 resumed_free P m false is = rw is is
 
 -- a program that is paused stays so where somebody is enabled
-settled : {C T Q X : Type 0} → (P : Protocol C T Q X) (m : Meaning C Q X) (b : Bool) → is_paused m ≡ b → (b ≡ true → some (is_enabled_seat P) m.seats ≡ true)
+settled : {C T Q X : Type 0}
+    → (P : Protocol C T Q X) (m : Meaning C Q X) (b : Bool)
+    → is_paused m ≡ b
+    → (b ≡ true → some (is_enabled_seat P) m.seats ≡ true)
     → is_paused (settle P m) ≡ b
 settled P m true is enabled = ap (λ c. is_paused (if c then m else resume P m)) (enabled refl) ∙ is
 settled P m false is enabled = resumed_free P m (some (is_enabled_seat P) m.seats) is
 
-step-enabled : {C T Q X : Type 0} → (P : Protocol C T Q X) → NamesEnabled P → (moment : ℕ) (gone : List ℕ) (m : Meaning C Q X) (b : Bool) → is_named P moment gone m.program m ≡ b
-    → b ≡ true → some (is_enabled_seat P) (each (seat_behind P b (next_number m.stops) moment (told_at P m.program m)) (without gone m.seats)) ≡ true
+step-enabled : {C T Q X : Type 0}
+    → (P : Protocol C T Q X)
+    → NamesEnabled P
+    → (moment : ℕ) (gone : List ℕ) (m : Meaning C Q X) (b : Bool)
+    → is_named P moment gone m.program m ≡ b
+    → b ≡ true
+    → some (is_enabled_seat P) (each (seat_behind P b (next_number m.stops) moment (told_at P m.program m)) (without gone m.seats)) ≡ true
 step-enabled P enabled moment gone m true named is =
     some-each (stops_for P (next_number m.stops) moment (told_at P m.program m)) (is_enabled_seat P) (seat_behind P true (next_number m.stops) moment (told_at P m.program m))
     (stops-enabled P enabled (next_number m.stops) moment (told_at P m.program m)) (without gone m.seats) named
 step-enabled P enabled moment gone m false named is = absurd cc
 
 -- a run that makes steps leaves the program paused exactly where its last step is named
-pub run-paused : {C T Q X : Type 0} → (P : Protocol C T Q X) → NamesEnabled P → (moment : ℕ) (gone : List ℕ) (n : ℕ) (m : Meaning C Q X)
+pub run-paused : {C T Q X : Type 0}
+    → (P : Protocol C T Q X)
+    → NamesEnabled P
+    → (moment : ℕ) (gone : List ℕ) (n : ℕ) (m : Meaning C Q X)
     → is_paused (ran P (suc n) moment gone m) ≡ is_named P moment gone (after_steps P moment n m).program (after_steps P moment n m)
 run-paused {C} {T} {Q} {X} P enabled moment gone n m =
     let k : Meaning C Q X = after_steps P moment n m in
@@ -86,7 +109,10 @@ run-paused {C} {T} {Q} {X} P enabled moment gone n m =
     (λ is. some-each (is_enabled_seat P) (is_enabled_seat P) reported (reported-enabled P) l.seats (step-enabled P enabled moment gone k named refl is))
 
 -- one that makes none leaves it as it was
-pub rest-paused : {C T Q X : Type 0} → (P : Protocol C T Q X) (moment : ℕ) (m : Meaning C Q X) → IsPausedWell P m → is_paused (ran P zero moment [] m) ≡ is_paused m
+pub rest-paused : {C T Q X : Type 0}
+    → (P : Protocol C T Q X) (moment : ℕ) (m : Meaning C Q X)
+    → IsPausedWell P m
+    → is_paused (ran P zero moment [] m) ≡ is_paused m
 rest-paused {C} {T} {Q} {X} P moment m well =
     let k : Meaning C Q X = after_run P moment [] zero m in
     settled P (with_seats (each reported k.seats) k) (is_paused m) refl
@@ -101,16 +127,22 @@ settled-shut P m true paused = refl
 settled-shut P m false true = refl
 settled-shut P m false false = refl
 
-steps-shut : {C T Q X : Type 0} → (P : Protocol C T Q X) (moment n : ℕ) (m : Meaning C Q X) → (after_steps P moment n m).shut ≡ m.shut
+steps-shut : {C T Q X : Type 0}
+    → (P : Protocol C T Q X) (moment n : ℕ) (m : Meaning C Q X)
+    → (after_steps P moment n m).shut ≡ m.shut
 steps-shut P moment zero m = refl
 steps-shut P moment (suc n) m = steps-shut P moment n (step P moment [] m)
 
-run-shut_by : {C T Q X : Type 0} → (P : Protocol C T Q X) (moment : ℕ) (gone : List ℕ) (n : ℕ) (m : Meaning C Q X) → (after_run P moment gone n m).shut ≡ m.shut
+run-shut_by : {C T Q X : Type 0}
+    → (P : Protocol C T Q X) (moment : ℕ) (gone : List ℕ) (n : ℕ) (m : Meaning C Q X)
+    → (after_run P moment gone n m).shut ≡ m.shut
 run-shut_by P moment gone zero m = refl
 run-shut_by P moment gone (suc n) m = steps-shut P moment n m
 
 -- whether the program was shut
-pub run-shut : {C T Q X : Type 0} → (P : Protocol C T Q X) (moment : ℕ) (gone : List ℕ) (n : ℕ) (m : Meaning C Q X) → (ran P n moment gone m).shut ≡ m.shut
+pub run-shut : {C T Q X : Type 0}
+    → (P : Protocol C T Q X) (moment : ℕ) (gone : List ℕ) (n : ℕ) (m : Meaning C Q X)
+    → (ran P n moment gone m).shut ≡ m.shut
 run-shut {C} {T} {Q} {X} P moment gone n m =
     let k : Meaning C Q X = after_run P moment gone n m in
     settled-shut P (with_seats (each reported k.seats) k) (some (is_enabled_seat P) (each reported k.seats)) (is_paused k) ∙ run-shut_by P moment gone n m
@@ -122,7 +154,9 @@ settled-phase P m false true = refl
 settled-phase P m false false = refl
 
 -- how far it has begun
-pub run-phase : {C T Q X : Type 0} → (P : Protocol C T Q X) (moment : ℕ) (gone : List ℕ) (n : ℕ) (m : Meaning C Q X) → (ran P n moment gone m).phase ≡ (after_run P moment gone n m).phase
+pub run-phase : {C T Q X : Type 0}
+    → (P : Protocol C T Q X) (moment : ℕ) (gone : List ℕ) (n : ℕ) (m : Meaning C Q X)
+    → (ran P n moment gone m).phase ≡ (after_run P moment gone n m).phase
 run-phase {C} {T} {Q} {X} P moment gone n m =
     let k : Meaning C Q X = after_run P moment gone n m in
     settled-phase P (with_seats (each reported k.seats) k) (some (is_enabled_seat P) (each reported k.seats)) (is_paused k)

@@ -20,34 +20,42 @@ use Rattle.cdp_host.proofs.ProgramLemmas.{next-prints, plain-next, prefix-same, 
 -- ---- the program's way
 
 -- steps from a plain run are those of the plain run
-plain-as : (k made : ℕ) (scripts : List Script) (input : List (List ℕ)) → plain_from (protocol scripts) k (plain made scripts input) ≡ plain (made + k) scripts input
+plain-as : (k made : ℕ) (scripts : List Script) (input : List (List ℕ))
+    → plain_from (protocol scripts) k (plain made scripts input) ≡ plain (made + k) scripts input
 plain-as zero made scripts input = let e : made ≡ made + 0 = omega arith in ap (λ n. plain n scripts input) e
 plain-as (suc k) made scripts input =
     let e : suc (made + k) ≡ made + suc k = omega arith in
     ap (next scripts) (plain-as k made scripts input) ∙ plain-next (made + k) scripts input ∙ ap (λ n. plain n scripts input) e
 
 -- the program goes its plain way, whatever an entry does
-pub apply-plain : (scripts : List Script) (input : List (List ℕ)) (made : ℕ) (m : Meaning Run) (entry : Entry) → m.program ≡ plain made scripts input
+pub apply-plain : (scripts : List Script) (input : List (List ℕ)) (made : ℕ) (m : Meaning Run) (entry : Entry)
+    → m.program ≡ plain made scripts input
     → (apply scripts m entry).program ≡ plain (made + steps_of entry) scripts input
 apply-plain scripts input made m entry is =
     entry-program (protocol scripts) m entry ∙ ap (plain_from (protocol scripts) (steps_of entry)) is ∙ plain-as (steps_of entry) made scripts input
 
-after-program : {C T Q X : Type 0} → (P : Protocol C T Q X) (moment n : ℕ) (m : meanings.Meaning C Q X) → (after_steps P moment n m).program ≡ plain_from P n m.program
+after-program : {C T Q X : Type 0}
+    → (P : Protocol C T Q X) (moment n : ℕ) (m : meanings.Meaning C Q X)
+    → (after_steps P moment n m).program ≡ plain_from P n m.program
 after-program P moment zero m = refl
 after-program P moment (suc n) m = ap (λ k. k.program) (after-suc P n moment m) ∙ ap P.next (after-program P moment n m)
 
-run-program : {C T Q X : Type 0} → (P : Protocol C T Q X) (moment : ℕ) (gone : List ℕ) (n : ℕ) (m : meanings.Meaning C Q X) → (after_run P moment gone n m).program ≡ plain_from P n m.program
+run-program : {C T Q X : Type 0}
+    → (P : Protocol C T Q X) (moment : ℕ) (gone : List ℕ) (n : ℕ) (m : meanings.Meaning C Q X)
+    → (after_run P moment gone n m).program ≡ plain_from P n m.program
 run-program P moment gone zero m = refl
 run-program P moment gone (suc n) m = ap P.next (after-program P moment n m)
 
-pub steps-plain : (scripts : List Script) (input : List (List ℕ)) (made moment n : ℕ) (m : Meaning Run) → m.program ≡ plain made scripts input
+pub steps-plain : (scripts : List Script) (input : List (List ℕ)) (made moment n : ℕ) (m : Meaning Run)
+    → m.program ≡ plain made scripts input
     → (after_steps (protocol scripts) moment n m).program ≡ plain (made + n) scripts input
 steps-plain scripts input made moment n m is =
     after-program (protocol scripts) moment n m ∙ ap (plain_from (protocol scripts) n) is ∙ plain-as n made scripts input
 
 -- ---- output
 
-steps-grow : (n : ℕ) (scripts : List Script) (r : Run) → IsPrefix (printed_of r) (printed_of (plain_from (protocol scripts) n r))
+steps-grow : (n : ℕ) (scripts : List Script) (r : Run)
+    → IsPrefix (printed_of r) (printed_of (plain_from (protocol scripts) n r))
 steps-grow zero scripts r = prefix-same (printed_of r)
 steps-grow (suc n) scripts r =
     let q : Run = plain_from (protocol scripts) n r in

@@ -60,20 +60,25 @@ Written-less old now new all left bytes rest before next less =
     GainsLess-behind old now new before.done bytes rest all before.is
     (before.parts ∙ ap (λ l. before.done ++ l) next ∙ sym (append_assoc before.done bytes rest)) less
 
-pub Written-all : (old now : Option (List ℕ)) (all left : List ℕ) → Written old now all left → left ≡ [] → now ≡ gains old all
+pub Written-all : (old now : Option (List ℕ)) (all left : List ℕ)
+    → Written old now all left
+    → left ≡ []
+    → now ≡ gains old all
 Written-all old now all left before nothing =
     let e : all ≡ before.done = before.parts ∙ ap (λ l. before.done ++ l) nothing ∙ append-nil before.done in
     before.is ∙ ap (λ bytes. gains old bytes) (sym e)
 
 -- what the lines write is what the first writes, and then the others
-journal_output-line : (scripts : List Script) (m : Meaning Program) (line : List ℕ) (lines : List (List ℕ)) (o : Option Entry) → entry_of scripts m line ≡ o
+journal_output-line : (scripts : List Script) (m : Meaning Program) (line : List ℕ) (lines : List (List ℕ)) (o : Option Entry)
+    → entry_of scripts m line ≡ o
     → journal_output scripts m (line ∷ lines) ≡ line_output scripts m o ++ option_map_or (λ entry. journal_output scripts (apply scripts m entry) lines) o []
 journal_output-line scripts m line lines None is = rw is refl
 journal_output-line scripts m line lines (Some entry) is =
     rw is (ap joined (map-append output_text (output_at scripts m entry) _) ∙ joined-append (map output_text (output_at scripts m entry)) _)
 
 -- the lines that are left begin with the one that was cut off
-left-output : (scripts : List Script) (m : Meaning Program) (rest : List (List ℕ)) (line : List ℕ) (lines : List (List ℕ)) → rest ≡ line ∷ lines
+left-output : (scripts : List Script) (m : Meaning Program) (rest : List (List ℕ)) (line : List ℕ) (lines : List (List ℕ))
+    → rest ≡ line ∷ lines
     → journal_output scripts m rest ≡ line_output scripts m (entry_of scripts m line) ++ option_map_or (λ entry. journal_output scripts (apply scripts m entry) lines) (entry_of scripts m line) []
 left-output scripts m rest line lines is = ap (λ all. journal_output scripts m all) is ∙ journal_output-line scripts m line lines (entry_of scripts m line) refl
 
@@ -99,8 +104,12 @@ behind-start scripts input wait all host before stands works = record {
 }
 
 behind-by : (scripts : List Script) (input : List (List ℕ)) (wait : Bool) (all rest : List (List ℕ)) (number : ℕ) (host new : HostState) (before now next : Option (List ℕ)) (line : List ℕ) (lines : List (List ℕ))
-    → rest ≡ line ∷ lines → (b : IsBehind scripts input wait all rest number host before now) → (o : Option Entry) → entry_of scripts (whole scripts input wait b.history) line ≡ o
-    → Plays scripts input wait b.history o new now next → IsBehind scripts input wait all lines (number + 1) new before next
+    → rest ≡ line ∷ lines
+    → (b : IsBehind scripts input wait all rest number host before now)
+    → (o : Option Entry)
+    → entry_of scripts (whole scripts input wait b.history) line ≡ o
+    → Plays scripts input wait b.history o new now next
+    → IsBehind scripts input wait all lines (number + 1) new before next
 behind-by scripts input wait all rest number host new before now next line lines is b None none plays = absurd plays
 behind-by scripts input wait all rest number host new before now next line lines is b (Some entry) some plays =
     let m : Meaning Program = whole scripts input wait b.history in
@@ -163,17 +172,22 @@ behind-refused-whole scripts input wait all rest number host before now line lin
 
 -- no line is left
 pub behind-done : (scripts : List Script) (input : List (List ℕ)) (wait : Bool) (all rest : List (List ℕ)) (number : ℕ) (host : HostState) (before now : Option (List ℕ))
-    → rest ≡ [] → IsBehind scripts input wait all rest number host before now → refused scripts 1 (begin scripts input wait) all ≡ None
+    → rest ≡ []
+    → IsBehind scripts input wait all rest number host before now
+    → refused scripts 1 (begin scripts input wait) all ≡ None
 behind-done scripts input wait all rest number host before now is b =
     sym b.refused ∙ ap (λ xs. refused scripts number (whole scripts input wait b.history) xs) is
 
 pub behind-done-whole : (scripts : List Script) (input : List (List ℕ)) (wait : Bool) (all rest : List (List ℕ)) (number : ℕ) (host : HostState) (before now : Option (List ℕ))
-    → rest ≡ [] → IsBehind scripts input wait all rest number host before now → now ≡ gains before (journal_output scripts (begin scripts input wait) all)
+    → rest ≡ []
+    → IsBehind scripts input wait all rest number host before now
+    → now ≡ gains before (journal_output scripts (begin scripts input wait) all)
 behind-done-whole scripts input wait all rest number host before now is b =
     Written-all before now _ _ b.written (ap (λ xs. journal_output scripts (whole scripts input wait b.history) xs) is)
 
 -- what was written is a first part of all
 pub behind-first : (scripts : List Script) (input : List (List ℕ)) (wait : Bool) (all rest : List (List ℕ)) (number : ℕ) (host : HostState) (before now : Option (List ℕ))
-    → IsBehind scripts input wait all rest number host before now → GainsPrefix before now (journal_output scripts (begin scripts input wait) all)
+    → IsBehind scripts input wait all rest number host before now
+    → GainsPrefix before now (journal_output scripts (begin scripts input wait) all)
 behind-first scripts input wait all rest number host before now b =
     (b.written.done, journal_output scripts (whole scripts input wait b.history) rest, b.written.parts, b.written.is)

@@ -21,7 +21,11 @@ pub ruleset untouched = (gains-nil, GainsPrefix-refl, Told-GainsPrefix)
 
 -- ---- causes
 
-told_both : (told : Option (List Named)) (P Q R : List Named → Type 0) → ((files : List Named) → P files → Q files → R files) → Told told P → Told told Q → Told told R
+told_both : (told : Option (List Named)) (P Q R : List Named → Type 0)
+    → ((files : List Named) → P files → Q files → R files)
+    → Told told P
+    → Told told Q
+    → Told told R
 told_both None P Q R f p q = tt
 told_both (Some files) P Q R f p q = f files p q
 
@@ -29,7 +33,9 @@ abbrev HasJournal : Option (List Named) → Request → List ℕ → Type 0
 HasJournal told request journal = Told told (λ files. content_of request.journal files ≡ Some journal)
 
 -- why a replay ended so whose program wasn't taken
-pub unread : (end : Outcome) (request : Request) (told : Option (List Named)) (before mid after : Faults) (was : ℕ) (old : Option (List ℕ)) (journal : List ℕ) → HasJournal told request journal → mid ≡ before
+pub unread : (end : Outcome) (request : Request) (told : Option (List Named)) (before mid after : Faults) (was : ℕ) (old : Option (List ℕ)) (journal : List ℕ)
+    → HasJournal told request journal
+    → mid ≡ before
     → BecauseSources end request.sources told mid after → BecauseReplay end request told before after was was old old
 unread ends.Done request told before mid after was old journal there quiet h = absurd h
 unread (ends.Threw text) request told before mid after was old journal there quiet h = absurd h
@@ -64,14 +70,17 @@ pub record HasReplayed (e : ReplayEnd) (scripts : List Script) (input : List (Li
 abbrev HasHeld : Option (List Named) → Request → List ℕ → List Script → List (List ℕ) → Type 0
 HasHeld told request journal scripts input = Told told (λ files. HoldsReplay files request journal scripts input)
 
-pub held : (told : Option (List Named)) (request : Request) (journal : List ℕ) (scripts : List Script) (input : List (List ℕ)) → HasJournal told request journal
+pub held : (told : Option (List Named)) (request : Request) (journal : List ℕ) (scripts : List Script) (input : List (List ℕ))
+    → HasJournal told request journal
     → Told told (λ files. HoldsSources files request.sources scripts input) → HasHeld told request journal scripts input
 held told request journal scripts input there sources =
     told_both told (λ files. content_of request.journal files ≡ Some journal) (λ files. HoldsSources files request.sources scripts input) (λ files. HoldsReplay files request journal scripts input)
     (λ files t s. record { there = t; sources = s }) there sources
 
 in_part : (files : List Named) (request : Request) (journal : List ℕ) (scripts : List Script) (input : List (List ℕ)) (old new : Option (List ℕ))
-    → HoldsReplay files request journal scripts input → WritesPart scripts input request.wait journal old new → ReplaysInPart files request old new
+    → HoldsReplay files request journal scripts input
+    → WritesPart scripts input request.wait journal old new
+    → ReplaysInPart files request old new
 in_part files request journal scripts input old new holds part =
     record { journal = journal; scripts = scripts; input = input; holds = holds; writes = part }
 
@@ -81,7 +90,9 @@ quiet_by e was now other (inr is) = is
 
 -- why a replay ended so whose lines were played
 pub because : (e : ReplayEnd) (request : Request) (told : Option (List Named)) (before after : Faults) (was now : ℕ) (old new : Option (List ℕ)) (journal : List ℕ) (scripts : List Script) (input : List (List ℕ))
-    → HasHeld told request journal scripts input → after ≡ before → HasReplayed e scripts input request.wait journal was now old new
+    → HasHeld told request journal scripts input
+    → after ≡ before
+    → HasReplayed e scripts input request.wait journal was now old new
     → BecauseReplay (outcome_of_replay e) request told before after was now old new
 because plays.Done request told before after was now old new journal scripts input holds same h = (
   same,
@@ -108,24 +119,36 @@ because plays.Memory request told before after was now old new journal scripts i
       (λ files i. inr (in_part files request journal scripts input old new i h.part)) holds,
 )
 
-pub in-part : (told : Option (List Named)) (request : Request) (old new : Option (List ℕ)) (journal : List ℕ) (scripts : List Script) (input : List (List ℕ)) → HasHeld told request journal scripts input
-    → WritesPart scripts input request.wait journal old new → Told told (λ files. (new ≡ old) ⊎ ReplaysInPart files request old new)
+pub in-part : (told : Option (List Named)) (request : Request) (old new : Option (List ℕ)) (journal : List ℕ) (scripts : List Script) (input : List (List ℕ))
+    → HasHeld told request journal scripts input
+    → WritesPart scripts input request.wait journal old new
+    → Told told (λ files. (new ≡ old) ⊎ ReplaysInPart files request old new)
 in-part told request old new journal scripts input holds part =
     told_map told (λ files. HoldsReplay files request journal scripts input) (λ files. (new ≡ old) ⊎ ReplaysInPart files request old new)
     (λ files i. inr (in_part files request journal scripts input old new i part)) holds
 
 -- the same, as the calls before the lines' replay tell of their shelves and bytes
 pub played : (e : ReplayEnd) (request : Request) (told mid_told : Option (List Named)) (before mid after : Faults) (was now : ℕ) (old new : Option (List ℕ)) (bytes journal : List ℕ) (scripts : List Script) (input : List (List ℕ))
-    → HasJournal told request bytes → mid ≡ before → mid_told ≡ told → Told mid_told (λ files. HoldsSources files request.sources scripts input) → after ≡ mid → journal ≡ bytes
-    → HasReplayed e scripts input request.wait journal was now old new → BecauseReplay (outcome_of_replay e) request told before after was now old new
+    → HasJournal told request bytes
+    → mid ≡ before
+    → mid_told ≡ told
+    → Told mid_told (λ files. HoldsSources files request.sources scripts input)
+    → after ≡ mid
+    → journal ≡ bytes
+    → HasReplayed e scripts input request.wait journal was now old new
+    → BecauseReplay (outcome_of_replay e) request told before after was now old new
 played e request told mid_told before mid after was now old new bytes journal scripts input there quiet same sources still is h =
     let held_all : HasHeld told request bytes scripts input =
     held told request bytes scripts input there (subst (λ (t : Option (List Named)). Told t (λ files. HoldsSources files request.sources scripts input)) same sources) in
     because e request told before after was now old new bytes scripts input held_all (still ∙ quiet) (subst (λ (j : List ℕ). HasReplayed e scripts input request.wait j was now old new) is h)
 
 pub played-part : (request : Request) (told mid_told : Option (List Named)) (old new : Option (List ℕ)) (bytes journal : List ℕ) (scripts : List Script) (input : List (List ℕ))
-    → HasJournal told request bytes → mid_told ≡ told → Told mid_told (λ files. HoldsSources files request.sources scripts input) → journal ≡ bytes
-    → WritesPart scripts input request.wait journal old new → Told told (λ files. (new ≡ old) ⊎ ReplaysInPart files request old new)
+    → HasJournal told request bytes
+    → mid_told ≡ told
+    → Told mid_told (λ files. HoldsSources files request.sources scripts input)
+    → journal ≡ bytes
+    → WritesPart scripts input request.wait journal old new
+    → Told told (λ files. (new ≡ old) ⊎ ReplaysInPart files request old new)
 played-part request told mid_told old new bytes journal scripts input there same sources is part =
     let held_all : HasHeld told request bytes scripts input =
     held told request bytes scripts input there (subst (λ (t : Option (List Named)). Told t (λ files. HoldsSources files request.sources scripts input)) same sources) in
@@ -133,7 +156,8 @@ played-part request told mid_told old new bytes journal scripts input there same
 
 -- ---- the status that the files decide
 
-replay_stands : (files : List Named) (request : Request) (journal : List ℕ) (scripts : List Script) (input : List (List ℕ)) (name : List ℕ) (r : Refusal) → HoldsReplay files request journal scripts input
+replay_stands : (files : List Named) (request : Request) (journal : List ℕ) (scripts : List Script) (input : List (List ℕ)) (name : List ℕ) (r : Refusal)
+    → HoldsReplay files request journal scripts input
     → IsRefusedBehind files request name r → ⊥
 replay_stands files request journal scripts input name r h i = run_stands files request.sources scripts input name r h.sources i.refused
 
@@ -142,7 +166,8 @@ abbrev IsTaken : ℕ → Request → List Named → Type 0
 IsTaken n request files =
     (journal : List ℕ) (scripts : List Script) (input : List (List ℕ)) → HoldsReplay files request journal scripts input → (n ≡ 0) ⊎ (n ≡ 6) ⊎ (n ≡ 1) ⊎ (n ≡ 4) ⊎ (n ≡ 5)
 
-taken_of : (end : Outcome) (request : Request) (told : Option (List Named)) (before after : Faults) (was now : ℕ) (old new : Option (List ℕ)) → BecauseReplay end request told before after was now old new
+taken_of : (end : Outcome) (request : Request) (told : Option (List Named)) (before after : Faults) (was now : ℕ) (old new : Option (List ℕ))
+    → BecauseReplay end request told before after was now old new
     → Told told (IsTaken (status_of end) request)
 taken_of ends.Done request told before after was now old new h = told_always told (IsTaken 0 request) (λ files journal scripts input holds. inl refl)
 taken_of (ends.LineRefused n) request told before after was now old new h = told_always told (IsTaken 6 request) (λ files journal scripts input holds. inr (inl refl))
@@ -162,7 +187,8 @@ not_left : (request : Request) (n : ℕ) (journal : List ℕ) (scripts : List Sc
     → HoldsReplay files request journal scripts input → IsLeft n request files
 not_left request n journal scripts input files holds name r refused = absurd (replay_stands files request journal scripts input name r holds refused)
 
-left_of : (end : Outcome) (request : Request) (told : Option (List Named)) (before after : Faults) (was now : ℕ) (old new : Option (List ℕ)) → BecauseReplay end request told before after was now old new
+left_of : (end : Outcome) (request : Request) (told : Option (List Named)) (before after : Faults) (was now : ℕ) (old new : Option (List ℕ))
+    → BecauseReplay end request told before after was now old new
     → Told told (IsLeft (status_of end) request)
 left_of ends.Done request told before after was now old new h =
     told_map told (λ files. ReplaysWhole files request None old new) (IsLeft 0 request) (λ files i. not_left request 0 i.journal i.scripts i.input files i.holds) h.2
@@ -177,15 +203,24 @@ left_of ends.Usage request told before after was now old new h = absurd h
 left_of (ends.Threw text) request told before after was now old new h = absurd h
 
 -- of the words that ask for the replay
-given_replay : (o : Option Command) (request : Request) (told : Option (List Named)) (P : Request → List Named → Type 0) → o ≡ Some (Replay request) → Told told (P request) → GivenReplay o told P
+given_replay : (o : Option Command) (request : Request) (told : Option (List Named)) (P : Request → List Named → Type 0)
+    → o ≡ Some (Replay request)
+    → Told told (P request)
+    → GivenReplay o told P
 given_replay o request told P is h = rw is h
 
 pub taken_given : (o : Option Command) (request : Request) (told : Option (List Named)) (end : Outcome) (before after : Faults) (was now : ℕ) (old new : Option (List ℕ)) (status : ℕ)
-    → o ≡ Some (Replay request) → status ≡ status_of end → BecauseReplay end request told before after was now old new → GivenReplay o told (IsTaken status)
+    → o ≡ Some (Replay request)
+    → status ≡ status_of end
+    → BecauseReplay end request told before after was now old new
+    → GivenReplay o told (IsTaken status)
 taken_given o request told end before after was now old new status is e h =
     given_replay o request told (IsTaken status) is (subst (λ (n : ℕ). Told told (IsTaken n request)) (sym e) (taken_of end request told before after was now old new h))
 
 pub left_given : (o : Option Command) (request : Request) (told : Option (List Named)) (end : Outcome) (before after : Faults) (was now : ℕ) (old new : Option (List ℕ)) (status : ℕ)
-    → o ≡ Some (Replay request) → status ≡ status_of end → BecauseReplay end request told before after was now old new → GivenReplay o told (IsLeft status)
+    → o ≡ Some (Replay request)
+    → status ≡ status_of end
+    → BecauseReplay end request told before after was now old new
+    → GivenReplay o told (IsLeft status)
 left_given o request told end before after was now old new status is e h =
     given_replay o request told (IsLeft status) is (subst (λ (n : ℕ). Told told (IsLeft n request)) (sym e) (left_of end request told before after was now old new h))

@@ -68,7 +68,10 @@ ended_by : (e : ReplayEnd) (o : Option ℕ) → ¬ (IsCut e) → IsCut e ⊎ (e 
 ended_by e o uncut (inl cut) = absurd (uncut cut)
 ended_by e o uncut (inr is) = is
 
-wrote_by : (e : ReplayEnd) (old new : Option (List ℕ)) (bytes : List ℕ) → ¬ (IsCut e) → IsCut e ⊎ (new ≡ gains old bytes) → new ≡ gains old bytes
+wrote_by : (e : ReplayEnd) (old new : Option (List ℕ)) (bytes : List ℕ)
+    → ¬ (IsCut e)
+    → IsCut e ⊎ (new ≡ gains old bytes)
+    → new ≡ gains old bytes
 wrote_by e old new bytes uncut (inl cut) = absurd (uncut cut)
 wrote_by e old new bytes uncut (inr is) = is
 
@@ -104,7 +107,8 @@ writes-done scripts input wait journal old new end output =
     writes-whole scripts input wait journal None old new (none_of o (ended_by ends.Done o uncut-done end)) (wrote_by ends.Done old new _ uncut-done output)
 
 writes-refused : (scripts : List Script) (input : List (List ℕ)) (wait : Bool) (journal : List ℕ) (line : ℕ) (old new : Option (List ℕ))
-    → HasEnd (ends.Refused line) scripts input wait journal → HasOutput (ends.Refused line) scripts input wait journal old new
+    → HasEnd (ends.Refused line) scripts input wait journal
+    → HasOutput (ends.Refused line) scripts input wait journal old new
     → WritesReplay scripts input wait journal (Some line) old new
 writes-refused scripts input wait journal line old new end output =
     let o = refused scripts 1 (begin scripts input wait) (lines_of journal) in

@@ -16,11 +16,16 @@ use Rattle.command_line.specs.declared.outcome.Outcome.TheVariants as ends
 
 -- ---- what is told
 
-pub told_always : (told : Option (List Named)) (P : List Named → Type 0) → ((files : List Named) → P files) → Told told P
+pub told_always : (told : Option (List Named)) (P : List Named → Type 0)
+    → ((files : List Named) → P files)
+    → Told told P
 told_always None P all = tt
 told_always (Some files) P all = all files
 
-pub told_map : (told : Option (List Named)) (P Q : List Named → Type 0) → ((files : List Named) → P files → Q files) → Told told P → Told told Q
+pub told_map : (told : Option (List Named)) (P Q : List Named → Type 0)
+    → ((files : List Named) → P files → Q files)
+    → Told told P
+    → Told told Q
 told_map None P Q f p = tt
 told_map (Some files) P Q f p = f files p
 
@@ -29,17 +34,27 @@ told_map (Some files) P Q f p = f files p
 pub same_bytes : (o : Option (List ℕ)) (x y : List ℕ) → o ≡ Some x → o ≡ Some y → x ≡ y
 same_bytes o x y p q = cc
 
-text_stands : (files : List Named) (name : List ℕ) (lines : List (List ℕ)) (r : Refusal) → HoldsInput files name lines → HoldsNoText files name r → ⊥
+text_stands : (files : List Named) (name : List ℕ) (lines : List (List ℕ)) (r : Refusal)
+    → HoldsInput files name lines
+    → HoldsNoText files name r
+    → ⊥
 text_stands files name lines r h n =
     let same : h.bytes ≡ n.bytes = same_bytes (content_of name files) h.bytes n.bytes h.there n.there in
     let text : is_utf8 n.bytes ≡ true = ap is_utf8 (sym same) ∙ h.utf8 in
     let isnt : is_utf8 n.bytes ≡ false = n.utf8 in
     absurd cc
 
-input_stands : (files : List Named) (o : Option (List ℕ)) (name : List ℕ) (lines : List (List ℕ)) (r : Refusal) → o ≡ Some name → HoldsLines files o lines → HoldsNoText files name r → ⊥
+input_stands : (files : List Named) (o : Option (List ℕ)) (name : List ℕ) (lines : List (List ℕ)) (r : Refusal)
+    → o ≡ Some name
+    → HoldsLines files o lines
+    → HoldsNoText files name r
+    → ⊥
 input_stands files o name lines r is h n = text_stands files name lines r (subst (λ (x : Option (List ℕ)). HoldsLines files x lines) is h) n
 
-pub run_stands : (files : List Named) (sources : Sources) (scripts : List Script) (input : List (List ℕ)) (name : List ℕ) (r : Refusal) → HoldsSources files sources scripts input → IsRefusedIn files sources name r → ⊥
+pub run_stands : (files : List Named) (sources : Sources) (scripts : List Script) (input : List (List ℕ)) (name : List ℕ) (r : Refusal)
+    → HoldsSources files sources scripts input
+    → IsRefusedIn files sources name r
+    → ⊥
 run_stands files sources scripts input name r h (inl i) = input_stands files sources.input name input r i.named h.lines i.refused
 run_stands files sources scripts input name r h (inr i) = none_refused files sources.scripts scripts name r h.are i.refused
 
@@ -49,7 +64,8 @@ run_stands files sources scripts input name r h (inr i) = none_refused files sou
 abbrev IsTaken : ℕ → Sources → List Named → Type 0
 IsTaken n sources files = (scripts : List Script) (input : List (List ℕ)) → HoldsSources files sources scripts input → (n ≡ 0) ⊎ (n ≡ 8) ⊎ (n ≡ 1) ⊎ (n ≡ 4) ⊎ (n ≡ 5)
 
-taken_of : (end : Outcome) (sources : Sources) (told : Option (List Named)) (before after : Faults) (was now : ℕ) (old new : Option (List ℕ)) → BecauseRun end sources told before after was now old new
+taken_of : (end : Outcome) (sources : Sources) (told : Option (List Named)) (before after : Faults) (was now : ℕ) (old new : Option (List ℕ))
+    → BecauseRun end sources told before after was now old new
     → Told told (IsTaken (status_of end) sources)
 taken_of ends.Done sources told before after was now old new h = told_always told (IsTaken 0 sources) (λ files scripts input holds. inl refl)
 taken_of (ends.Threw text) sources told before after was now old new h = told_always told (IsTaken 8 sources) (λ files scripts input holds. inr (inl refl))
@@ -65,7 +81,8 @@ taken_of (ends.LineRefused n) sources told before after was now old new h = absu
 abbrev IsLeft : ℕ → Sources → List Named → Type 0
 IsLeft n sources files = (name : List ℕ) (refusal : Refusal) → IsRefusedIn files sources name refusal → (n ≡ 3) ⊎ (n ≡ 1) ⊎ (n ≡ 4)
 
-left_of : (end : Outcome) (sources : Sources) (told : Option (List Named)) (before after : Faults) (was now : ℕ) (old new : Option (List ℕ)) → BecauseRun end sources told before after was now old new
+left_of : (end : Outcome) (sources : Sources) (told : Option (List Named)) (before after : Faults) (was now : ℕ) (old new : Option (List ℕ))
+    → BecauseRun end sources told before after was now old new
     → Told told (IsLeft (status_of end) sources)
 left_of ends.Done sources told before after was now old new h =
     told_map told (λ files. RunsToEnd files sources old new) (IsLeft 0 sources) (λ files i. λ name r refused. absurd (run_stands files sources i.scripts i.input name r i.holds refused)) h.2
@@ -80,23 +97,33 @@ left_of ends.Usage sources told before after was now old new h = absurd h
 left_of (ends.LineRefused n) sources told before after was now old new h = absurd h
 
 -- of the words that ask for the run
-given_run : (o : Option Command) (sources : Sources) (told : Option (List Named)) (P : Sources → List Named → Type 0) → o ≡ Some (Run sources) → Told told (P sources) → GivenRun o told P
+given_run : (o : Option Command) (sources : Sources) (told : Option (List Named)) (P : Sources → List Named → Type 0)
+    → o ≡ Some (Run sources)
+    → Told told (P sources)
+    → GivenRun o told P
 given_run o sources told P is h = rw is h
 
 pub taken_given : (o : Option Command) (sources : Sources) (told : Option (List Named)) (end : Outcome) (before after : Faults) (was now : ℕ) (old new : Option (List ℕ)) (status : ℕ)
-    → o ≡ Some (Run sources) → status ≡ status_of end → BecauseRun end sources told before after was now old new → GivenRun o told (IsTaken status)
+    → o ≡ Some (Run sources)
+    → status ≡ status_of end
+    → BecauseRun end sources told before after was now old new
+    → GivenRun o told (IsTaken status)
 taken_given o sources told end before after was now old new status is e h =
     given_run o sources told (IsTaken status) is (subst (λ (n : ℕ). Told told (IsTaken n sources)) (sym e) (taken_of end sources told before after was now old new h))
 
 pub left_given : (o : Option Command) (sources : Sources) (told : Option (List Named)) (end : Outcome) (before after : Faults) (was now : ℕ) (old new : Option (List ℕ)) (status : ℕ)
-    → o ≡ Some (Run sources) → status ≡ status_of end → BecauseRun end sources told before after was now old new → GivenRun o told (IsLeft status)
+    → o ≡ Some (Run sources)
+    → status ≡ status_of end
+    → BecauseRun end sources told before after was now old new
+    → GivenRun o told (IsLeft status)
 left_given o sources told end before after was now old new status is e h =
     given_run o sources told (IsLeft status) is (subst (λ (n : ℕ). Told told (IsLeft n sources)) (sym e) (left_of end sources told before after was now old new h))
 
 -- ---- before a step is made
 
 -- why a run ended so whose files weren't all taken
-pub unread : (end : Outcome) (sources : Sources) (told : Option (List Named)) (before after : Faults) (was : ℕ) (old : Option (List ℕ)) → BecauseSources end sources told before after
+pub unread : (end : Outcome) (sources : Sources) (told : Option (List Named)) (before after : Faults) (was : ℕ) (old : Option (List ℕ))
+    → BecauseSources end sources told before after
     → BecauseRun end sources told before after was was old old
 unread ends.Done sources told before after was old h = absurd h
 unread (ends.Threw text) sources told before after was old h = absurd h

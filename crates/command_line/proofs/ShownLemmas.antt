@@ -39,7 +39,9 @@ cut (byte ∷ line) rest one =
     rw (not-true (byte == 10) parts.0, cut line rest parts.1) refl
 
 -- the bytes of lines without LF are cut into them
-pub shown : (lines : List Output) → are_one_line (map output_line lines) ≡ true → lines_of (output_bytes lines) ≡ map output_line lines
+pub shown : (lines : List Output)
+    → are_one_line (map output_line lines) ≡ true
+    → lines_of (output_bytes lines) ≡ map output_line lines
 shown [] one = refl
 shown (line ∷ lines) one =
     let parts = and_parts (is_one_line (output_line line)) (are_one_line (map output_line lines)) one in
@@ -48,7 +50,9 @@ shown (line ∷ lines) one =
     ∙ cut (output_line line) (output_bytes lines) parts.0
     ∙ ap (λ others. output_line line ∷ others) (shown lines parts.1)
 
-ran-one : (n : ℕ) (word : List ℕ) → is_one_line word ≡ true → is_one_line (codes "ran " ++ (decimal n ++ 32 ∷ word)) ≡ true
+ran-one : (n : ℕ) (word : List ℕ)
+    → is_one_line word ≡ true
+    → is_one_line (codes "ran " ++ (decimal n ++ 32 ∷ word)) ≡ true
 ran-one n word one = one-append (codes "ran ") (decimal n ++ 32 ∷ word) refl (one-append (decimal n) (32 ∷ word) (decimal-one n) one)
 
 -- no line holds LF
@@ -78,7 +82,8 @@ out_texts (Out n ∷ lines) = n ∷ out_texts lines
 out_texts (Overran s ∷ lines) = out_texts lines
 out_texts (RanTo steps state ∷ lines) = out_texts lines
 
-pub out-each : (lines : List Output) → behind_each (codes "out ") (map output_line lines) ≡ map printed_escaped (out_texts lines)
+pub out-each : (lines : List Output)
+    → behind_each (codes "out ") (map output_line lines) ≡ map printed_escaped (out_texts lines)
 out-each [] = refl
 out-each (Attached s ∷ lines) = out-each lines
 out-each (To s text ∷ lines) = out-each lines
@@ -112,7 +117,8 @@ lost_of (Out n ∷ lines) = lost_of lines
 lost_of (Overran s ∷ lines) = s ∷ lost_of lines
 lost_of (RanTo steps state ∷ lines) = lost_of lines
 
-pub lost-each : (lines : List Output) → behind_each (codes "overrun ") (map output_line lines) ≡ map decimal (lost_of lines)
+pub lost-each : (lines : List Output)
+    → behind_each (codes "overrun ") (map output_line lines) ≡ map decimal (lost_of lines)
 lost-each [] = refl
 lost-each (Attached s ∷ lines) = lost-each lines
 lost-each (To s text ∷ lines) = lost-each lines
@@ -141,7 +147,11 @@ own-text : (s : ℕ) (text : List ℕ) → behind (decimal s ++ 32 ∷ []) (deci
 own-text s text = ap (behind (decimal s ++ 32 ∷ [])) (sym (append_assoc (decimal s) (32 ∷ []) text)) ∙ behind-append (decimal s ++ 32 ∷ []) text
 
 -- a number before a space tells the session
-number-told : (s n : ℕ) (text rest : List ℕ) → s < 2 ^ 64 → n < 2 ^ 64 → decimal n ++ 32 ∷ text ≡ decimal s ++ 32 ∷ rest → n ≡ s
+number-told : (s n : ℕ) (text rest : List ℕ)
+    → s < 2 ^ 64
+    → n < 2 ^ 64
+    → decimal n ++ 32 ∷ text ≡ decimal s ++ 32 ∷ rest
+    → n ≡ s
 number-told s n text rest s_small n_small is =
     let one = halves-decimal n 32 text n_small (λ digit. omega arith) in
     let other = halves-decimal s 32 rest s_small (λ digit. omega arith) in

@@ -37,15 +37,20 @@ pub record StopsWhereNamed (scripts : List Script) (input : List (List ℕ)) (wa
 -- each session is sent exactly what a host with no other session sends it, given the program's steps, stops and resumes
 pub record SendsAsAlone (scripts : List Script) (input : List (List ℕ)) (wait : Bool) (history : List Entry) (output : List ℕ) : Type 0 where
   -- the texts on the lines `to S TEXT` are those that the takes of the session S hand out
-  pub lines : (s : ℕ) → s < 2 ^ 64 → behind_each (to_front s) (lines_of output) ≡ map escaped (sent_to scripts input wait s history)
+  pub lines : (s : ℕ)
+      → s < 2 ^ 64
+      → behind_each (to_front s) (lines_of output) ≡ map escaped (sent_to scripts input wait s history)
   -- and these are what it would be sent with no other session there, given what it sees of the history
-  pub alone : (s : ℕ) → sent_to scripts input wait s history ≡ sent_alone scripts input wait s (view scripts input wait s history)
+  pub alone : (s : ℕ)
+      → sent_to scripts input wait s history ≡ sent_alone scripts input wait s (view scripts input wait s history)
   -- for a session that is attached at the end, the texts on its lines and those that wait for it are all answers and events that its
   -- commands and the steps make for it
   pub all : (s : ℕ) → s < 2 ^ 64 → is_there (whole scripts input wait history) s ≡ true
       → behind_each (to_front s) (lines_of output) ++ map escaped (waiting_to s scripts (whole scripts input wait history)) ≡ map escaped (texts_to s scripts input wait history)
   -- for any session the texts on its lines are the first of these
-  pub first : (s : ℕ) → s < 2 ^ 64 → IsPrefix (behind_each (to_front s) (lines_of output)) (map escaped (texts_to s scripts input wait history))
+  pub first : (s : ℕ)
+      → s < 2 ^ 64
+      → IsPrefix (behind_each (to_front s) (lines_of output)) (map escaped (texts_to s scripts input wait history))
   -- and the lines `overrun S` tell each session that is lost, since more texts would have waited for it than may
   pub losses : behind_each (codes "overrun ") (lines_of output) ≡ map decimal (losses_of scripts (begin scripts input wait) history)
 

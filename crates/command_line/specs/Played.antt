@@ -24,13 +24,28 @@ pub record StandsBehind (scripts : List Script) (input : List (List ℕ)) (wait 
   pub works : new.broken ≡ false
 
 -- a line that has this entry was applied, and these are its lines of output; one that has none was not
-abbrev pub Acts : List Script → List (List ℕ) → Bool → List Entry → Option Entry → Option (List (List ℕ)) → HostState → Type 0
+abbrev pub Acts : List Script
+    → List (List ℕ)
+    → Bool
+    → List Entry
+    → Option Entry
+    → Option (List (List ℕ))
+    → HostState
+    → Type 0
 Acts scripts input wait history None lines new = lines ≡ None
 Acts scripts input wait history (Some entry) lines new =
     (lines ≡ Some (map output_text (output_at scripts (whole scripts input wait history) entry))) × StandsBehind scripts input wait history entry new
 
 -- a line that has this entry was applied, and its output was written
-abbrev pub Plays : List Script → List (List ℕ) → Bool → List Entry → Option Entry → HostState → Option (List ℕ) → Option (List ℕ) → Type 0
+abbrev pub Plays : List Script
+    → List (List ℕ)
+    → Bool
+    → List Entry
+    → Option Entry
+    → HostState
+    → Option (List ℕ)
+    → Option (List ℕ)
+    → Type 0
 Plays scripts input wait history None new before now = ⊥
 Plays scripts input wait history (Some entry) new before now =
     (now ≡ gains before (output_bytes (output_at scripts (whole scripts input wait history) entry))) × StandsBehind scripts input wait history entry new

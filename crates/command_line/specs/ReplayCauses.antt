@@ -53,7 +53,16 @@ BecauseJournal ends.OutOfMemory journal before after = after ≡ before
 BecauseJournal end journal before after = ⊥
 
 -- why a replay ended so: the files say so, a count of faults rose, or memory was wanting. The counts are those of the shelf and of the output, the contents those of the output
-abbrev pub BecauseReplay : Outcome → Request → Option (List Named) → Faults → Faults → ℕ → ℕ → Option (List ℕ) → Option (List ℕ) → Type 0
+abbrev pub BecauseReplay : Outcome
+    → Request
+    → Option (List Named)
+    → Faults
+    → Faults
+    → ℕ
+    → ℕ
+    → Option (List ℕ)
+    → Option (List ℕ)
+    → Type 0
 BecauseReplay ends.Done request told before after was now old new = (after ≡ before) × (now ≡ was) × Told told (λ files. ReplaysWhole files request None old new)
 BecauseReplay (ends.LineRefused number) request told before after was now old new = (after ≡ before) × (now ≡ was) × Told told (λ files. ReplaysWhole files request (Some number) old new)
 BecauseReplay ends.OutOfMemory request told before after was now old new = (after ≡ before) × (now ≡ was) × Told told (λ files. (new ≡ old) ⊎ ReplaysInPart files request old new)

@@ -76,7 +76,16 @@ BecauseSources ends.OutOfMemory sources told before after = after ≡ before
 BecauseSources end sources told before after = ⊥
 
 -- why a run ended so: the files say so, a count of faults rose, or memory was wanting. The counts are those of the shelf and of the output, the contents those of the output
-abbrev pub BecauseRun : Outcome → Sources → Option (List Named) → Faults → Faults → ℕ → ℕ → Option (List ℕ) → Option (List ℕ) → Type 0
+abbrev pub BecauseRun : Outcome
+    → Sources
+    → Option (List Named)
+    → Faults
+    → Faults
+    → ℕ
+    → ℕ
+    → Option (List ℕ)
+    → Option (List ℕ)
+    → Type 0
 BecauseRun ends.Done sources told before after was now old new = (after ≡ before) × (now ≡ was) × Told told (λ files. RunsToEnd files sources old new)
 BecauseRun (ends.Threw text) sources told before after was now old new = (after ≡ before) × (now ≡ was) × Told told (λ files. RunsToThrow files sources (string_bytes text) old new)
 BecauseRun ends.OutOfMemory sources told before after was now old new = (after ≡ before) × (now ≡ was) × Told told (λ files. (new ≡ old) ⊎ RunsInPart files sources old new)

@@ -34,7 +34,8 @@ pub statements_listed : (ss : Stmts) → statements_view ss ≡ statements (map 
 unfolding expression_view property_view key_view statement_view block_view catch_view declarator_view declarators_view expressions_view properties_view statements_view
 statements_listed ss = fold_out-Stmts Expression Property Key Statement Statements Handler trees.Declarator trees.Declarators Expressions Properties Statements expression_step property_step key_step statement_step block_step catch_step declarator_step declarators_step expressions_step properties_step statements_step ss
 
-pub declarators_listed : (ds : Declarators) → declarators_view ds ≡ declarators (map declarator_view (out-Declarators ds).items.items)
+pub declarators_listed : (ds : Declarators)
+    → declarators_view ds ≡ declarators (map declarator_view (out-Declarators ds).items.items)
 unfolding expression_view property_view key_view statement_view block_view catch_view declarator_view declarators_view expressions_view properties_view statements_view
 declarators_listed ds = fold_out-Declarators Expression Property Key Statement Statements Handler trees.Declarator trees.Declarators Expressions Properties Statements expression_step property_step key_step statement_step block_step catch_step declarator_step declarators_step expressions_step properties_step statements_step ds
 
@@ -48,7 +49,8 @@ pub catch_of : (h : Catch) → catch_view h ≡ trees.catch h.parameter (block_v
 unfolding expression_view property_view key_view statement_view block_view catch_view declarator_view declarators_view expressions_view properties_view statements_view
 catch_of h = fold_out-Catch Expression Property Key Statement Statements Handler trees.Declarator trees.Declarators Expressions Properties Statements expression_step property_step key_step statement_step block_step catch_step declarator_step declarators_step expressions_step properties_step statements_step h
 
-declarator_by : (n : List ℕ) (o : Option Expr) → declarator_view (record { name = n; initializer = o }) ≡ trees.declarator n (optional_view o)
+declarator_by : (n : List ℕ) (o : Option Expr)
+    → declarator_view (record { name = n; initializer = o }) ≡ trees.declarator n (optional_view o)
 unfolding expression_view property_view key_view statement_view block_view catch_view declarator_view declarators_view expressions_view properties_view statements_view
 declarator_by n None = fold_out-Declarator Expression Property Key Statement Statements Handler trees.Declarator trees.Declarators Expressions Properties Statements expression_step property_step key_step statement_step block_step catch_step declarator_step declarators_step expressions_step properties_step statements_step (record { name = n; initializer = None })
 declarator_by n (Some e) = fold_out-Declarator Expression Property Key Statement Statements Handler trees.Declarator trees.Declarators Expressions Properties Statements expression_step property_step key_step statement_step block_step catch_step declarator_step declarators_step expressions_step properties_step statements_step (record { name = n; initializer = Some e })
@@ -67,7 +69,8 @@ if_literals node test consequent (Some s) = ap statement_literals (view_if_else 
 abbrev pub declared_of : Stmt → List (List ℕ)
 declared_of s = declared_literals (statement_view s)
 
-pub if_declared : (node : NodeId) (test : Expr) (consequent : Box Stmt) (alternate : Option (Box Stmt)) → declared_literals (statement_view (tree.If node test consequent alternate)) ≡ []
+pub if_declared : (node : NodeId) (test : Expr) (consequent : Box Stmt) (alternate : Option (Box Stmt))
+    → declared_literals (statement_view (tree.If node test consequent alternate)) ≡ []
 if_declared node test consequent None = ap declared_literals (view_if_then node test consequent)
 if_declared node test consequent (Some s) = ap declared_literals (view_if_else node test consequent s)
 

@@ -47,13 +47,23 @@ outer-of w a (Some (cells.Bindings kind name outer names)) s n e =
     (k.0, subst (λ o. IsWithinOlder a o) e (n.outward a))
 
 -- the rest of a chain behind a scope
-rest-chain : (n : ℕ) (w : World) (inside : Bool) (a : Addr) (kind : _) (name : List ℕ) (outer : Option Addr) (names : _) → age w a < suc n → ((b : Addr) → SoundScope w (Some b) → age w b < n → IsChain w (still_inside kind inside) (Some b) (listed_within n w (still_inside kind inside) b)) → OuterOf w a (Some (cells.Bindings kind name outer names)) → IsChain w (still_inside kind inside) outer (outward outer (listed_within n w (still_inside kind inside)))
+rest-chain : (n : ℕ) (w : World) (inside : Bool) (a : Addr) (kind : _) (name : List ℕ) (outer : Option Addr) (names : _)
+    → age w a < suc n
+    → ((b : Addr) → SoundScope w (Some b) → age w b < n → IsChain w (still_inside kind inside) (Some b) (listed_within n w (still_inside kind inside) b))
+    → OuterOf w a (Some (cells.Bindings kind name outer names))
+    → IsChain w (still_inside kind inside) outer (outward outer (listed_within n w (still_inside kind inside)))
 rest-chain n w inside a kind name None names l rec h = tt
 rest-chain n w inside a kind name (Some b) names l rec h =
     let k : age w b < age w a = older-age w b a h.0 h.1 in
     rec b h.0 (omega arith)
 
-link : (n : ℕ) (w : World) (inside : Bool) (a : Addr) (c : Option Cell) → read_cell w a ≡ c → Leads IsScopeKind c → age w a < suc n → ((inner : Bool) (b : Addr) → SoundScope w (Some b) → age w b < n → IsChain w inner (Some b) (listed_within n w inner b)) → OuterOf w a c → IsChain w inside (Some a) (scope_listed inside a c (listed_within n w))
+link : (n : ℕ) (w : World) (inside : Bool) (a : Addr) (c : Option Cell)
+    → read_cell w a ≡ c
+    → Leads IsScopeKind c
+    → age w a < suc n
+    → ((inner : Bool) (b : Addr) → SoundScope w (Some b) → age w b < n → IsChain w inner (Some b) (listed_within n w inner b))
+    → OuterOf w a c
+    → IsChain w inside (Some a) (scope_listed inside a c (listed_within n w))
 link n w inside a None e h l rec o = absurd h
 link n w inside a (Some (cells.Object ps)) e h l rec o = absurd (cc)
 link n w inside a (Some (cells.Error class ps)) e h l rec o = absurd (cc)
@@ -63,7 +73,12 @@ link n w inside a (Some (cells.Function code m k s t)) e h l rec o = absurd (cc)
 link n w inside a (Some (cells.Bindings kind name outer names)) e h l rec o =
     (record { kind = kind; name = name; outer = outer }, ap scope_parts e, refl, rest-chain n w inside a kind name outer names l (rec (still_inside kind inside)) o)
 
-pub chain-within : (n : ℕ) (w : World) (inside : Bool) (a : Addr) → IsSound w → IsNested w → SoundScope w (Some a) → age w a < n → IsChain w inside (Some a) (listed_within n w inside a)
+pub chain-within : (n : ℕ) (w : World) (inside : Bool) (a : Addr)
+    → IsSound w
+    → IsNested w
+    → SoundScope w (Some a)
+    → age w a < n
+    → IsChain w inside (Some a) (listed_within n w inside a)
 chain-within zero w inside a s d h l = absurd (omega arith)
 chain-within (suc n) w inside a s d h l =
     link n w inside a (read_cell w a) refl h l (λ inner b k m. chain-within n w inner b s d k m) (outer-of w a (read_cell w a) s d refl)
@@ -89,11 +104,16 @@ still-beyond kinds.Named = refl
 still-beyond kinds.Script = refl
 still-beyond kinds.Global = refl
 
-outward-holds : (P : List ListedScope → Type 0) (o : Option Addr) (further : Addr → List ListedScope) → P [] → ((a : Addr) → P (further a)) → P (outward o further)
+outward-holds : (P : List ListedScope → Type 0) (o : Option Addr) (further : Addr → List ListedScope)
+    → P []
+    → ((a : Addr) → P (further a))
+    → P (outward o further)
 outward-holds P None further h k = h
 outward-holds P (Some a) further h k = k a
 
-no-local-at : (a : Addr) (c : Option Cell) (further : Bool → Addr → List ListedScope) → ((b : Addr) → HasNoLocal (further false b)) → HasNoLocal (scope_listed false a c further)
+no-local-at : (a : Addr) (c : Option Cell) (further : Bool → Addr → List ListedScope)
+    → ((b : Addr) → HasNoLocal (further false b))
+    → HasNoLocal (scope_listed false a c further)
 no-local-at a (Some (cells.Bindings kind name outer names)) further h =
     (none-local kind, outward-holds HasNoLocal outer (further (still_inside kind false)) tt (λ b. subst (λ i. HasNoLocal (further i b)) (sym (still-beyond kind)) (h b)))
 no-local-at a None further h = tt
@@ -107,7 +127,10 @@ no-local : (n : ℕ) (w : World) (a : Addr) → HasNoLocal (listed_within n w fa
 no-local zero w a = tt
 no-local (suc n) w a = no-local-at a (read_cell w a) (listed_within n w) (no-local n w)
 
-one-local-behind : (kind : ScopeKind) (o : Option Addr) (further : Bool → Addr → List ListedScope) → ((b : Addr) → HasNoLocal (further false b)) → listed_as kind true ≡ as_local → HasNoLocal (outward o (further (still_inside kind true)))
+one-local-behind : (kind : ScopeKind) (o : Option Addr) (further : Bool → Addr → List ListedScope)
+    → ((b : Addr) → HasNoLocal (further false b))
+    → listed_as kind true ≡ as_local
+    → HasNoLocal (outward o (further (still_inside kind true)))
 one-local-behind kinds.Function o further h e = outward-holds HasNoLocal o (further false) tt h
 one-local-behind kinds.Block o further h e = cc
 one-local-behind kinds.Catch o further h e = cc
@@ -123,7 +146,10 @@ weaker : (ls : List ListedScope) → HasNoLocal ls → HasOneLocal ls
 weaker [] h = tt
 weaker (l ∷ ls) h = (λ e. absurd (h.0 e), weaker ls h.1)
 
-one-local-at : (a : Addr) (c : Option Cell) (further : Bool → Addr → List ListedScope) → ((b : Addr) → HasNoLocal (further false b)) → ((b : Addr) → HasOneLocal (further true b)) → HasOneLocal (scope_listed true a c further)
+one-local-at : (a : Addr) (c : Option Cell) (further : Bool → Addr → List ListedScope)
+    → ((b : Addr) → HasNoLocal (further false b))
+    → ((b : Addr) → HasOneLocal (further true b))
+    → HasOneLocal (scope_listed true a c further)
 one-local-at a (Some (cells.Bindings kind name outer names)) further h k = (
   one-local-behind kind outer further h,
   outward-holds HasOneLocal outer (further (still_inside kind true)) tt (λ b. either-inside (λ i. HasOneLocal (further i b)) (k b) (weaker (further false b) (h b)) (still_inside kind true)),

@@ -17,7 +17,9 @@ use Rattle.frames_scopes.specs.Frames.{arrived, here_at, shown_frame, listed_fra
 
 -- ---- lists
 
-map-at : {A B : Type 0} (g : A → B) (xs : List A) (d : ℕ) (x : A) → slice_get xs d ≡ Some x → drop d (map g xs) ≡ g x ∷ drop (suc d) (map g xs)
+map-at : {A B : Type 0} (g : A → B) (xs : List A) (d : ℕ) (x : A)
+    → slice_get xs d ≡ Some x
+    → drop d (map g xs) ≡ g x ∷ drop (suc d) (map g xs)
 map-at g [] d x e = cc
 map-at g (y ∷ ys) zero x e = let k : y ≡ x = cc in ap (λ z. g z ∷ map g ys) k
 map-at g (y ∷ ys) (suc d) x e = map-at g ys d x e
@@ -39,7 +41,9 @@ arrived-here : (m : Option Mark) (f : Frame) → arrived m f ≡ record f { here
 arrived-here None f = refl
 arrived-here (Some k) f = refl
 
-listed-some : (scripts : List Script) (w : World) (m : Option Mark) (fs : List Frame) (d : ℕ) (f : Frame) → slice_get fs d ≡ Some f → drop d (listed_frames scripts w m fs) ≡ shown_frame scripts w (record f { here = here_at m d f }) ∷ drop (suc d) (listed_frames scripts w m fs)
+listed-some : (scripts : List Script) (w : World) (m : Option Mark) (fs : List Frame) (d : ℕ) (f : Frame)
+    → slice_get fs d ≡ Some f
+    → drop d (listed_frames scripts w m fs) ≡ shown_frame scripts w (record f { here = here_at m d f }) ∷ drop (suc d) (listed_frames scripts w m fs)
 listed-some scripts w m [] d f e = cc
 listed-some scripts w m (g ∷ fs) zero f e =
     let k : g ≡ f = cc in
@@ -47,7 +51,9 @@ listed-some scripts w m (g ∷ fs) zero f e =
     ∙ ap (λ x. shown_frame scripts w x ∷ map (shown_frame scripts w) fs) (arrived-here m f)
 listed-some scripts w m (g ∷ fs) (suc d) f e = map-at (shown_frame scripts w) fs d f e
 
-listed-none : (scripts : List Script) (w : World) (m : Option Mark) (fs : List Frame) (d : ℕ) → slice_get fs d ≡ None → drop d (listed_frames scripts w m fs) ≡ []
+listed-none : (scripts : List Script) (w : World) (m : Option Mark) (fs : List Frame) (d : ℕ)
+    → slice_get fs d ≡ None
+    → drop d (listed_frames scripts w m fs) ≡ []
 listed-none scripts w m [] zero e = refl
 listed-none scripts w m [] (suc d) e = refl
 listed-none scripts w m (g ∷ fs) zero e = cc
@@ -73,35 +79,50 @@ map-length : {A B : Type 0} (g : A → B) (xs : List A) → length (map g xs) �
 map-length g [] = refl
 map-length g (x ∷ xs) = ap suc (map-length g xs)
 
-listed-length : (scripts : List Script) (w : World) (m : Option Mark) (fs : List Frame) → length (listed_frames scripts w m fs) ≡ length fs
+listed-length : (scripts : List Script) (w : World) (m : Option Mark) (fs : List Frame)
+    → length (listed_frames scripts w m fs) ≡ length fs
 listed-length scripts w m [] = refl
 listed-length scripts w m (f ∷ fs) = ap suc (map-length (shown_frame scripts w) fs)
 
-pub walk-length : (scripts : List Script) (root : Addr) (t : Term) (s : State) → length (walk scripts root t s) ≡ length s.frames
+pub walk-length : (scripts : List Script) (root : Addr) (t : Term) (s : State)
+    → length (walk scripts root t s) ≡ length s.frames
 walk-length scripts root t s = listed-length scripts s.world (at (spans_in scripts (spot_of s).source) t) (frames root t s) ∙ frames-length root t s
 
 -- ---- the walk
 
-pub walk-some : (scripts : List Script) (root : Addr) (t : Term) (s : State) (d : ℕ) (f : Frame) → frame_at d root t s ≡ Some f → drop d (walk scripts root t s) ≡ shown_frame scripts s.world (record f { here = here_at (at (spans_in scripts (spot_of s).source) t) d f }) ∷ drop (d + 1) (walk scripts root t s)
+pub walk-some : (scripts : List Script) (root : Addr) (t : Term) (s : State) (d : ℕ) (f : Frame)
+    → frame_at d root t s ≡ Some f
+    → drop d (walk scripts root t s) ≡ shown_frame scripts s.world (record f { here = here_at (at (spans_in scripts (spot_of s).source) t) d f }) ∷ drop (d + 1) (walk scripts root t s)
 walk-some scripts root t s d f e = rw add-one (listed-some scripts s.world (at (spans_in scripts (spot_of s).source) t) (frames root t s) d f e)
 
-pub walk-none : (scripts : List Script) (root : Addr) (t : Term) (s : State) (d : ℕ) → frame_at d root t s ≡ None → drop d (walk scripts root t s) ≡ []
+pub walk-none : (scripts : List Script) (root : Addr) (t : Term) (s : State) (d : ℕ)
+    → frame_at d root t s ≡ None
+    → drop d (walk scripts root t s) ≡ []
 walk-none scripts root t s d e = listed-none scripts s.world (at (spans_in scripts (spot_of s).source) t) (frames root t s) d e
 
-pub walk-past : (scripts : List Script) (root : Addr) (t : Term) (s : State) (d : ℕ) → length s.frames ≤ d → drop d (walk scripts root t s) ≡ []
+pub walk-past : (scripts : List Script) (root : Addr) (t : Term) (s : State) (d : ℕ)
+    → length s.frames ≤ d
+    → drop d (walk scripts root t s) ≡ []
 walk-past scripts root t s d h =
     let l : length (frames root t s) ≡ length s.frames = frames-length root t s in
     walk-none scripts root t s d (get-past (frames root t s) d (omega arith))
 
 -- the next one, at the place and as the code shows it
-pub walk-next : (scripts : List Script) (root : Addr) (t : Term) (s : State) (d : ℕ) (f : Frame) (h : Mark) (shown : ShownFrame) → frame_at d root t s ≡ Some f → h ≡ here_at (at (spans_in scripts (spot_of s).source) t) d f → shown ≡ shown_frame scripts s.world (record f { here = h }) → drop d (walk scripts root t s) ≡ shown ∷ drop (d + 1) (walk scripts root t s)
+pub walk-next : (scripts : List Script) (root : Addr) (t : Term) (s : State) (d : ℕ) (f : Frame) (h : Mark) (shown : ShownFrame)
+    → frame_at d root t s ≡ Some f
+    → h ≡ here_at (at (spans_in scripts (spot_of s).source) t) d f
+    → shown ≡ shown_frame scripts s.world (record f { here = h })
+    → drop d (walk scripts root t s) ≡ shown ∷ drop (d + 1) (walk scripts root t s)
 walk-next scripts root t s d f h shown e k q =
     walk-some scripts root t s d f e
     ∙ ap (λ m. shown_frame scripts s.world (record f { here = m }) ∷ drop (d + 1) (walk scripts root t s)) (sym k)
     ∙ ap (λ x. x ∷ drop (d + 1) (walk scripts root t s)) (sym q)
 
 -- nothing is given where nothing is left
-pub none-left : (left : List ShownFrame) (r : Option FrameView) → left ≡ [] → r ≡ None → YieldsFirstBy frame_shown (λ l. l) left r left
+pub none-left : (left : List ShownFrame) (r : Option FrameView)
+    → left ≡ []
+    → r ≡ None
+    → YieldsFirstBy frame_shown (λ l. l) left r left
 none-left left None e k = (e, e)
 none-left left (Some v) e k = cc
 

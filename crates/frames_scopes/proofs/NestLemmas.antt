@@ -18,13 +18,23 @@ use Rattle.frames_scopes.specs.Chains.{IsOlder, IsWithinOlder, HasOwnCells, IsNe
 
 -- ---- lists of cells
 
-get-append : (P : ℕ → Option Cell → Type 0) → ((i : ℕ) → P i None) → (cs : List Cell) (c : Cell) → ((i : ℕ) → P i (slice_get cs i)) → P (length cs) (Some c) → (i : ℕ) → P i (slice_get (cs ++ c ∷ []) i)
+get-append : (P : ℕ → Option Cell → Type 0)
+    → ((i : ℕ) → P i None)
+    → (cs : List Cell) (c : Cell)
+    → ((i : ℕ) → P i (slice_get cs i))
+    → P (length cs) (Some c)
+    → (i : ℕ)
+    → P i (slice_get (cs ++ c ∷ []) i)
 get-append P n [] c h k zero = k
 get-append P n [] c h k (suc i) = n (suc i)
 get-append P n (d ∷ cs) c h k zero = h zero
 get-append P n (d ∷ cs) c h k (suc i) = get-append (λ j. P (suc j)) (λ j. n (suc j)) cs c (λ j. h (suc j)) k i
 
-get-set : (P : ℕ → Option Cell → Type 0) (cs : List Cell) (j : ℕ) (c : Cell) → ((i : ℕ) → P i (slice_get cs i)) → P j (Some c) → (i : ℕ) → P i (slice_get (slice_set cs j c) i)
+get-set : (P : ℕ → Option Cell → Type 0) (cs : List Cell) (j : ℕ) (c : Cell)
+    → ((i : ℕ) → P i (slice_get cs i))
+    → P j (Some c)
+    → (i : ℕ)
+    → P i (slice_get (slice_set cs j c) i)
 get-set P [] j c h k i = h i
 get-set P (d ∷ cs) zero c h k zero = k
 get-set P (d ∷ cs) zero c h k (suc i) = h (suc i)
@@ -50,7 +60,10 @@ new-scratch w (Base i) h = tt
 new-scratch w (Scratch i) h = live-below IsScopeKind w.scratch i h
 
 -- a new cell's address is younger than all that it names
-new-within : (w : World) (n : Option ℕ) (c : Cell) → HasOwnCells n w.scratch → SoundCell w c → IsWithinOlder (next_address w n) (Some c)
+new-within : (w : World) (n : Option ℕ) (c : Cell)
+    → HasOwnCells n w.scratch
+    → SoundCell w c
+    → IsWithinOlder (next_address w n) (Some c)
 new-within w None (cells.Bindings kind name (Some o) names) e h = new-base w o e h.0
 new-within w (Some n) (cells.Bindings kind name (Some o) names) e h = new-scratch w o h.0
 new-within w n (cells.Bindings kind name None names) e h = tt
@@ -60,13 +73,20 @@ new-within w n (cells.Array vs) e h = tt
 new-within w n (cells.Text us) e h = tt
 new-within w n (cells.Function code m l s t) e h = tt
 
-made-within : (w : World) (r : Room) (n : Option ℕ) (c : Cell) → ((a : Addr) → IsWithinOlder a (read_cell w a)) → IsWithinOlder (next_address w n) (Some c) → (a : Addr) → IsWithinOlder a (read_cell (record (with_cell w n c) { room = r }) a)
+made-within : (w : World) (r : Room) (n : Option ℕ) (c : Cell)
+    → ((a : Addr) → IsWithinOlder a (read_cell w a))
+    → IsWithinOlder (next_address w n) (Some c)
+    → (a : Addr)
+    → IsWithinOlder a (read_cell (record (with_cell w n c) { room = r }) a)
 made-within w r None c h k (Base i) = get-append (λ j o. IsWithinOlder (Base j) o) (λ j. tt) w.base c (λ j. h (Base j)) k i
 made-within w r None c h k (Scratch i) = h (Scratch i)
 made-within w r (Some n) c h k (Base i) = h (Base i)
 made-within w r (Some n) c h k (Scratch i) = get-append (λ j o. IsWithinOlder (Scratch j) o) (λ j. tt) w.scratch c (λ j. h (Scratch j)) k i
 
-made-own : (w : World) (r : Room) (n : Option ℕ) (c : Cell) → HasOwnCells n w.scratch → w.start ≡ n → let v : World = record (with_cell w n c) { room = r } in HasOwnCells v.start v.scratch
+made-own : (w : World) (r : Room) (n : Option ℕ) (c : Cell)
+    → HasOwnCells n w.scratch
+    → w.start ≡ n
+    → let v : World = record (with_cell w n c) { room = r } in HasOwnCells v.start v.scratch
 made-own w r None c h e = let P : Option ℕ → Type 0 = λ n. HasOwnCells n w.scratch in subst P (sym e) h
 made-own w r (Some n) c h e = let P : Option ℕ → Type 0 = λ m. HasOwnCells m (w.scratch ++ c ∷ []) in subst P (sym e) tt
 
@@ -119,7 +139,11 @@ changed-within a (cells.Bindings k n (Some o) ns) (changes.Declare d b) h = h
 changed-within a (cells.Bindings k n None ns) (changes.Bind d v) h = within_if a (is_some (binding_of ns d)) (cells.Bindings k n None (bound ns d v)) tt
 changed-within a (cells.Bindings k n (Some o) ns) (changes.Bind d v) h = within_if a (is_some (binding_of ns d)) (cells.Bindings k n (Some o) (bound ns d v)) h
 
-set-within : (w : World) (r : Room) (x : Addr) (new : Cell) → ((a : Addr) → IsWithinOlder a (read_cell w a)) → IsWithinOlder x (Some new) → (a : Addr) → IsWithinOlder a (read_cell (record (replaced w x new) { room = r }) a)
+set-within : (w : World) (r : Room) (x : Addr) (new : Cell)
+    → ((a : Addr) → IsWithinOlder a (read_cell w a))
+    → IsWithinOlder x (Some new)
+    → (a : Addr)
+    → IsWithinOlder a (read_cell (record (replaced w x new) { room = r }) a)
 set-within w r (Base j) new h k (Base i) = get-set (λ m o. IsWithinOlder (Base m) o) w.base j new (λ m. h (Base m)) k i
 set-within w r (Base j) new h k (Scratch i) = h (Scratch i)
 set-within w r (Scratch j) new h k (Base i) = h (Base i)
@@ -129,12 +153,18 @@ none-set : (cs : List Cell) (j : ℕ) (c : Cell) → cs ≡ [] → slice_set cs 
 none-set [] j c e = refl
 none-set (d ∷ cs) j c e = cc
 
-set-own : (w : World) (r : Room) (n : Option ℕ) (x : Addr) (new : Cell) → HasOwnCells n w.scratch → w.start ≡ n → let v : World = record (replaced w x new) { room = r } in HasOwnCells v.start v.scratch
+set-own : (w : World) (r : Room) (n : Option ℕ) (x : Addr) (new : Cell)
+    → HasOwnCells n w.scratch
+    → w.start ≡ n
+    → let v : World = record (replaced w x new) { room = r } in HasOwnCells v.start v.scratch
 set-own w r n (Base j) new h e = let P : Option ℕ → Type 0 = λ m. HasOwnCells m w.scratch in subst P (sym e) h
 set-own w r None (Scratch j) new h e = let P : Option ℕ → Type 0 = λ m. HasOwnCells m (slice_set w.scratch j new) in subst P (sym e) (none-set w.scratch j new h)
 set-own w r (Some n) (Scratch j) new h e = let P : Option ℕ → Type 0 = λ m. HasOwnCells m (slice_set w.scratch j new) in subst P (sym e) tt
 
-written-nested : (w : World) (a : Addr) (old : Cell) (o : Option Cell) → IsNested w → StaysWithin a o → AfterFine (written w a old o) (λ u v. IsNested v)
+written-nested : (w : World) (a : Addr) (old : Cell) (o : Option Cell)
+    → IsNested w
+    → StaysWithin a o
+    → AfterFine (written w a old o) (λ u v. IsNested v)
 written-nested w a old None h k = h
 written-nested w a old (Some new) h k =
     let v : World = record (replaced w a new) { room = room_after w.room (weight old) (weight new) } in
@@ -142,15 +172,22 @@ written-nested w a old (Some new) h k =
     fine_if (nat_le (weight new) (w.room.units + weight old)) counted.Units (fine tt v) P
     (record { outward = set-within w v.room a new h.outward k; own = set-own w v.room w.start a new h.own refl })
 
-written_at-nested : (w : World) (a : Addr) (ch : Change) (o : Option Cell) → IsNested w → IsWithinOlder a o → AfterFine (written_at w a o ch) (λ u v. IsNested v)
+written_at-nested : (w : World) (a : Addr) (ch : Change) (o : Option Cell)
+    → IsNested w
+    → IsWithinOlder a o
+    → AfterFine (written_at w a o ch) (λ u v. IsNested v)
 written_at-nested w a ch None h k = h
 written_at-nested w a ch (Some old) h k = written-nested w a old (changed old ch) h (changed-within a old ch k)
 
-own-nested : (w : World) (a : Addr) (ch : Change) (b : Bool) → IsNested w → AfterFine (if b then written_at w a (read_cell w a) ch else effect) (λ u v. IsNested v)
+own-nested : (w : World) (a : Addr) (ch : Change) (b : Bool)
+    → IsNested w
+    → AfterFine (if b then written_at w a (read_cell w a) ch else effect) (λ u v. IsNested v)
 own-nested w a ch true h = written_at-nested w a ch (read_cell w a) h (h.outward a)
 own-nested w a ch false h = tt
 
-pub writing-nested : (w : World) (a : Addr) (ch : Change) → IsNested w → AfterFine (write_cell w a ch) (λ u v. IsNested v)
+pub writing-nested : (w : World) (a : Addr) (ch : Change)
+    → IsNested w
+    → AfterFine (write_cell w a ch) (λ u v. IsNested v)
 writing-nested w a ch h = own-nested w a ch (is_own w.start a) h
 
 -- ---- the world before the first step

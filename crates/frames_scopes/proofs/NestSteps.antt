@@ -29,20 +29,33 @@ use Rattle.frames_scopes.proofs.NestLemmas.{making-nested, writing-nested}
 
 -- ---- actions
 
-full-nested : (b : Bool) (what : Counted) (s : State) → IsNested s.world → MoveNested (if b then is_full what s else raised_at (values.Object heap_full_error) s)
+full-nested : (b : Bool) (what : Counted) (s : State)
+    → IsNested s.world
+    → MoveNested (if b then is_full what s else raised_at (values.Object heap_full_error) s)
 full-nested true what s h = h
 full-nested false what s h = h
 
-after-nested : {A : Type 0} (s : State) (t : Tried A) (k : A → State → Move Term) (P : A → World → Type 0) → IsNested s.world → AfterFine t (λ a v. IsNested v) → AfterFine t P → ((a : A) (v : World) → IsNested v → P a v → MoveNested (k a (with_world s v))) → MoveNested (after t s k)
+after-nested : {A : Type 0} (s : State) (t : Tried A) (k : A → State → Move Term) (P : A → World → Type 0)
+    → IsNested s.world
+    → AfterFine t (λ a v. IsNested v)
+    → AfterFine t P
+    → ((a : A) (v : World) → IsNested v → P a v → MoveNested (k a (with_world s v)))
+    → MoveNested (after t s k)
 after-nested s (fine a v) k P h n p rest = rest a v n p
 after-nested s effect k P h n p rest = h
 after-nested s (full what) k P h n p rest = full-nested (is_evaluation s.world) what s h
 
-outside-nested : (b : Bool) (s : State) (m : Move Term) → IsNested s.world → MoveNested m → MoveNested (if b then has_effect s else m)
+outside-nested : (b : Bool) (s : State) (m : Move Term)
+    → IsNested s.world
+    → MoveNested m
+    → MoveNested (if b then has_effect s else m)
 outside-nested true s m h k = h
 outside-nested false s m h k = k
 
-both : {A : Type 0} (t : Tried A) (w : World) (P : A → World → Type 0) → AfterFine t (λ a v. Keeps w v) → AfterFine t P → AfterFine t (λ a v. Later w v × P a v)
+both : {A : Type 0} (t : Tried A) (w : World) (P : A → World → Type 0)
+    → AfterFine t (λ a v. Keeps w v)
+    → AfterFine t P
+    → AfterFine t (λ a v. Later w v × P a v)
 both (fine a v) w P k p = let l = k.kinds in (l, p)
 both effect w P k p = tt
 both (full what) w P k p = tt
@@ -88,23 +101,39 @@ WalkNested (moved m) = MoveNested m
 later_of : (s t : State) → Follows s t → Later s.world t.world
 later_of s t h = let k = h.cells in k.kinds
 
-value-in : (p : Program) (s : State) (v : Value) (m : Move Terms) → SoundValue s.world v → MoveFollows s m → SoundMoves p m → SoundMoves p (inside (λ ts. more (done v) ts) m)
+value-in : (p : Program) (s : State) (v : Value) (m : Move Terms)
+    → SoundValue s.world v
+    → MoveFollows s m
+    → SoundMoves p m
+    → SoundMoves p (inside (λ ts. more (done v) ts) m)
 value-in p s v (goes ts t told) h f k = (k.0, (sound-value s.world t.world (later_of s t f) v h, k.1))
 value-in p s v (travels c t) h f k = k
 value-in p s v (has_effect t) h f k = k
 value-in p s v (is_full what t) h f k = k
 
-with_value-sound : (p : Program) (s : State) (v : Value) (x : Walked) → SoundValue s.world v → WalkFollows s x → SoundWalked p s x → SoundWalked p s (with_value v x)
+with_value-sound : (p : Program) (s : State) (v : Value) (x : Walked)
+    → SoundValue s.world v
+    → WalkFollows s x
+    → SoundWalked p s x
+    → SoundWalked p s (with_value v x)
 with_value-sound p s v (all_values vs) h f k = (h, k)
 with_value-sound p s v (moved m) h f k = value-in p s v m h f k
 
-inside-sound : (p : Program) (s : State) (ts : Terms) (m : Move Term) → SoundTerms s.world ts → MoveFollows s m → SoundMove p m → SoundMoves p (inside (λ t. more t ts) m)
+inside-sound : (p : Program) (s : State) (ts : Terms) (m : Move Term)
+    → SoundTerms s.world ts
+    → MoveFollows s m
+    → SoundMove p m
+    → SoundMoves p (inside (λ t. more t ts) m)
 inside-sound p s ts (goes x t told) h f k = (k.0, (k.1, sound-terms s.world t.world (later_of s t f) ts h))
 inside-sound p s ts (travels c t) h f k = k
 inside-sound p s ts (has_effect t) h f k = k
 inside-sound p s ts (is_full what t) h f k = k
 
-walk-sound : (p : Program) (scope : Addr) (ts : Terms) (s : State) → SoundState p s → SoundScope s.world (Some scope) → SoundTerms s.world ts → SoundWalked p s (walk p scope ts s)
+walk-sound : (p : Program) (scope : Addr) (ts : Terms) (s : State)
+    → SoundState p s
+    → SoundScope s.world (Some scope)
+    → SoundTerms s.world ts
+    → SoundWalked p s (walk p scope ts s)
 walk-sound p scope end s h o k = tt
 walk-sound p scope (more (done v) ts) s h o k = with_value-sound p s v (walk p scope ts s) k.0 (walk-follows p scope ts s) (walk-sound p scope ts s h o k.1)
 walk-sound p scope (more (standing v place) ts) s h o k = (h, k.0)
@@ -112,7 +141,10 @@ walk-sound p scope (more (part f now later) ts) s h o k =
     inside-sound p s ts (next p scope (part f now later) s) k.1 (next-follows p scope (part f now later) s) (next-sound p scope (part f now later) s h o k.0)
 
 -- the scope in which a form's parts are is live
-pub inner-sound : (w : World) (f : Form) (scope : Addr) → SoundForm w f → SoundScope w (Some scope) → SoundScope w (Some (scope_in f scope))
+pub inner-sound : (w : World) (f : Form) (scope : Addr)
+    → SoundForm w f
+    → SoundScope w (Some scope)
+    → SoundScope w (Some (scope_in f scope))
 inner-sound w (scoped a) scope h o = h
 inner-sound w (frame node a) scope h o = h
 inner-sound w (loop stage (Some a)) scope h o = h
@@ -131,7 +163,16 @@ with_value-nested : (v : Value) (x : Walked) → WalkNested x → WalkNested (wi
 with_value-nested v (all_values vs) h = tt
 with_value-nested v (moved m) h = nested-inside (λ ts. more (done v) ts) m h
 
-around-nested : (p : Program) (scope : Addr) (f : Form) (later : Terms) (s : State) (x : Walked) → SoundState p s → SoundScope s.world (Some scope) → SoundForm s.world f → SoundTerms s.world later → WalkFollows s x → SoundWalked p s x → IsNested s.world → WalkNested x → MoveNested (around p scope f later s x)
+around-nested : (p : Program) (scope : Addr) (f : Form) (later : Terms) (s : State) (x : Walked)
+    → SoundState p s
+    → SoundScope s.world (Some scope)
+    → SoundForm s.world f
+    → SoundTerms s.world later
+    → WalkFollows s x
+    → SoundWalked p s x
+    → IsNested s.world
+    → WalkNested x
+    → MoveNested (around p scope f later s x)
 around-nested p scope f later s (all_values vs) h o n k g q d e = perform-nested (row p s scope f vs later) s d (row-sound p s scope f vs later h o n q k)
 around-nested p scope f later s (moved (goes now t told)) h o n k g q d e = e
 around-nested p scope f later s (moved (travels c t)) h o n k g q d e =
@@ -142,7 +183,12 @@ around-nested p scope f later s (moved (has_effect t)) h o n k g q d e = e
 around-nested p scope f later s (moved (is_full what t)) h o n k g q d e = e
 
 mutual
-  pub next-nested : (p : Program) (scope : Addr) (t : Term) (s : State) → SoundState p s → SoundScope s.world (Some scope) → SoundTerm s.world t → IsNested s.world → MoveNested (next p scope t s)
+  pub next-nested : (p : Program) (scope : Addr) (t : Term) (s : State)
+      → SoundState p s
+      → SoundScope s.world (Some scope)
+      → SoundTerm s.world t
+      → IsNested s.world
+      → MoveNested (next p scope t s)
   next-nested p scope (done v) s h o k d = d
   next-nested p scope (standing v place) s h o k d = d
   next-nested p scope (part f now later) s h o k d =
@@ -150,7 +196,12 @@ mutual
       around-nested p scope f later s (walk p (scope_in f scope) now s) h o k.0 k.2 (walk-follows p (scope_in f scope) now s) (walk-sound p (scope_in f scope) now s h inner k.1) d
       (walk-nested p (scope_in f scope) now s h inner k.1 d)
 
-  walk-nested : (p : Program) (scope : Addr) (ts : Terms) (s : State) → SoundState p s → SoundScope s.world (Some scope) → SoundTerms s.world ts → IsNested s.world → WalkNested (walk p scope ts s)
+  walk-nested : (p : Program) (scope : Addr) (ts : Terms) (s : State)
+      → SoundState p s
+      → SoundScope s.world (Some scope)
+      → SoundTerms s.world ts
+      → IsNested s.world
+      → WalkNested (walk p scope ts s)
   walk-nested p scope end s h o k d = tt
   walk-nested p scope (more (done v) ts) s h o k d = with_value-nested v (walk p scope ts s) (walk-nested p scope ts s h o k.1 d)
   walk-nested p scope (more (standing v place) ts) s h o k d = d
@@ -169,11 +220,19 @@ after-run (travels c s) h = h
 after-run (has_effect s) h = h
 after-run (is_full what s) h = h
 
-step-nested : (p : Program) (scope : Addr) (r : Run) → SoundScope (state_of r).world (Some scope) → SoundRun p r → IsNested (state_of r).world → IsNested (state_of (step_in p scope r)).world
+step-nested : (p : Program) (scope : Addr) (r : Run)
+    → SoundScope (state_of r).world (Some scope)
+    → SoundRun p r
+    → IsNested (state_of r).world
+    → IsNested (state_of (step_in p scope r)).world
 step-nested p scope (running t s) o h d = after-run (next p scope t s) (next-nested p scope t s h.0 o h.1 d)
 step-nested p scope (over f s) o h d = d
 
-pub steps-nested : (k : ℕ) (p : Program) (scope : Addr) (r : Run) → SoundScope (state_of r).world (Some scope) → SoundRun p r → IsNested (state_of r).world → IsNested (state_of (steps_in k p scope r)).world
+pub steps-nested : (k : ℕ) (p : Program) (scope : Addr) (r : Run)
+    → SoundScope (state_of r).world (Some scope)
+    → SoundRun p r
+    → IsNested (state_of r).world
+    → IsNested (state_of (steps_in k p scope r)).world
 steps-nested zero p scope r o h d = d
 steps-nested (suc k) p scope r o h d =
     let q : Run = step_in p scope r in

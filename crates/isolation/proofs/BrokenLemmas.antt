@@ -16,11 +16,15 @@ or-none a b first rest = rw first rest
 
 -- ---- how many there are
 
-without-length : {X : Type 0} → (numbers : List ℕ) (s : ℕ) (seats : List (Seat X)) → length (without_from numbers s seats) ≡ length seats
+without-length : {X : Type 0}
+    → (numbers : List ℕ) (s : ℕ) (seats : List (Seat X))
+    → length (without_from numbers s seats) ≡ length seats
 without-length numbers s [] = refl
 without-length numbers s (seat ∷ seats) = ap (λ n. suc n) (without-length numbers (s + 1) seats)
 
-pub less-length : {C Q X : Type 0} → (seats : List (Seat X)) (m : Meaning C Q X) → length (less seats m).seats ≡ length m.seats
+pub less-length : {C Q X : Type 0}
+    → (seats : List (Seat X)) (m : Meaning C Q X)
+    → length (less seats m).seats ≡ length m.seats
 less-length seats m = without-length (fallen_in seats) 1 m.seats
 
 -- a host has as many seats as what it stands for

@@ -21,7 +21,10 @@ above-differs r s small = grind (arith, nat_tests, small)
 pub itself : (s : ℕ) → (s == s) ≡ true
 itself s = grind (arith, nat_tests)
 
-unlisted-step : {X : Type 0} → (r s : ℕ) (news : List (Seat X)) (b : Bool) → r < s → is_listed (fallen_from (s + 1) news) r ≡ false
+unlisted-step : {X : Type 0}
+    → (r s : ℕ) (news : List (Seat X)) (b : Bool)
+    → r < s
+    → is_listed (fallen_from (s + 1) news) r ≡ false
     → is_listed (if b then s ∷ fallen_from (s + 1) news else fallen_from (s + 1) news) r ≡ false
 unlisted-step r s news true small later = rw (above-differs r s small) later
 unlisted-step r s news false small later = later
@@ -59,7 +62,9 @@ mids-step s old olds news true later =
 mids-step s old olds news false later =
     rw (unlisted s (s + 1) news (omega arith)) (ap (λ rest. old ∷ rest) later)
 
-mids-from : {X : Type 0} → (s : ℕ) (olds news : List (Seat X)) → mids olds news ≡ without_from (fallen_from s news) s olds
+mids-from : {X : Type 0}
+    → (s : ℕ) (olds news : List (Seat X))
+    → mids olds news ≡ without_from (fallen_from s news) s olds
 mids-from s [] news = refl
 mids-from s (old ∷ olds) [] = sym (without-none-from s (old ∷ olds))
 mids-from s (old ∷ olds) (new ∷ news) = mids-step s old olds news (fell new) (mids-from (s + 1) olds news)
@@ -153,7 +158,10 @@ fell-put-in (suc i) new (seat ∷ seats) stands none =
     rw parts.0 (fell-put-in i new seats stands parts.1)
 
 -- with another seat that didn't fall
-pub fell-put : {X : Type 0} → (s : ℕ) (new : Seat X) (seats : List (Seat X)) → fell new ≡ false → some fell seats ≡ false
+pub fell-put : {X : Type 0}
+    → (s : ℕ) (new : Seat X) (seats : List (Seat X))
+    → fell new ≡ false
+    → some fell seats ≡ false
     → some fell (put s new seats) ≡ false
 fell-put zero new seats stands none = none
 fell-put (suc i) new seats stands none = fell-put-in i new seats stands none

@@ -8,7 +8,8 @@ use Rattle.isolation.specs.Stops.{plain}
 use Rattle.isolation.proofs.StopLemmas.{entry-program}
 
 -- what a history means with one more entry
-pub whole-more : {C T Q X : Type 0} → (P : Protocol C T Q X) (c : C) (wait : Bool) (history : List Entry) (entry : Entry)
+pub whole-more : {C T Q X : Type 0}
+    → (P : Protocol C T Q X) (c : C) (wait : Bool) (history : List Entry) (entry : Entry)
     → whole P c wait (history ++ entry ∷ []) ≡ apply P (whole P c wait history) entry
 whole-more P c wait history entry = fold-append (apply P) (begin c wait) history (entry ∷ [])
 
@@ -19,6 +20,8 @@ fits-more P m [] entry all fits = (fits, tt)
 fits-more P m (here ∷ history) entry all fits = (all.0, fits-more P (apply P m here) history entry all.1 fits)
 
 -- an entry without steps leaves the program where it is
-pub call-program : {C T Q X : Type 0} → (P : Protocol C T Q X) (m : Meaning C Q X) (entry : Entry) → steps_of entry ≡ zero
+pub call-program : {C T Q X : Type 0}
+    → (P : Protocol C T Q X) (m : Meaning C Q X) (entry : Entry)
+    → steps_of entry ≡ zero
     → (apply P m entry).program ≡ m.program
 call-program P m entry none = entry-program P m entry ∙ ap (λ n. plain P n m.program) none

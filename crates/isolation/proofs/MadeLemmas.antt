@@ -25,7 +25,10 @@ pub made-none : {C T Q X : Type 0} → (P : Protocol C T Q X) (moment : ℕ) (m 
 made-none P moment m = record { reached = sym (less-self m); ready = λ j below. absurd (omega (arith, below)) }
 
 -- where a stretch led, if none fell there
-reached-none : {C T Q X : Type 0} → (P : Protocol C T Q X) (moment k : ℕ) (m n : Meaning C Q X) → HasMade P moment m n k → fallen_in n.seats ≡ []
+reached-none : {C T Q X : Type 0}
+    → (P : Protocol C T Q X) (moment k : ℕ) (m n : Meaning C Q X)
+    → HasMade P moment m n k
+    → fallen_in n.seats ≡ []
     → n ≡ after_steps P moment k m
 reached-none P moment k m n made none = made.reached ∙ ap (λ gone. after_run P moment gone k m) none ∙ run-none P k moment m
 
@@ -105,7 +108,9 @@ ready_more : {C T Q X : Type 0} → (P : Protocol C T Q X) (moment k : ℕ) (m :
 ready_more P moment k m go ready zero below = go
 ready_more P moment k m go ready (suc j) below = ready j (omega (arith, below))
 
-full_by : {C T Q X : Type 0} → (P : Protocol C T Q X) (moment most : ℕ) (m : Meaning C Q X) (b : Bool) → is_ready P m ≡ b
+full_by : {C T Q X : Type 0}
+    → (P : Protocol C T Q X) (moment most : ℕ) (m : Meaning C Q X) (b : Bool)
+    → is_ready P m ≡ b
     → IsFull P moment most (step P moment [] m) (longest P moment most (step P moment [] m))
     → IsFull P moment (suc most) m (if b then longest P moment most (step P moment [] m) + 1 else 0)
 full_by P moment most m true go is =
@@ -119,7 +124,9 @@ full_by P moment most m true go is =
     subst (λ i. IsFull P moment (suc most) m i) e one
 full_by P moment most m false stays is = record { within = omega arith; ready = λ j below. absurd (omega (arith, below)); full = inr stays }
 
-longest-full : {C T Q X : Type 0} → (P : Protocol C T Q X) (moment most : ℕ) (m : Meaning C Q X) → IsFull P moment most m (longest P moment most m)
+longest-full : {C T Q X : Type 0}
+    → (P : Protocol C T Q X) (moment most : ℕ) (m : Meaning C Q X)
+    → IsFull P moment most m (longest P moment most m)
 longest-full P moment zero m = record { within = omega arith; ready = λ j below. absurd (omega (arith, below)); full = inl refl }
 longest-full P moment (suc most) m = full_by P moment most m (is_ready P m) refl (longest-full P moment most (step P moment [] m))
 
@@ -144,25 +151,35 @@ longest-exact P moment most m =
 
 -- ---- a step of which nobody is told
 
-quiet-stops : {C T Q X : Type 0} → (P : Protocol C T Q X) (number moment : ℕ) (t : T) (seat : Seat X) → names_seat P t seat ≡ false
+quiet-stops : {C T Q X : Type 0}
+    → (P : Protocol C T Q X) (number moment : ℕ) (t : T) (seat : Seat X)
+    → names_seat P t seat ≡ false
     → stops_for P number moment t seat ≡ false
 quiet-stops P number moment t (Attached x) unnamed = and_right (survives P number moment t x) (P.names t x) unnamed
 quiet-stops P number moment t (Lost loss is_reported is_told) unnamed = refl
 quiet-stops P number moment t Left unnamed = refl
 
-unnamed_stays : {C T Q X : Type 0} → (P : Protocol C T Q X) (names : Bool) (s d x : X) → names ≡ false → d ≡ x → P.fits x ≡ true
+unnamed_stays : {C T Q X : Type 0}
+    → (P : Protocol C T Q X) (names : Bool) (s d x : X)
+    → names ≡ false
+    → d ≡ x
+    → P.fits x ≡ true
     → (if P.fits (if names then s else d) then Attached d else lost_by Overrun) ≡ Attached x
 unnamed_stays P true s d x unnamed same fit = absurd cc
 unnamed_stays P false s d x unnamed same fit = let fits : P.fits d ≡ true = ap (λ y. P.fits y) same ∙ fit in rw fits (ap (λ y. Attached y) same)
 
-quiet-seat : {C T Q X : Type 0} → (P : Protocol C T Q X) (number moment : ℕ) (t : T) (seat : Seat X) → ((x : X) → P.told moment t x ≡ x)
+quiet-seat : {C T Q X : Type 0}
+    → (P : Protocol C T Q X) (number moment : ℕ) (t : T) (seat : Seat X)
+    → ((x : X) → P.told moment t x ≡ x)
     → names_seat P t seat ≡ false → Fits P seat → seat_behind P false number moment t seat ≡ seat
 quiet-seat P number moment t (Attached x) silent unnamed fit =
     unnamed_stays P (P.names t x) (P.stopped number t (P.told moment t x)) (P.told moment t x) x unnamed (silent x) fit
 quiet-seat P number moment t (Lost loss is_reported is_told) silent unnamed fit = refl
 quiet-seat P number moment t Left silent unnamed fit = refl
 
-quiet-some : {C T Q X : Type 0} → (P : Protocol C T Q X) (number moment : ℕ) (t : T) (seats : List (Seat X)) → some (names_seat P t) seats ≡ false
+quiet-some : {C T Q X : Type 0}
+    → (P : Protocol C T Q X) (number moment : ℕ) (t : T) (seats : List (Seat X))
+    → some (names_seat P t) seats ≡ false
     → some (stops_for P number moment t) seats ≡ false
 quiet-some P number moment t [] unnamed = refl
 quiet-some P number moment t (seat ∷ seats) unnamed =
@@ -170,7 +187,9 @@ quiet-some P number moment t (seat ∷ seats) unnamed =
     or_from (stops_for P number moment t seat) (some (stops_for P number moment t) seats)
     (quiet-stops P number moment t seat parts.0) (quiet-some P number moment t seats parts.1)
 
-quiet-each : {C T Q X : Type 0} → (P : Protocol C T Q X) (number moment : ℕ) (t : T) (seats : List (Seat X)) → ((x : X) → P.told moment t x ≡ x)
+quiet-each : {C T Q X : Type 0}
+    → (P : Protocol C T Q X) (number moment : ℕ) (t : T) (seats : List (Seat X))
+    → ((x : X) → P.told moment t x ≡ x)
     → some (names_seat P t) seats ≡ false → AllFit P seats → each (seat_behind P false number moment t) seats ≡ seats
 quiet-each P number moment t [] silent unnamed fit = refl
 quiet-each P number moment t (seat ∷ seats) silent unnamed fit =
@@ -192,8 +211,13 @@ quiet-behind {C} {T} {Q} {X} P moment t c b m runs goes quiet fit passes =
     ∙ ap (λ o. f m.phase o m.seats) (sym goes)
 
 -- it leaves everything but the program as it was
-pub quiet-step : {C T Q X : Type 0} → (P : Protocol C T Q X) (moment : ℕ) (m : Meaning C Q X) → m.phase ≡ Running → m.stop ≡ None
-    → IsQuiet P moment (P.tells false m.program) m.seats → AllFit P m.seats → step P moment [] m ≡ record m { program = P.next m.program }
+pub quiet-step : {C T Q X : Type 0}
+    → (P : Protocol C T Q X) (moment : ℕ) (m : Meaning C Q X)
+    → m.phase ≡ Running
+    → m.stop ≡ None
+    → IsQuiet P moment (P.tells false m.program) m.seats
+    → AllFit P m.seats
+    → step P moment [] m ≡ record m { program = P.next m.program }
 quiet-step P moment m runs goes quiet fit =
     let t = P.tells false m.program in
     let first : told_at P m.program m ≡ t = ap (λ p. P.tells (is_first p) m.program) runs in
@@ -209,7 +233,10 @@ none-stop None goes = refl
 none-stop (Some q) goes = absurd cc
 
 -- before its last step everything but the program is as it was
-quiet-steps : {C T Q X : Type 0} → (P : Protocol C T Q X) (moment j : ℕ) (m : Meaning C Q X) → m.stop ≡ None → (0 < j → m.phase ≡ Running)
+quiet-steps : {C T Q X : Type 0}
+    → (P : Protocol C T Q X) (moment j : ℕ) (m : Meaning C Q X)
+    → m.stop ≡ None
+    → (0 < j → m.phase ≡ Running)
     → ((i : ℕ) → i < j → IsQuiet P moment (P.tells false (plain P i m.program)) m.seats) → AllFit P m.seats
     → after_steps P moment j m ≡ record m { program = plain P j m.program }
 quiet-steps P moment zero m goes runs quiet fit = refl
@@ -218,11 +245,16 @@ quiet-steps P moment (suc j) m goes runs quiet fit =
     ∙ ap (λ k. step P moment [] k) (quiet-steps P moment j m goes (λ some_made. runs (omega arith)) (λ i below. quiet i (omega (arith, below))) fit)
     ∙ quiet-step P moment (record m { program = plain P j m.program }) (runs (omega arith)) goes (quiet j (omega arith)) fit
 
-ready-there : {C T Q X : Type 0} → (P : Protocol C T Q X) (c : C) (m : Meaning C Q X) → is_held m ≡ false → P.is_over c ≡ false
+ready-there : {C T Q X : Type 0}
+    → (P : Protocol C T Q X) (c : C) (m : Meaning C Q X)
+    → is_held m ≡ false
+    → P.is_over c ≡ false
     → is_ready P (record m { program = c }) ≡ true
 ready-there P c m free goes = rw (free, goes) refl
 
-last-step : {C T Q X : Type 0} → (P : Protocol C T Q X) (moment k : ℕ) (gone : List ℕ) (m : Meaning C Q X) (b : Bool) (t : T) → 0 < k
+last-step : {C T Q X : Type 0}
+    → (P : Protocol C T Q X) (moment k : ℕ) (gone : List ℕ) (m : Meaning C Q X) (b : Bool) (t : T)
+    → 0 < k
     → m.stop ≡ None → (1 < k → m.phase ≡ Running)
     → ((j : ℕ) → j + 1 < k → IsQuiet P moment (P.tells false (plain P j m.program)) m.seats) → AllFit P m.seats
     → t ≡ P.tells (is_first m.phase) (plain P (k - 1) m.program)
@@ -239,7 +271,8 @@ last-step P moment (suc j) gone m b t some_made goes runs quiet fit tells stops 
     (sym (quiet-steps P moment j m goes (λ more. runs (omega (arith, more))) (λ i below. quiet i (omega (arith, below))) fit))
 
 -- such a stretch, by what its last step told and whether it stopped the program
-pub stretch-made : {C T Q X : Type 0} → (P : Protocol C T Q X) (moment k : ℕ) (m : Meaning C Q X) (b : Bool) (t : T) (n : Meaning C Q X)
+pub stretch-made : {C T Q X : Type 0}
+    → (P : Protocol C T Q X) (moment k : ℕ) (m : Meaning C Q X) (b : Bool) (t : T) (n : Meaning C Q X)
     → 0 < k → is_held m ≡ false → (1 < k → m.phase ≡ Running)
     → ((j : ℕ) → j + 1 < k → IsQuiet P moment (P.tells false (plain P j m.program)) m.seats) → AllFit P m.seats
     → ((j : ℕ) → j < k → P.is_over (plain P j m.program) ≡ false)

@@ -19,12 +19,22 @@ use Rattle.isolation.proofs.StopLemmas.{plain-more, steps-program}
 -- ---- one seat of many
 
 -- where none is so, this one isn't
-none-in : {X : Type 0} → (test : Seat X → Bool) → test Left ≡ false → (i : ℕ) (seats : List (Seat X)) → some test seats ≡ false → test (seat_in i seats) ≡ false
+none-in : {X : Type 0}
+    → (test : Seat X → Bool)
+    → test Left ≡ false
+    → (i : ℕ) (seats : List (Seat X))
+    → some test seats ≡ false
+    → test (seat_in i seats) ≡ false
 none-in test nobody i [] none = nobody
 none-in test nobody zero (seat ∷ seats) none = (or_parts (test seat) (some test seats) none).0
 none-in test nobody (suc i) (seat ∷ seats) none = none-in test nobody i seats (or_parts (test seat) (some test seats) none).1
 
-none-at : {X : Type 0} → (test : Seat X → Bool) → test Left ≡ false → (s : ℕ) (seats : List (Seat X)) → some test seats ≡ false → test (seat_of s seats) ≡ false
+none-at : {X : Type 0}
+    → (test : Seat X → Bool)
+    → test Left ≡ false
+    → (s : ℕ) (seats : List (Seat X))
+    → some test seats ≡ false
+    → test (seat_of s seats) ≡ false
 none-at test nobody zero seats none = nobody
 none-at test nobody (suc i) seats none = none-in test nobody i seats none
 
@@ -33,12 +43,19 @@ either-none true b none = refl
 either-none false b none = none
 
 -- where no seat is so, none is found
-none-found : {X : Type 0} → (test : Seat X → Bool) (seats : List (Seat X)) → ((i : ℕ) → test (seat_in i seats) ≡ false) → some test seats ≡ false
+none-found : {X : Type 0}
+    → (test : Seat X → Bool) (seats : List (Seat X))
+    → ((i : ℕ) → test (seat_in i seats) ≡ false)
+    → some test seats ≡ false
 none-found test [] none = refl
 none-found test (seat ∷ seats) none = or_from (test seat) (some test seats) (none zero) (none-found test seats (λ i. none (suc i)))
 
 -- where no other seat is so, one is found where this one is
-one-in : {X : Type 0} → (test : Seat X → Bool) → test Left ≡ false → (i : ℕ) (seats : List (Seat X)) → ((k : ℕ) → k ≢ i → test (seat_in k seats) ≡ false)
+one-in : {X : Type 0}
+    → (test : Seat X → Bool)
+    → test Left ≡ false
+    → (i : ℕ) (seats : List (Seat X))
+    → ((k : ℕ) → k ≢ i → test (seat_in k seats) ≡ false)
     → some test seats ≡ test (seat_in i seats)
 one-in test nobody i [] others = sym nobody
 one-in test nobody zero (seat ∷ seats) others =
@@ -47,7 +64,11 @@ one-in test nobody (suc i) (seat ∷ seats) others =
     ap (λ b. b || some test seats) (others zero (λ same. absurd (omega (arith, same))))
     ∙ one-in test nobody i seats (λ k other. others (suc k) (λ same. other (omega (arith, same))))
 
-one-at : {X : Type 0} → (test : Seat X → Bool) → test Left ≡ false → (s : ℕ) (seats : List (Seat X)) → ((r : ℕ) → r ≢ s → test (seat_of r seats) ≡ false)
+one-at : {X : Type 0}
+    → (test : Seat X → Bool)
+    → test Left ≡ false
+    → (s : ℕ) (seats : List (Seat X))
+    → ((r : ℕ) → r ≢ s → test (seat_of r seats) ≡ false)
     → some test seats ≡ test (seat_of s seats)
 one-at test nobody zero seats others = none-found test seats (λ i. others (suc i) (λ same. absurd (omega (arith, same)))) ∙ sym nobody
 one-at test nobody (suc i) seats others = one-in test nobody i seats (λ k other. others (suc k) (λ same. other (omega (arith, same))))
@@ -55,7 +76,10 @@ one-at test nobody (suc i) seats others = one-in test nobody i seats (λ k other
 -- ---- a step that is passed
 
 -- no loss waits where the program is ready
-ready-told : {C T Q X : Type 0} → (P : Protocol C T Q X) (m : Meaning C Q X) → is_ready P m ≡ true → some waits_for_report m.seats ≡ false
+ready-told : {C T Q X : Type 0}
+    → (P : Protocol C T Q X) (m : Meaning C Q X)
+    → is_ready P m ≡ true
+    → some waits_for_report m.seats ≡ false
 ready-told P m ready =
     let held = or_parts (is_paused m) (waits m.phase || (m.shut || some waits_for_report m.seats)) (ready-parts P m ready).0 in
     let begun = or_parts (waits m.phase) (m.shut || some waits_for_report m.seats) held.1 in
@@ -90,12 +114,16 @@ unnamed-behind P number moment t (Lost loss is_reported is_told) none waits = re
 unnamed-behind P number moment t Left none waits = refl
 
 -- a program that is ready behind a step stopped for nobody at it
-unnamed-step : {C T Q X : Type 0} → (P : Protocol C T Q X) (moment : ℕ) (m : Meaning C Q X) → is_ready P (step P moment [] m) ≡ true
+unnamed-step : {C T Q X : Type 0}
+    → (P : Protocol C T Q X) (moment : ℕ) (m : Meaning C Q X)
+    → is_ready P (step P moment [] m) ≡ true
     → is_named P moment [] m.program m ≡ false
 unnamed-step P moment m ready = sym (step-stops P moment [] m) ∙ ready-goes P (step P moment [] m) ready
 
 -- a seat behind such a step
-seat-passed : {C T Q X : Type 0} → (P : Protocol C T Q X) (moment r : ℕ) (m : Meaning C Q X) → is_ready P (step P moment [] m) ≡ true
+seat-passed : {C T Q X : Type 0}
+    → (P : Protocol C T Q X) (moment r : ℕ) (m : Meaning C Q X)
+    → is_ready P (step P moment [] m) ≡ true
     → seat_of r (step P moment [] m).seats ≡ seat_behind P false (next_number m.stops) moment (told_at P m.program m) (seat_of r m.seats)
 seat-passed P moment r m ready =
     let number = next_number m.stops in
@@ -106,21 +134,28 @@ seat-passed P moment r m ready =
     ∙ ap (λ seats. seat_behind P false number moment t (seat_of r seats)) (without-none m.seats)
 
 -- its loss doesn't wait
-told-passed : {C T Q X : Type 0} → (P : Protocol C T Q X) (moment r : ℕ) (m : Meaning C Q X) → is_ready P (step P moment [] m) ≡ true
+told-passed : {C T Q X : Type 0}
+    → (P : Protocol C T Q X) (moment r : ℕ) (m : Meaning C Q X)
+    → is_ready P (step P moment [] m) ≡ true
     → waits_for_report (seat_behind P false (next_number m.stops) moment (told_at P m.program m) (seat_of r m.seats)) ≡ false
 told-passed P moment r m ready =
     ap (λ seat. waits_for_report seat) (sym (seat-passed P moment r m ready))
     ∙ none-at waits_for_report refl r (step P moment [] m).seats (ready-told P (step P moment [] m) ready)
 
 -- so it names what it named
-names-step : {C T Q X : Type 0} → (P : Protocol C T Q X) (moment r : ℕ) (u : T) (m : Meaning C Q X) → IsSteady P → is_ready P (step P moment [] m) ≡ true
+names-step : {C T Q X : Type 0}
+    → (P : Protocol C T Q X) (moment r : ℕ) (u : T) (m : Meaning C Q X)
+    → IsSteady P
+    → is_ready P (step P moment [] m) ≡ true
     → names_seat P u (seat_of r (step P moment [] m).seats) ≡ names_seat P u (seat_of r m.seats)
 names-step P moment r u m steady ready =
     ap (λ seat. names_seat P u seat) (seat-passed P moment r m ready)
     ∙ names-behind P (next_number m.stops) moment (told_at P m.program m) u (seat_of r m.seats) steady (told-passed P moment r m ready)
 
 -- and it didn't name the step
-unnamed-passed : {C T Q X : Type 0} → (P : Protocol C T Q X) (moment r : ℕ) (m : Meaning C Q X) → is_ready P (step P moment [] m) ≡ true
+unnamed-passed : {C T Q X : Type 0}
+    → (P : Protocol C T Q X) (moment r : ℕ) (m : Meaning C Q X)
+    → is_ready P (step P moment [] m) ≡ true
     → names_seat P (told_at P m.program m) (seat_of r m.seats) ≡ false
 unnamed-passed P moment r m ready =
     let number = next_number m.stops in
@@ -148,19 +183,25 @@ first-kept P (suc j) moment m begun = first-kept P j moment (step P moment [] m)
 
 -- ---- the last step
 
-unnamed_stop : {C T Q X : Type 0} → (P : Protocol C T Q X) (number moment : ℕ) (t : T) (seat : Seat X) → names_seat P t seat ≡ false
+unnamed_stop : {C T Q X : Type 0}
+    → (P : Protocol C T Q X) (number moment : ℕ) (t : T) (seat : Seat X)
+    → names_seat P t seat ≡ false
     → stops_for P number moment t seat ≡ false
 unnamed_stop P number moment t (Attached x) none = and_right (survives P number moment t x) (P.names t x) none
 unnamed_stop P number moment t (Lost loss is_reported is_told) none = refl
 unnamed_stop P number moment t Left none = refl
 
-fallen_stop : {C T Q X : Type 0} → (P : Protocol C T Q X) (number moment : ℕ) (t : T) (seat : Seat X) → stops_for P number moment t (fallen seat) ≡ false
+fallen_stop : {C T Q X : Type 0}
+    → (P : Protocol C T Q X) (number moment : ℕ) (t : T) (seat : Seat X)
+    → stops_for P number moment t (fallen seat) ≡ false
 fallen_stop P number moment t (Attached x) = refl
 fallen_stop P number moment t (Lost loss is_reported is_told) = refl
 fallen_stop P number moment t Left = refl
 
 -- one that names nothing stops nothing, be it lost for want of memory or not
-listed_stop : {C T Q X : Type 0} → (P : Protocol C T Q X) (number moment : ℕ) (t : T) (listed : Bool) (seat : Seat X) → names_seat P t seat ≡ false
+listed_stop : {C T Q X : Type 0}
+    → (P : Protocol C T Q X) (number moment : ℕ) (t : T) (listed : Bool) (seat : Seat X)
+    → names_seat P t seat ≡ false
     → stops_for P number moment t (if listed then fallen seat else seat) ≡ false
 listed_stop P number moment t true seat none = fallen_stop P number moment t seat
 listed_stop P number moment t false seat none = unnamed_stop P number moment t seat none
@@ -196,8 +237,11 @@ stop_either P number moment t true seat = lost_stop P number moment t seat
 stop_either P number moment t false seat = kept_stop P number moment t seat
 
 -- where the program stops for this session alone, it stops where that names the step and is attached behind it
-last-stop : {C T Q X : Type 0} → (P : Protocol C T Q X) (number moment : ℕ) (t : T) (b listed : Bool) (seat w new : Seat X)
-    → w ≡ (if listed then fallen seat else seat) → b ≡ stops_for P number moment t w → new ≡ seat_behind P b number moment t w
+last-stop : {C T Q X : Type 0}
+    → (P : Protocol C T Q X) (number moment : ℕ) (t : T) (b listed : Bool) (seat w new : Seat X)
+    → w ≡ (if listed then fallen seat else seat)
+    → b ≡ stops_for P number moment t w
+    → new ≡ seat_behind P b number moment t w
     → b ≡ (names_seat P t seat && is_attached new)
 last-stop P number moment t b listed seat w new is stops behind =
     let there : Seat _ = if listed then fallen seat else seat in
@@ -209,7 +253,9 @@ last-stop P number moment t b listed seat w new is stops behind =
     ∙ ap (λ v. names_seat P t seat && is_attached v) (sym behind)
 
 -- one step
-step-named : {C T Q X : Type 0} → (P : Protocol C T Q X) (moment s : ℕ) (gone : List ℕ) (m : Meaning C Q X) → NamesAlone P s m
+step-named : {C T Q X : Type 0}
+    → (P : Protocol C T Q X) (moment s : ℕ) (gone : List ℕ) (m : Meaning C Q X)
+    → NamesAlone P s m
     → is_paused (step P moment gone m) ≡ (names_seat P (told_at P m.program m) (seat_of s m.seats) && is_attached (seat_of s (step P moment gone m).seats))
 step-named P moment s gone m alone =
     let number = next_number m.stops in
@@ -227,7 +273,8 @@ step-named P moment s gone m alone =
 
 -- a run whose steps one session names, and no other, stops at the first that it names, or at none
 pub stops-first : {C T Q X : Type 0}
-    → (P : Protocol C T Q X) (c : C) (made moment : ℕ) (gone : List ℕ) (s : ℕ) (x : X) (m : Meaning C Q X) (n : ℕ) → IsSteady P
+    → (P : Protocol C T Q X) (c : C) (made moment : ℕ) (gone : List ℕ) (s : ℕ) (x : X) (m : Meaning C Q X) (n : ℕ)
+    → IsSteady P
     → m.program ≡ plain P made c → is_first m.phase ≡ false → seat_of s m.seats ≡ Attached x → NamesAlone P s m
     → ((j : ℕ) → j < n → is_ready P (after_steps P moment j m) ≡ true)
     → StopsAtFirstNamed P c made moment gone s x m n

@@ -24,7 +24,9 @@ passed-session P number moment t x true false fits none = refl
 passed-session P number moment t x false named fits none = refl
 
 -- where a seat doesn't stop the program, watching the step is all
-passed-seat : {C T Q X : Type 0} → (P : Protocol C T Q X) (number moment : ℕ) (t : T) (seat : Seat X) → stops_for P number moment t seat ≡ false
+passed-seat : {C T Q X : Type 0}
+    → (P : Protocol C T Q X) (number moment : ℕ) (t : T) (seat : Seat X)
+    → stops_for P number moment t seat ≡ false
     → watched P number moment t seat ≡ seat_behind P false number moment t seat
 passed-seat P number moment t (Attached x) none = passed-session P number moment t x (survives P number moment t x) (P.names t x) refl none
 passed-seat P number moment t (Lost loss is_reported is_told) none = refl
@@ -36,8 +38,11 @@ passed-one P number moment t old new flag w none =
     record { is = w.is ∙ passed-seat P number moment t (mid old new) (sym w.names ∙ none); names = w.names; room = w.room }
 
 -- a step that no session names is behind the first pass
-pub behind-passed : {C T Q X : Type 0} → (P : Protocol C T Q X) (number moment : ℕ) (t : T) (olds news : List (Seat X)) (flags : List Bool)
-    → Over (Watches P number moment t) olds news flags → any_set flags ≡ false → Over (Behind P false number moment t) olds news flags
+pub behind-passed : {C T Q X : Type 0}
+    → (P : Protocol C T Q X) (number moment : ℕ) (t : T) (olds news : List (Seat X)) (flags : List Bool)
+    → Over (Watches P number moment t) olds news flags
+    → any_set flags ≡ false
+    → Over (Behind P false number moment t) olds news flags
 behind-passed P number moment t [] [] [] over none = tt
 behind-passed P number moment t [] [] (flag ∷ flags) over none = absurd over
 behind-passed P number moment t [] (new ∷ news) flags over none = absurd over
@@ -91,7 +96,9 @@ named-session P number moment t x true false fits names = absurd cc
 named-session P number moment t x false named fits names = absurd cc
 
 -- one that names the step was told all of it by watching
-named-seat : {C T Q X : Type 0} → (P : Protocol C T Q X) (number moment : ℕ) (t : T) (seat : Seat X) → stops_for P number moment t seat ≡ true
+named-seat : {C T Q X : Type 0}
+    → (P : Protocol C T Q X) (number moment : ℕ) (t : T) (seat : Seat X)
+    → stops_for P number moment t seat ≡ true
     → watched P number moment t seat ≡ seat_behind P true number moment t seat
 named-seat P number moment t (Attached x) names = named-session P number moment t x (survives P number moment t x) (P.names t x) refl names
 named-seat P number moment t (Lost loss is_reported is_told) names = absurd cc
@@ -107,13 +114,17 @@ unnamed-session P number moment t x true false none = refl
 unnamed-session P number moment t x false named none = refl
 
 -- another was then told of the stop
-unnamed-seat : {C T Q X : Type 0} → (P : Protocol C T Q X) (number moment : ℕ) (t : T) (seat : Seat X) → stops_for P number moment t seat ≡ false
+unnamed-seat : {C T Q X : Type 0}
+    → (P : Protocol C T Q X) (number moment : ℕ) (t : T) (seat : Seat X)
+    → stops_for P number moment t seat ≡ false
     → stopped_seat P number t (watched P number moment t seat) ≡ seat_behind P true number moment t seat
 unnamed-seat P number moment t (Attached x) none = unnamed-session P number moment t x (survives P number moment t x) (P.names t x) none
 unnamed-seat P number moment t (Lost loss is_reported is_told) none = refl
 unnamed-seat P number moment t Left none = refl
 
-kept-fallen : {C T Q X : Type 0} → (P : Protocol C T Q X) (x : X) (b : Bool) → fell (fallen (if b then Attached x else lost_by Overrun)) ≡ true
+kept-fallen : {C T Q X : Type 0}
+    → (P : Protocol C T Q X) (x : X) (b : Bool)
+    → fell (fallen (if b then Attached x else lost_by Overrun)) ≡ true
     → fallen (if b then Attached x else lost_by Overrun) ≡ lost_by Memory
 kept-fallen P x true is = refl
 kept-fallen P x false is = absurd cc
@@ -128,16 +139,21 @@ watched-then-fallen P number moment t Left is = refl
 
 -- one fell, where watching was this seat
 stopped-low : {C T Q X : Type 0} → (P : Protocol C T Q X) (number moment : ℕ) (t : T) (old middle : Seat X) (b : Bool)
-    → middle ≡ watched P number moment t (if b then fallen old else old) → fell (fallen middle) ≡ true → fallen middle ≡ fallen old
+    → middle ≡ watched P number moment t (if b then fallen old else old)
+    → fell (fallen middle) ≡ true
+    → fallen middle ≡ fallen old
 stopped-low P number moment t old middle true is low =
     ap (λ seat. fallen seat) (is ∙ watched-fallen P number moment t old) ∙ fallen-twice old
 stopped-low P number moment t old middle false is low =
     ap (λ seat. fallen seat) is ∙ watched-then-fallen P number moment t old (ap (λ seat. fell (fallen seat)) (sym is) ∙ low)
 
 -- none fell
-stopped-high : {C T Q X : Type 0} → (P : Protocol C T Q X) (number moment : ℕ) (t : T) (old middle new : Seat X) (b : Bool)
+stopped-high : {C T Q X : Type 0}
+    → (P : Protocol C T Q X) (number moment : ℕ) (t : T) (old middle new : Seat X) (b : Bool)
     → fell middle ≡ b → middle ≡ watched P number moment t (if b then fallen old else old)
-    → false ≡ stops_for P number moment t (if b then fallen old else old) → new ≡ stopped_seat P number t middle → fell new ≡ false
+    → false ≡ stops_for P number moment t (if b then fallen old else old)
+    → new ≡ stopped_seat P number t middle
+    → fell new ≡ false
     → (new ≡ seat_behind P true number moment t old) × (false ≡ stops_for P number moment t old)
 stopped-high P number moment t old middle new true low is names hears high =
     let e : fell new ≡ true = ap (λ seat. fell seat) (hears ∙ stopped-fell P number t middle low) ∙ low in
@@ -148,7 +164,9 @@ stopped-high P number moment t old middle new false low is names hears high = (
 )
 
 -- one that didn't name the step
-stopped-unnamed : {C T Q X : Type 0} → (P : Protocol C T Q X) (number moment : ℕ) (t : T) (old middle new : Seat X) (b : Bool) → fell new ≡ b
+stopped-unnamed : {C T Q X : Type 0}
+    → (P : Protocol C T Q X) (number moment : ℕ) (t : T) (old middle new : Seat X) (b : Bool)
+    → fell new ≡ b
     → Watches P number moment t old middle false → new ≡ stopped_seat P number t (if b then fallen middle else middle)
     → (new ≡ seat_behind P true number moment t (if b then fallen old else old))
     × (false ≡ stops_for P number moment t (if b then fallen old else old))
@@ -162,8 +180,11 @@ stopped-unnamed P number moment t old middle new false fall w hears =
     stopped-high P number moment t old middle new (fell middle) refl w.is w.names hears fall
 
 -- one seat behind both passes
-stopped-one : {C T Q X : Type 0} → (P : Protocol C T Q X) (number moment : ℕ) (t : T) (old middle new : Seat X) (flag : Bool)
-    → Watches P number moment t old middle flag → HearsOf P number t middle new flag → Behind P true number moment t old new flag
+stopped-one : {C T Q X : Type 0}
+    → (P : Protocol C T Q X) (number moment : ℕ) (t : T) (old middle new : Seat X) (flag : Bool)
+    → Watches P number moment t old middle flag
+    → HearsOf P number t middle new flag
+    → Behind P true number moment t old new flag
 stopped-one P number moment t old middle new true w h =
     let same : mid old middle ≡ mid old new = ap (λ seat. mid old seat) (sym h.is) in
     record {
@@ -176,7 +197,8 @@ stopped-one P number moment t old middle new false w h =
     record { is = both.0; names = both.1; room = h.room }
 
 -- a step that a session names is behind both passes
-pub behind-stopped : {C T Q X : Type 0} → (P : Protocol C T Q X) (number moment : ℕ) (t : T) (olds middle news : List (Seat X)) (flags : List Bool)
+pub behind-stopped : {C T Q X : Type 0}
+    → (P : Protocol C T Q X) (number moment : ℕ) (t : T) (olds middle news : List (Seat X)) (flags : List Bool)
     → Over (Watches P number moment t) olds middle flags → Over (HearsOf P number t) middle news flags
     → Over (Behind P true number moment t) olds news flags
 behind-stopped P number moment t [] [] [] [] first second = tt
@@ -233,6 +255,8 @@ on-each P olds news over =
     (both.0 ∙ mids-less (each (resumed_seat P) olds) news, both.1)
 
 -- the seats before a pass are the old ones without those that fell
-pub over-mids : {X : Type 0} → (R : Seat X → Seat X → Bool → Type 0) (olds news : List (Seat X)) (flags : List Bool) → Over R olds news flags
+pub over-mids : {X : Type 0}
+    → (R : Seat X → Seat X → Bool → Type 0) (olds news : List (Seat X)) (flags : List Bool)
+    → Over R olds news flags
     → mids olds news ≡ without (fallen_in news) olds
 over-mids R olds news flags over = mids-less olds news

@@ -5,7 +5,8 @@ use Rattle.isolation.specs.declared.seat.Seat.{Seat}
 
 -- ---- one seat after another, whose flags are there
 
-along-first : {X : Type 0} → (R : Seat X → Seat X → Bool → Type 0) (olds news : List (Seat X)) (flags : List Bool) (d new : Seat X) (e : Bool)
+along-first : {X : Type 0}
+    → (R : Seat X → Seat X → Bool → Type 0) (olds news : List (Seat X)) (flags : List Bool) (d new : Seat X) (e : Bool)
     → news ≡ olds → 0 < length news → 0 < length flags → R (slice_index_or news 0 d) new (slice_index_or flags 0 e)
     → GoesAlong R (suc zero) olds (slice_set news 0 new) flags
 along-first R olds [] flags d new e same small few r = absurd (omega (arith, small))
@@ -16,8 +17,12 @@ along-first R (old ∷ olds) (here ∷ news) (flag ∷ flags) d new e same small
     let rest : news ≡ olds = cc in
     (subst (λ seat. R seat new flag) first r, rest)
 
-along-step : {X : Type 0} → (R : Seat X → Seat X → Bool → Type 0) (i : ℕ) (olds news : List (Seat X)) (flags : List Bool) (d new : Seat X) (e : Bool)
-    → GoesAlong R i olds news flags → i < length news → i < length flags → R (slice_index_or news i d) new (slice_index_or flags i e)
+along-step : {X : Type 0}
+    → (R : Seat X → Seat X → Bool → Type 0) (i : ℕ) (olds news : List (Seat X)) (flags : List Bool) (d new : Seat X) (e : Bool)
+    → GoesAlong R i olds news flags
+    → i < length news
+    → i < length flags
+    → R (slice_index_or news i d) new (slice_index_or flags i e)
     → GoesAlong R (suc i) olds (slice_set news i new) flags
 along-step R zero olds news flags d new e goes small few r = along-first R olds news flags d new e goes small few r
 along-step R (suc i) [] news flags d new e goes small few r = absurd goes
@@ -26,15 +31,20 @@ along-step R (suc i) (old ∷ olds) (here ∷ news) [] d new e goes small few r 
 along-step R (suc i) (old ∷ olds) (here ∷ news) (flag ∷ flags) d new e goes small few r =
     (goes.0, along-step R i olds news flags d new e goes.1 (omega (arith, small)) (omega (arith, few)) r)
 
-pub along-next : {X : Type 0} → (R : Seat X → Seat X → Bool → Type 0) (i : ℕ) (olds news : List (Seat X)) (flags : List Bool)
+pub along-next : {X : Type 0}
+    → (R : Seat X → Seat X → Bool → Type 0) (i : ℕ) (olds news : List (Seat X)) (flags : List Bool)
     → (d new : Seat X) (e : Bool)
-    → GoesAlong R i olds news flags → i < length news → i < length flags → R (slice_index_or news i d) new (slice_index_or flags i e)
+    → GoesAlong R i olds news flags
+    → i < length news
+    → i < length flags
+    → R (slice_index_or news i d) new (slice_index_or flags i e)
     → GoesAlong R (i + 1) olds (slice_set news i new) flags
 along-next R i olds news flags d new e goes small few r =
     let is : suc i ≡ i + 1 = omega arith in
     subst (λ k. GoesAlong R k olds (slice_set news i new) flags) is (along-step R i olds news flags d new e goes small few r)
 
-set-first : {X : Type 0} → (R : Seat X → Seat X → Bool → Type 0) (olds news : List (Seat X)) (flags : List Bool) (d new : Seat X) (flag : Bool)
+set-first : {X : Type 0}
+    → (R : Seat X → Seat X → Bool → Type 0) (olds news : List (Seat X)) (flags : List Bool) (d new : Seat X) (flag : Bool)
     → news ≡ olds → 0 < length news → 0 < length flags → R (slice_index_or news 0 d) new flag
     → GoesAlong R (suc zero) olds (slice_set news 0 new) (slice_set flags 0 flag)
 set-first R olds [] flags d new flag same small few r = absurd (omega (arith, small))
@@ -57,7 +67,8 @@ set-step R (suc i) (old ∷ olds) (here ∷ news) (other ∷ flags) d new flag g
     (goes.0, set-step R i olds news flags d new flag goes.1 (omega (arith, small)) (omega (arith, few)) r)
 
 -- one more turn that sets its flag
-pub along-set : {X : Type 0} → (R : Seat X → Seat X → Bool → Type 0) (i : ℕ) (olds news : List (Seat X)) (flags : List Bool)
+pub along-set : {X : Type 0}
+    → (R : Seat X → Seat X → Bool → Type 0) (i : ℕ) (olds news : List (Seat X)) (flags : List Bool)
     → (d new : Seat X) (flag : Bool)
     → GoesAlong R i olds news flags → i < length news → i < length flags → R (slice_index_or news i d) new flag
     → GoesAlong R (i + 1) olds (slice_set news i new) (slice_set flags i flag)
@@ -72,7 +83,8 @@ along-end R [] [] (flag ∷ flags) same small many = absurd (omega (arith, many)
 along-end R (old ∷ olds) [] flags same small many = absurd cc
 along-end R olds (here ∷ news) flags same small many = absurd (omega (arith, small))
 
-pub along-done : {X : Type 0} → (R : Seat X → Seat X → Bool → Type 0) (i : ℕ) (olds news : List (Seat X)) (flags : List Bool)
+pub along-done : {X : Type 0}
+    → (R : Seat X → Seat X → Bool → Type 0) (i : ℕ) (olds news : List (Seat X)) (flags : List Bool)
     → GoesAlong R i olds news flags → length news ≤ i → length flags ≡ length news → Over R olds news flags
 along-done R zero olds news flags goes small many = along-end R olds news flags goes small many
 along-done R (suc i) [] news flags goes small many = absurd goes
@@ -93,19 +105,29 @@ on-first R (old ∷ olds) (here ∷ news) d new same small r =
     (subst (λ seat. R seat new) first r, rest)
 
 on-step : {X : Type 0} → (R : Seat X → Seat X → Type 0) (i : ℕ) (olds news : List (Seat X)) (d new : Seat X)
-    → GoesOn R i olds news → i < length news → R (slice_index_or news i d) new → GoesOn R (suc i) olds (slice_set news i new)
+    → GoesOn R i olds news
+    → i < length news
+    → R (slice_index_or news i d) new
+    → GoesOn R (suc i) olds (slice_set news i new)
 on-step R zero olds news d new goes small r = on-first R olds news d new goes small r
 on-step R (suc i) [] news d new goes small r = absurd goes
 on-step R (suc i) (old ∷ olds) [] d new goes small r = absurd goes
 on-step R (suc i) (old ∷ olds) (here ∷ news) d new goes small r = (goes.0, on-step R i olds news d new goes.1 (omega (arith, small)) r)
 
 pub on-next : {X : Type 0} → (R : Seat X → Seat X → Type 0) (i : ℕ) (olds news : List (Seat X)) (d new : Seat X)
-    → GoesOn R i olds news → i < length news → R (slice_index_or news i d) new → GoesOn R (i + 1) olds (slice_set news i new)
+    → GoesOn R i olds news
+    → i < length news
+    → R (slice_index_or news i d) new
+    → GoesOn R (i + 1) olds (slice_set news i new)
 on-next R i olds news d new goes small r =
     let e : suc i ≡ i + 1 = omega arith in
     subst (λ k. GoesOn R k olds (slice_set news i new)) e (on-step R i olds news d new goes small r)
 
-on-end : {X : Type 0} → (R : Seat X → Seat X → Type 0) (olds news : List (Seat X)) → news ≡ olds → length news ≤ 0 → OverAll R olds news
+on-end : {X : Type 0}
+    → (R : Seat X → Seat X → Type 0) (olds news : List (Seat X))
+    → news ≡ olds
+    → length news ≤ 0
+    → OverAll R olds news
 on-end R [] [] same small = tt
 on-end R (old ∷ olds) [] same small = absurd cc
 on-end R olds (here ∷ news) same small = absurd (omega (arith, small))
@@ -119,7 +141,10 @@ on-done R (suc i) (old ∷ olds) (here ∷ news) goes small = (goes.0, on-done R
 
 -- ---- lengths
 
-pub over-all-length : {X : Type 0} → (R : Seat X → Seat X → Type 0) (olds news : List (Seat X)) → OverAll R olds news → length news ≡ length olds
+pub over-all-length : {X : Type 0}
+    → (R : Seat X → Seat X → Type 0) (olds news : List (Seat X))
+    → OverAll R olds news
+    → length news ≡ length olds
 over-all-length R [] [] over = refl
 over-all-length R [] (new ∷ news) over = absurd over
 over-all-length R (old ∷ olds) [] over = absurd over

@@ -16,14 +16,21 @@ or-false false b first second = second
 -- ---- seats
 
 -- one is found
-pub some-found : {X : Type 0} → (f : Seat X → Bool) (i : ℕ) (seats : List (Seat X)) (d : Seat X) → i < length seats → f (slice_index_or seats i d) ≡ true → some f seats ≡ true
+pub some-found : {X : Type 0}
+    → (f : Seat X → Bool) (i : ℕ) (seats : List (Seat X)) (d : Seat X)
+    → i < length seats
+    → f (slice_index_or seats i d) ≡ true
+    → some f seats ≡ true
 some-found f i [] d small is = absurd (omega (arith, small))
 some-found f zero (seat ∷ seats) d small is = ap (λ b. b || some f seats) is
 some-found f (suc i) (seat ∷ seats) d small is = ap (λ b. f seat || b) (some-found f i seats d (omega (arith, small)) is) ∙ or-true (f seat)
 
 -- one more isn't
 none_next : {X : Type 0} → (f : Seat X → Bool) (i : ℕ) (seats : List (Seat X)) (d : Seat X)
-    → i < length seats → some f (take i seats) ≡ false → f (slice_index_or seats i d) ≡ false → some f (take (suc i) seats) ≡ false
+    → i < length seats
+    → some f (take i seats) ≡ false
+    → f (slice_index_or seats i d) ≡ false
+    → some f (take (suc i) seats) ≡ false
 none_next f i [] d small before is = absurd (omega (arith, small))
 none_next f zero (seat ∷ seats) d small before is = or-false (f seat) false is refl
 none_next f (suc i) (seat ∷ seats) d small before is =
@@ -31,11 +38,18 @@ none_next f (suc i) (seat ∷ seats) d small before is =
     or-false (f seat) (some f (take (suc i) seats)) parts.0 (none_next f i seats d (omega (arith, small)) parts.1 is)
 
 pub none-more : {X : Type 0} → (f : Seat X → Bool) (i : ℕ) (seats : List (Seat X)) (d : Seat X)
-    → i < length seats → some f (take i seats) ≡ false → f (slice_index_or seats i d) ≡ false → some f (take (i + 1) seats) ≡ false
+    → i < length seats
+    → some f (take i seats) ≡ false
+    → f (slice_index_or seats i d) ≡ false
+    → some f (take (i + 1) seats) ≡ false
 none-more f i seats d small before is = let e : suc i ≡ i + 1 = omega arith in ap (λ n. some f (take n seats)) (sym e) ∙ none_next f i seats d small before is
 
 -- none is
-pub none-done : {X : Type 0} → (f : Seat X → Bool) (i : ℕ) (seats : List (Seat X)) → length seats ≤ i → some f (take i seats) ≡ false → some f seats ≡ false
+pub none-done : {X : Type 0}
+    → (f : Seat X → Bool) (i : ℕ) (seats : List (Seat X))
+    → length seats ≤ i
+    → some f (take i seats) ≡ false
+    → some f seats ≡ false
 none-done f i [] done before = refl
 none-done f zero (seat ∷ seats) done before = absurd (omega (arith, done))
 none-done f (suc i) (seat ∷ seats) done before =
@@ -44,19 +58,30 @@ none-done f (suc i) (seat ∷ seats) done before =
 
 -- ---- flags
 
-pub set-found : (i : ℕ) (flags : List Bool) (d : Bool) → i < length flags → slice_index_or flags i d ≡ true → any_set flags ≡ true
+pub set-found : (i : ℕ) (flags : List Bool) (d : Bool)
+    → i < length flags
+    → slice_index_or flags i d ≡ true
+    → any_set flags ≡ true
 set-found i [] d small is = absurd (omega (arith, small))
 set-found zero (flag ∷ flags) d small is = ap (λ b. b || any_set flags) is
 set-found (suc i) (flag ∷ flags) d small is = ap (λ b. flag || b) (set-found i flags d (omega (arith, small)) is) ∙ or-true flag
 
-unset_next : (i : ℕ) (flags : List Bool) (d : Bool) → i < length flags → any_set (take i flags) ≡ false → slice_index_or flags i d ≡ false → any_set (take (suc i) flags) ≡ false
+unset_next : (i : ℕ) (flags : List Bool) (d : Bool)
+    → i < length flags
+    → any_set (take i flags) ≡ false
+    → slice_index_or flags i d ≡ false
+    → any_set (take (suc i) flags) ≡ false
 unset_next i [] d small before is = absurd (omega (arith, small))
 unset_next zero (flag ∷ flags) d small before is = or-false flag false is refl
 unset_next (suc i) (flag ∷ flags) d small before is =
     let parts = or_parts flag (any_set (take i flags)) before in
     or-false flag (any_set (take (suc i) flags)) parts.0 (unset_next i flags d (omega (arith, small)) parts.1 is)
 
-pub unset-more : (i : ℕ) (flags : List Bool) (d : Bool) → i < length flags → any_set (take i flags) ≡ false → slice_index_or flags i d ≡ false → any_set (take (i + 1) flags) ≡ false
+pub unset-more : (i : ℕ) (flags : List Bool) (d : Bool)
+    → i < length flags
+    → any_set (take i flags) ≡ false
+    → slice_index_or flags i d ≡ false
+    → any_set (take (i + 1) flags) ≡ false
 unset-more i flags d small before is = let e : suc i ≡ i + 1 = omega arith in ap (λ n. any_set (take n flags)) (sym e) ∙ unset_next i flags d small before is
 
 pub unset-done : (i : ℕ) (flags : List Bool) → length flags ≤ i → any_set (take i flags) ≡ false → any_set flags ≡ false

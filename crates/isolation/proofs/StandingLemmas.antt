@@ -61,7 +61,10 @@ mids-in i (old ∷ olds) [] same = absurd cc
 mids-in zero (old ∷ olds) (new ∷ news) same = head-same new (mid old new) news (mids olds news) same
 mids-in (suc i) (old ∷ olds) (new ∷ news) same = mids-in i olds news (tail-same new (mid old new) news (mids olds news) same)
 
-mids-at : {X : Type 0} → (s : ℕ) (olds news : List (Seat X)) → news ≡ mids olds news → seat_of s news ≡ mid (seat_of s olds) (seat_of s news)
+mids-at : {X : Type 0}
+    → (s : ℕ) (olds news : List (Seat X))
+    → news ≡ mids olds news
+    → seat_of s news ≡ mid (seat_of s olds) (seat_of s news)
 mids-at zero olds news same = refl
 mids-at (suc i) olds news same = mids-in i olds news same
 
@@ -126,7 +129,11 @@ paused-same : {C Q X : Type 0} → (host m : Meaning C Q X) → Sinks host m →
 paused-same host m sinks = ap (λ k. is_paused k) sinks.rest
 
 -- where none fell, the two are one
-same-host : {C Q X : Type 0} → (host m : Meaning C Q X) → host ≡ less host.seats m → fallen_in host.seats ≡ [] → host ≡ m
+same-host : {C Q X : Type 0}
+    → (host m : Meaning C Q X)
+    → host ≡ less host.seats m
+    → fallen_in host.seats ≡ []
+    → host ≡ m
 same-host host m is none =
     is ∙ ap (λ numbers. with_seats (without numbers m.seats) m) none ∙ ap (λ seats. with_seats seats m) (without-none m.seats)
 
@@ -145,7 +152,9 @@ settle-same P m goes = settle-same-by P m (some (is_enabled_seat P) m.seats) goe
 
 -- ---- an entry
 
-put-sinks : {C Q X : Type 0} → (s : ℕ) (seat : Seat X) (m : Meaning C Q X) (news : List (Seat X)) → news ≡ mids m.seats news
+put-sinks : {C Q X : Type 0}
+    → (s : ℕ) (seat : Seat X) (m : Meaning C Q X) (news : List (Seat X))
+    → news ≡ mids m.seats news
     → Sinks (with_seat s seat (with_seats news m)) (with_seat s seat m)
 put-sinks s seat m news same = record { rest = refl; sunk = mids-put s seat m.seats news same }
 
@@ -159,7 +168,9 @@ settle-sinks P host m goes sinks =
 abbrev begun : {C Q X : Type 0} → Meaning C Q X → Meaning C Q X
 begun m = record m { phase = woken m.phase }
 
-asked-sinks : {C T Q X : Type 0} → (P : Protocol C T Q X) (host m : Meaning C Q X) (resumes wakes : Bool) → is_paused m ≡ false
+asked-sinks : {C T Q X : Type 0}
+    → (P : Protocol C T Q X) (host m : Meaning C Q X) (resumes wakes : Bool)
+    → is_paused m ≡ false
     → Sinks host m → Sinks (asked P resumes wakes host) (asked P resumes wakes m)
 asked-sinks P host m true wakes goes sinks =
     sinks-as host (resume P host) m (resume P m) (resume-same P host (paused-same host m sinks ∙ goes)) (resume-same P m goes) sinks
@@ -167,7 +178,8 @@ asked-sinks P host m false true goes sinks =
     settle-sinks P (begun host) (begun m) goes (record { rest = ap (λ k. begun k) sinks.rest; sunk = sinks.sunk })
 asked-sinks P host m false false goes sinks = settle-sinks P host m goes sinks
 
-told-sinks : {C T Q X : Type 0} → (P : Protocol C T Q X) (s : ℕ) (m : Meaning C Q X) (news : List (Seat X)) (y : X) (resumes wakes b : Bool)
+told-sinks : {C T Q X : Type 0}
+    → (P : Protocol C T Q X) (s : ℕ) (m : Meaning C Q X) (news : List (Seat X)) (y : X) (resumes wakes b : Bool)
     → is_paused m ≡ false → news ≡ mids m.seats news
     → Sinks (if b then asked P resumes wakes (with_seat s (Attached y) (with_seats news m)) else settle P (with_seat s Left (with_seats news m)))
     (if b then asked P resumes wakes (with_seat s (Attached y) m) else settle P (with_seat s Left m))
@@ -177,28 +189,35 @@ told-sinks P s m news y resumes wakes true goes same =
 told-sinks P s m news y resumes wakes false goes same =
     settle-sinks P (with_seat s Left (with_seats news m)) (with_seat s Left m) goes (put-sinks s Left m news same)
 
-tell-sinks : {C T Q X : Type 0} → (P : Protocol C T Q X) (s : ℕ) (text : List ℕ) (m : Meaning C Q X) (news : List (Seat X)) (seat : Seat X)
-    → is_paused m ≡ false → news ≡ mids m.seats news → Sinks (tell P s text (with_seats news m) seat) (tell P s text m seat)
+tell-sinks : {C T Q X : Type 0}
+    → (P : Protocol C T Q X) (s : ℕ) (text : List ℕ) (m : Meaning C Q X) (news : List (Seat X)) (seat : Seat X)
+    → is_paused m ≡ false
+    → news ≡ mids m.seats news
+    → Sinks (tell P s text (with_seats news m) seat) (tell P s text m seat)
 tell-sinks P s text m news (Attached x) goes same =
     let y = P.reply m.stop m.program text x in
     told-sinks P s m news y (P.resumes m.stop m.program text x) (P.wakes m.stop m.program text x) (P.fits y) goes same
 tell-sinks P s text m news (Lost loss is_reported is_told) goes same = record { rest = refl; sunk = same }
 tell-sinks P s text m news Left goes same = record { rest = refl; sunk = same }
 
-take-sinks : {C T Q X : Type 0} → (P : Protocol C T Q X) (s : ℕ) (m : Meaning C Q X) (news : List (Seat X)) (seat : Seat X)
+take-sinks : {C T Q X : Type 0}
+    → (P : Protocol C T Q X) (s : ℕ) (m : Meaning C Q X) (news : List (Seat X)) (seat : Seat X)
     → news ≡ mids m.seats news → Sinks (take P s (with_seats news m) seat) (take P s m seat)
 take-sinks P s m news (Attached x) same = put-sinks s (Attached (P.emptied x)) m news same
 take-sinks P s m news (Lost loss is_reported is_told) same = record { rest = refl; sunk = same }
 take-sinks P s m news Left same = record { rest = refl; sunk = same }
 
-detach-sinks : {C T Q X : Type 0} → (P : Protocol C T Q X) (s : ℕ) (m : Meaning C Q X) (news : List (Seat X)) (seat : Seat X)
+detach-sinks : {C T Q X : Type 0}
+    → (P : Protocol C T Q X) (s : ℕ) (m : Meaning C Q X) (news : List (Seat X)) (seat : Seat X)
     → is_paused m ≡ false → news ≡ mids m.seats news → Sinks (detach P s (with_seats news m) seat) (detach P s m seat)
 detach-sinks P s m news (Attached x) goes same =
     settle-sinks P (with_seat s Left (with_seats news m)) (with_seat s Left m) goes (put-sinks s Left m news same)
 detach-sinks P s m news (Lost loss is_reported is_told) goes same = put-sinks s (Lost loss is_reported true) m news same
 detach-sinks P s m news Left goes same = record { rest = refl; sunk = same }
 
-attach-sinks : {C T Q X : Type 0} → (P : Protocol C T Q X) (m : Meaning C Q X) (news : List (Seat X)) → news ≡ mids m.seats news
+attach-sinks : {C T Q X : Type 0}
+    → (P : Protocol C T Q X) (m : Meaning C Q X) (news : List (Seat X))
+    → news ≡ mids m.seats news
     → Sinks (apply P (with_seats news m) Attach) (apply P m Attach)
 attach-sinks P m news same = record {
   rest = refl;
@@ -210,7 +229,10 @@ attached-stands (Attached x) is = refl
 attached-stands (Lost loss is_reported is_told) is = absurd cc
 attached-stands Left is = refl
 
-held-at : {X : Type 0} → (s : ℕ) (olds news : List (Seat X)) → news ≡ mids olds news → is_attached (seat_of s news) ≡ true
+held-at : {X : Type 0}
+    → (s : ℕ) (olds news : List (Seat X))
+    → news ≡ mids olds news
+    → is_attached (seat_of s news) ≡ true
     → seat_of s olds ≡ seat_of s news
 held-at s olds news same attached = still-at s olds news same (attached-stands (seat_of s news) attached)
 
@@ -227,8 +249,13 @@ entry-sinks P m news (Detach s) goes same held =
 entry-sinks P m news (Ran n moment gone) goes same held = absurd held
 entry-sinks P m news Shut goes same held = record { rest = refl; sunk = same }
 
-more-by : {C T Q X : Type 0} → (P : Protocol C T Q X) (host m : Meaning C Q X) (entry : Entry) (new : Meaning C Q X) (b : Bool)
-    → is_paused host ≡ b → StandsAs host m → IsHeld host entry → LeavesAs P host entry new → new ≡ less new.seats (apply P m entry)
+more-by : {C T Q X : Type 0}
+    → (P : Protocol C T Q X) (host m : Meaning C Q X) (entry : Entry) (new : Meaning C Q X) (b : Bool)
+    → is_paused host ≡ b
+    → StandsAs host m
+    → IsHeld host entry
+    → LeavesAs P host entry new
+    → new ≡ less new.seats (apply P m entry)
 more-by P host m entry new true paused stands held leaves =
     leaves.is ∙ ap (λ k. less new.seats (apply P k entry)) (same-host host m stands.is (stands.all_there paused))
 more-by P host m entry new false goes stands held leaves =
@@ -241,7 +268,8 @@ more-by P host m entry new false goes stands held leaves =
     (ap (λ k. apply P k entry) sinks.rest) refl after))
 
 -- behind an entry of a session that is attached there, and of nobody's
-pub stands-more : {C T Q X : Type 0} → (P : Protocol C T Q X) (host m : Meaning C Q X) (entry : Entry) (new : Meaning C Q X)
+pub stands-more : {C T Q X : Type 0}
+    → (P : Protocol C T Q X) (host m : Meaning C Q X) (entry : Entry) (new : Meaning C Q X)
     → StandsAs host m → IsHeld host entry → LeavesAs P host entry new → StandsAs new (apply P m entry)
 stands-more P host m entry new stands held leaves =
     record { is = more-by P host m entry new (is_paused host) refl stands held leaves; all_there = leaves.all_there }
@@ -256,8 +284,12 @@ fell-goes s host true paused there fallen_there =
 fell-goes s host false goes there fallen_there = goes
 
 -- a session that another host holds as attached
-left-sinks : {C T Q X : Type 0} → (P : Protocol C T Q X) (s : ℕ) (m : Meaning C Q X) (news : List (Seat X)) (seat : Seat X)
-    → is_paused m ≡ false → news ≡ mids m.seats news → is_attached seat ≡ true → Sinks (with_seat s Left (with_seats news m)) (detach P s m seat)
+left-sinks : {C T Q X : Type 0}
+    → (P : Protocol C T Q X) (s : ℕ) (m : Meaning C Q X) (news : List (Seat X)) (seat : Seat X)
+    → is_paused m ≡ false
+    → news ≡ mids m.seats news
+    → is_attached seat ≡ true
+    → Sinks (with_seat s Left (with_seats news m)) (detach P s m seat)
 left-sinks P s m news (Attached x) goes same attached =
     sinks-as (with_seat s Left (with_seats news m)) (with_seat s Left (with_seats news m)) (with_seat s Left m) (settle P (with_seat s Left m))
     refl (settle-same P (with_seat s Left m) goes) (put-sinks s Left m news same)
@@ -305,8 +337,11 @@ stands-at : {C Q X : Type 0} → (host m : Meaning C Q X) (s : ℕ) → StandsAs
 stands-at host m s stands stays = still-at s m.seats host.seats (less-sinks host m stands.is).sunk stays
 
 -- one that was lost, for another cause or before a run that told of it
-pub stands-detach-lost : {C T Q X : Type 0} → (P : Protocol C T Q X) (host m : Meaning C Q X) (s : ℕ) (loss : Loss) (is_reported is_told : Bool)
-    → StandsAs host m → seat_of s host.seats ≡ Lost loss is_reported is_told → fell {X = X} (Lost loss is_reported is_told) ≡ false
+pub stands-detach-lost : {C T Q X : Type 0}
+    → (P : Protocol C T Q X) (host m : Meaning C Q X) (s : ℕ) (loss : Loss) (is_reported is_told : Bool)
+    → StandsAs host m
+    → seat_of s host.seats ≡ Lost loss is_reported is_told
+    → fell {X = X} (Lost loss is_reported is_told) ≡ false
     → StandsAs (with_seat s (Lost loss is_reported true) host) (apply P m (Detach s))
 stands-detach-lost {C} {T} {Q} {X} P host m s loss is_reported is_told stands at stays =
     let there : seat_of s m.seats ≡ Lost loss is_reported is_told
@@ -333,11 +368,16 @@ pub none-reported : {X : Type 0} → (seats : List (Seat X)) → some fell (each
 none-reported [] = refl
 none-reported (seat ∷ seats) = rw (fell-reported seat) (none-reported seats)
 
-fell-kept : {C T Q X : Type 0} → (P : Protocol C T Q X) (x : X) (b : Bool) → fell (if b then Attached x else Lost Overrun false false) ≡ false
+fell-kept : {C T Q X : Type 0}
+    → (P : Protocol C T Q X) (x : X) (b : Bool)
+    → fell (if b then Attached x else Lost Overrun false false) ≡ false
 fell-kept P x true = refl
 fell-kept P x false = refl
 
-fell-resumed : {C T Q X : Type 0} → (P : Protocol C T Q X) (seat : Seat X) → fell seat ≡ false → fell (resumed_seat P seat) ≡ false
+fell-resumed : {C T Q X : Type 0}
+    → (P : Protocol C T Q X) (seat : Seat X)
+    → fell seat ≡ false
+    → fell (resumed_seat P seat) ≡ false
 fell-resumed P (Attached x) stays = fell-kept P (P.resumed x) (P.fits (P.resumed x))
 fell-resumed P (Lost loss is_reported is_told) stays = stays
 fell-resumed P Left stays = refl
@@ -355,7 +395,10 @@ none-resume-by : {C T Q X : Type 0} → (P : Protocol C T Q X) (m : Meaning C Q 
 none-resume-by P m true none = none-resumed P m.seats none
 none-resume-by P m false none = none
 
-none-resume : {C T Q X : Type 0} → (P : Protocol C T Q X) (m : Meaning C Q X) → some fell m.seats ≡ false → some fell (resume P m).seats ≡ false
+none-resume : {C T Q X : Type 0}
+    → (P : Protocol C T Q X) (m : Meaning C Q X)
+    → some fell m.seats ≡ false
+    → some fell (resume P m).seats ≡ false
 none-resume P m none = none-resume-by P m (is_paused m) none
 
 none-settle-by : {C T Q X : Type 0} → (P : Protocol C T Q X) (m : Meaning C Q X) (b : Bool) → some fell m.seats ≡ false
@@ -363,7 +406,10 @@ none-settle-by : {C T Q X : Type 0} → (P : Protocol C T Q X) (m : Meaning C Q 
 none-settle-by P m true none = none
 none-settle-by P m false none = none-resume P m none
 
-none-settle : {C T Q X : Type 0} → (P : Protocol C T Q X) (m : Meaning C Q X) → some fell m.seats ≡ false → some fell (settle P m).seats ≡ false
+none-settle : {C T Q X : Type 0}
+    → (P : Protocol C T Q X) (m : Meaning C Q X)
+    → some fell m.seats ≡ false
+    → some fell (settle P m).seats ≡ false
 none-settle P m none = none-settle-by P m (some (is_enabled_seat P) m.seats) none
 
 -- ---- a run
@@ -373,7 +419,10 @@ abbrev behind_run : {C T Q X : Type 0} → Protocol C T Q X → Meaning C Q X �
 behind_run P k = settle P (with_seats (each reported k.seats) k)
 
 -- no seat of a host that is ready waits for a run that reports it
-ready-none : {C T Q X : Type 0} → (P : Protocol C T Q X) (host : Meaning C Q X) → is_ready P host ≡ true → fallen_in host.seats ≡ []
+ready-none : {C T Q X : Type 0}
+    → (P : Protocol C T Q X) (host : Meaning C Q X)
+    → is_ready P host ≡ true
+    → fallen_in host.seats ≡ []
 ready-none P host ready =
     let held : is_held host ≡ false = not-true _ (and_parts (not (is_held host)) (not (P.is_over host.program)) ready).0 in
     let second = (or_parts (is_paused host) _ held).1 in
@@ -381,11 +430,18 @@ ready-none P host ready =
     waits-fallen host.seats (or_parts host.shut _ third).1
 
 -- what makes a step is all there
-ready-same : {C T Q X : Type 0} → (P : Protocol C T Q X) (host m : Meaning C Q X) → StandsAs host m → is_ready P host ≡ true → host ≡ m
+ready-same : {C T Q X : Type 0}
+    → (P : Protocol C T Q X) (host m : Meaning C Q X)
+    → StandsAs host m
+    → is_ready P host ≡ true
+    → host ≡ m
 ready-same P host m stands ready = same-host host m stands.is (ready-none P host ready)
 
 -- a run of what a host stands for leads where its own does
-reaches : {C T Q X : Type 0} → (P : Protocol C T Q X) (moment n : ℕ) (host m k : Meaning C Q X) → StandsAs host m → HasMade P moment host k n
+reaches : {C T Q X : Type 0}
+    → (P : Protocol C T Q X) (moment n : ℕ) (host m k : Meaning C Q X)
+    → StandsAs host m
+    → HasMade P moment host k n
     → k ≡ after_run P moment (fallen_in k.seats) n m
 reaches P moment zero host m k stands made =
     sinks-less k m (sinks-twice k host m (less-sinks k host made.reached) (less-sinks host m stands.is))
@@ -419,19 +475,25 @@ none-append seat (first ∷ seats) stays none =
     let parts = or_parts (fell first) (some fell seats) none in
     rw parts.0 (none-append seat seats stays parts.1)
 
-none-asked : {C T Q X : Type 0} → (P : Protocol C T Q X) (m : Meaning C Q X) (resumes wakes : Bool) → some fell m.seats ≡ false
+none-asked : {C T Q X : Type 0}
+    → (P : Protocol C T Q X) (m : Meaning C Q X) (resumes wakes : Bool)
+    → some fell m.seats ≡ false
     → some fell (asked P resumes wakes m).seats ≡ false
 none-asked P m true wakes none = none-resume P m none
 none-asked P m false true none = none-settle P (begun m) none
 none-asked P m false false none = none-settle P m none
 
-none-told : {C T Q X : Type 0} → (P : Protocol C T Q X) (s : ℕ) (m : Meaning C Q X) (y : X) (resumes wakes b : Bool) → some fell m.seats ≡ false
+none-told : {C T Q X : Type 0}
+    → (P : Protocol C T Q X) (s : ℕ) (m : Meaning C Q X) (y : X) (resumes wakes b : Bool)
+    → some fell m.seats ≡ false
     → some fell (if b then asked P resumes wakes (with_seat s (Attached y) m) else settle P (with_seat s Left m)).seats ≡ false
 none-told P s m y resumes wakes true none =
     none-asked P (with_seat s (Attached y) m) resumes wakes (fell-put s (Attached y) m.seats refl none)
 none-told P s m y resumes wakes false none = none-settle P (with_seat s Left m) (fell-put s Left m.seats refl none)
 
-none-tell : {C T Q X : Type 0} → (P : Protocol C T Q X) (s : ℕ) (text : List ℕ) (m : Meaning C Q X) (seat : Seat X) → some fell m.seats ≡ false
+none-tell : {C T Q X : Type 0}
+    → (P : Protocol C T Q X) (s : ℕ) (text : List ℕ) (m : Meaning C Q X) (seat : Seat X)
+    → some fell m.seats ≡ false
     → some fell (tell P s text m seat).seats ≡ false
 none-tell P s text m (Attached x) none =
     let y = P.reply m.stop m.program text x in
@@ -439,13 +501,17 @@ none-tell P s text m (Attached x) none =
 none-tell P s text m (Lost loss is_reported is_told) none = none
 none-tell P s text m Left none = none
 
-none-take : {C T Q X : Type 0} → (P : Protocol C T Q X) (s : ℕ) (m : Meaning C Q X) (seat : Seat X) → some fell m.seats ≡ false
+none-take : {C T Q X : Type 0}
+    → (P : Protocol C T Q X) (s : ℕ) (m : Meaning C Q X) (seat : Seat X)
+    → some fell m.seats ≡ false
     → some fell (take P s m seat).seats ≡ false
 none-take P s m (Attached x) none = fell-put s (Attached (P.emptied x)) m.seats refl none
 none-take P s m (Lost loss is_reported is_told) none = none
 none-take P s m Left none = none
 
-none-detach : {C T Q X : Type 0} → (P : Protocol C T Q X) (s : ℕ) (m : Meaning C Q X) (seat : Seat X) → seat_of s m.seats ≡ seat
+none-detach : {C T Q X : Type 0}
+    → (P : Protocol C T Q X) (s : ℕ) (m : Meaning C Q X) (seat : Seat X)
+    → seat_of s m.seats ≡ seat
     → some fell m.seats ≡ false → some fell (detach P s m seat).seats ≡ false
 none-detach P s m (Attached x) at none = none-settle P (with_seat s Left m) (fell-put s Left m.seats refl none)
 none-detach {C} {T} {Q} {X} P s m (Lost loss is_reported is_told) at none =
@@ -464,7 +530,9 @@ none-entry P m (Ran n moment gone) none =
     let k = after_run P moment gone n m in none-settle P (with_seats (each reported k.seats) k) (none-reported k.seats)
 none-entry P m Shut none = none
 
-history-none : {C T Q X : Type 0} → (P : Protocol C T Q X) (m : Meaning C Q X) (history : List Entry) → some fell m.seats ≡ false
+history-none : {C T Q X : Type 0}
+    → (P : Protocol C T Q X) (m : Meaning C Q X) (history : List Entry)
+    → some fell m.seats ≡ false
     → some fell (fold (apply P) m history).seats ≡ false
 history-none P m [] none = none
 history-none P m (entry ∷ history) none = history-none P (apply P m entry) history (none-entry P m entry none)
@@ -475,7 +543,11 @@ pub whole-none : {C T Q X : Type 0} → (P : Protocol C T Q X) (c : C) (wait : B
 whole-none P c wait history = history-none P (begin c wait) history refl
 
 -- one that fell was attached, or had fallen
-fallen-from : {X : Type 0} → (old new : Seat X) (is_told : Bool) → fell old ≡ false → new ≡ mid old new → new ≡ Lost Memory false is_told
+fallen-from : {X : Type 0}
+    → (old new : Seat X) (is_told : Bool)
+    → fell old ≡ false
+    → new ≡ mid old new
+    → new ≡ Lost Memory false is_told
     → is_attached old ≡ true
 fallen-from (Attached x) new is_told stays is at = refl
 fallen-from (Lost loss is_reported was_told) new is_told stays is at =
@@ -485,7 +557,10 @@ fallen-from Left new is_told stays is at =
     let same : new ≡ Left = is ∙ ap (λ seat. mid Left seat) at in absurd cc
 
 -- one that fell here is attached in what the host stands for, if none fell there
-pub fallen-attached : {C Q X : Type 0} → (host m : Meaning C Q X) (s : ℕ) (is_told : Bool) → StandsAs host m → some fell m.seats ≡ false
+pub fallen-attached : {C Q X : Type 0}
+    → (host m : Meaning C Q X) (s : ℕ) (is_told : Bool)
+    → StandsAs host m
+    → some fell m.seats ≡ false
     → seat_of s host.seats ≡ Lost Memory false is_told → is_attached (seat_of s m.seats) ≡ true
 fallen-attached host m s is_told stands none at =
     fallen-from (seat_of s m.seats) (seat_of s host.seats) is_told (fell-at s m.seats none)

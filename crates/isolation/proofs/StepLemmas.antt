@@ -44,7 +44,10 @@ ready-parts P m ready =
     (not-true (is_held m) parts.0, not-true (P.is_over m.program) parts.1)
 
 -- no session that fell waits where the program is ready
-pub ready-none : {C T Q X : Type 0} → (P : Protocol C T Q X) (n : Meaning C Q X) → is_ready P n ≡ true → fallen_in n.seats ≡ []
+pub ready-none : {C T Q X : Type 0}
+    → (P : Protocol C T Q X) (n : Meaning C Q X)
+    → is_ready P n ≡ true
+    → fallen_in n.seats ≡ []
 ready-none P n ready =
     let held = or_parts (is_paused n) (waits n.phase || (n.shut || some waits_for_report n.seats)) (ready-parts P n ready).0 in
     let begun = or_parts (waits n.phase) (n.shut || some waits_for_report n.seats) held.1 in

@@ -54,7 +54,10 @@ goes-keeps : {C T Q X : Type 0} → (P : Protocol C T Q X) (E : Texts P) → Are
     → Keeps P handed (goes_on P resumed a).seat (made ++ resume_texts P E resumed a.seat)
 goes-keeps P E sent true handed made a keeps = resumed-keeps P E sent handed made a.seat keeps
   where
-    resumed-keeps : {C T Q X : Type 0} → (P : Protocol C T Q X) (E : Texts P) → AreSent P E → (handed made : List (List ℕ)) (seat : Seat X)
+    resumed-keeps : {C T Q X : Type 0}
+        → (P : Protocol C T Q X) (E : Texts P)
+        → AreSent P E
+        → (handed made : List (List ℕ)) (seat : Seat X)
         → Keeps P handed seat made → Keeps P handed (resumed_seat P seat) (made ++ resume_texts P E true seat)
     resumed-keeps P E sent handed made (Attached x) keeps =
         kept-keeps P handed (made ++ E.resumed x) (P.resumed x) (P.fits (P.resumed x))

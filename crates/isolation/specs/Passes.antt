@@ -37,7 +37,13 @@ pub record HearsOn {C T Q X : Type 0} (P : Protocol C T Q X) (old new : Seat X) 
 
 -- the relation holds of the first seats, so many, with their flags, which are there from the beginning; the others are as
 -- they were
-abbrev pub GoesAlong : {X : Type 0} → (Seat X → Seat X → Bool → Type 0) → ℕ → List (Seat X) → List (Seat X) → List Bool → Type 0
+abbrev pub GoesAlong : {X : Type 0}
+    → (Seat X → Seat X → Bool → Type 0)
+    → ℕ
+    → List (Seat X)
+    → List (Seat X)
+    → List Bool
+    → Type 0
 GoesAlong R zero olds news flags = news ≡ olds
 GoesAlong R (suc i) [] news flags = ⊥
 GoesAlong R (suc i) (old ∷ olds) [] flags = ⊥

@@ -16,7 +16,9 @@ plain P (suc k) c = P.next (plain P k c)
 pub record StopsExactly {C T Q X : Type 0} (P : Protocol C T Q X) (c : C) (made moment : ℕ) (gone : List ℕ) (m : Meaning C Q X) (n : ℕ) : Type 0 where
   pub ready : (j : ℕ) → j < n → is_ready P (after_steps P moment j m) ≡ true
   pub passes_none : (j : ℕ) → j + 1 < n → is_named P moment [] (plain P (made + j) c) (after_steps P moment j m) ≡ false
-  pub stops_there : (j : ℕ) → n ≡ suc j → is_paused (after_run P moment gone n m) ≡ is_named P moment gone (plain P (made + j) c) (after_steps P moment j m)
+  pub stops_there : (j : ℕ)
+      → n ≡ suc j
+      → is_paused (after_run P moment gone n m) ≡ is_named P moment gone (plain P (made + j) c) (after_steps P moment j m)
 
 -- an entry that makes steps makes such ones
 abbrev pub StopsAt : {C T Q X : Type 0} → Protocol C T Q X → C → ℕ → Meaning C Q X → Entry → Type 0

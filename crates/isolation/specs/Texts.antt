@@ -16,7 +16,8 @@ pub record Texts {C T Q X : Type 0} (P : Protocol C T Q X) : Type 0 where
 
 -- they come behind those that wait; taking them leaves none, and at first there is none
 pub record AreSent {C T Q X : Type 0} (P : Protocol C T Q X) (E : Texts P) : Type 0 where
-  pub reply : (q : Option Q) (c : C) (text : List ℕ) (x : X) → P.outbox (P.reply q c text x) ≡ P.outbox x ++ E.reply q c text x
+  pub reply : (q : Option Q) (c : C) (text : List ℕ) (x : X)
+      → P.outbox (P.reply q c text x) ≡ P.outbox x ++ E.reply q c text x
   pub resumed : (x : X) → P.outbox (P.resumed x) ≡ P.outbox x ++ E.resumed x
   pub told : (moment : ℕ) (t : T) (x : X) → P.outbox (P.told moment t x) ≡ P.outbox x ++ E.told moment t x
   pub stopped : (number : ℕ) (t : T) (x : X) → P.outbox (P.stopped number t x) ≡ P.outbox x ++ E.stopped number t x
@@ -31,13 +32,27 @@ resume_texts P E true Left = []
 resume_texts P E false seat = []
 
 -- those of a text
-abbrev pub reply_texts : {C T Q X : Type 0} → (P : Protocol C T Q X) → Texts P → List ℕ → Bool → Alone C Q X → Seat X → List (List ℕ)
+abbrev pub reply_texts : {C T Q X : Type 0}
+    → (P : Protocol C T Q X)
+    → Texts P
+    → List ℕ
+    → Bool
+    → Alone C Q X
+    → Seat X
+    → List (List ℕ)
 reply_texts P E text resumed a (Attached x) = E.reply a.stop a.program text x ++ resume_texts P E resumed (Attached (P.reply a.stop a.program text x))
 reply_texts P E text resumed a (Lost loss is_reported is_told) = []
 reply_texts P E text resumed a Left = []
 
 -- those of one step at which the program stops, or doesn't: what is told of the step, and of a stop
-abbrev pub step_texts : {C T Q X : Type 0} → (P : Protocol C T Q X) → Texts P → ℕ → Bool → Alone C Q X → Seat X → List (List ℕ)
+abbrev pub step_texts : {C T Q X : Type 0}
+    → (P : Protocol C T Q X)
+    → Texts P
+    → ℕ
+    → Bool
+    → Alone C Q X
+    → Seat X
+    → List (List ℕ)
 step_texts P E moment stops a (Attached x) =
     E.told moment (P.tells a.first a.program) x ++ (if stops then E.stopped (next_number a.stops) (P.tells a.first a.program) (P.told moment (P.tells a.first a.program) x) else [])
 step_texts P E moment stops a (Lost loss is_reported is_told) = []
@@ -49,7 +64,15 @@ passing_texts P E moment zero a = []
 passing_texts P E moment (suc n) a = step_texts P E moment false a a.seat ++ passing_texts P E moment n (one_step P moment false a)
 
 -- those of a run
-abbrev pub run_texts : {C T Q X : Type 0} → (P : Protocol C T Q X) → Texts P → ℕ → ℕ → Bool → Bool → Alone C Q X → List (List ℕ)
+abbrev pub run_texts : {C T Q X : Type 0}
+    → (P : Protocol C T Q X)
+    → Texts P
+    → ℕ
+    → ℕ
+    → Bool
+    → Bool
+    → Alone C Q X
+    → List (List ℕ)
 run_texts P E moment zero stops listed a = []
 run_texts P E moment (suc n) stops listed a =
     passing_texts P E moment n a ++ step_texts P E moment stops (unless_listed listed (passing P moment n a)) (unless_listed listed (passing P moment n a)).seat
@@ -86,4 +109,6 @@ Fits P Left = Unit {0}
 pub record HasRoom {C T Q X : Type 0} (P : Protocol C T Q X) : Type 0 where
   pub emptied : (x : X) → P.fits (P.emptied x) ≡ true
   pub fresh : (s : ℕ) → P.fits (P.fresh s) ≡ true
-  pub stopped : (number moment : ℕ) (t : T) (x : X) → P.fits (P.stopped number t (P.told moment t x)) ≡ true → P.fits (P.told moment t x) ≡ true
+  pub stopped : (number moment : ℕ) (t : T) (x : X)
+      → P.fits (P.stopped number t (P.told moment t x)) ≡ true
+      → P.fits (P.told moment t x) ≡ true

@@ -37,4 +37,7 @@ indexed_code ts t e node = code_of_number ts t (slice_get e.functions.items node
 
 -- the function of each node of each source is the one that the source's index has
 pub record HasFunctions (t : NodeTable) : Type 0 where
-  pub finds : (ts : List (List ℕ)) (i : ℕ) (e : SourceEntry) → slice_get t.sources.items i ≡ Some e → (node : ℕ) → function_in node (tree ts t e.root) ≡ indexed_code ts t e node
+  pub finds : (ts : List (List ℕ)) (i : ℕ) (e : SourceEntry)
+      → slice_get t.sources.items i ≡ Some e
+      → (node : ℕ)
+      → function_in node (tree ts t e.root) ≡ indexed_code ts t e node

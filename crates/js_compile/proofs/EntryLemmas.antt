@@ -206,14 +206,21 @@ named_place ops.Function t i n b = absurd cc
 named_place ops.Method t i n b = absurd cc
 named_place _ t i n b = tt
 
-always_placed : (op : Op) (n : ℕ) → is_placed op ≡ true → (us : List (List ℕ)) (u : NodeTable) → form_of us u op n ≡ placed_form op n
+always_placed : (op : Op) (n : ℕ)
+    → is_placed op ≡ true
+    → (us : List (List ℕ)) (u : NodeTable)
+    → form_of us u op n ≡ placed_form op n
 unfolding form_of
 always_placed ops.Enter n b us u = refl
 always_placed ops.EnterDebugger n b us u = refl
 always_placed ops.Throw n b us u = refl
 always_placed _ n b us u = absurd cc
 
-always_named : (op : Op) (n : ℕ) (name : List ℕ) → is_named op ≡ true → (us : List (List ℕ)) (u : NodeTable) → name_of us n ≡ name → form_of us u op n ≡ named_form op name
+always_named : (op : Op) (n : ℕ) (name : List ℕ)
+    → is_named op ≡ true
+    → (us : List (List ℕ)) (u : NodeTable)
+    → name_of us n ≡ name
+    → form_of us u op n ≡ named_form op name
 unfolding form_of
 always_named ops.Initialize n name b us u e = ap (λ s. named_form ops.Initialize s) e
 always_named ops.CatchingName n name b us u e = ap (λ s. named_form ops.CatchingName s) e
@@ -233,79 +240,129 @@ always_named _ n name b us u e = absurd cc
 pub has_bare : (ts : List (List ℕ)) (t : NodeTable) (op : Op) → is_bare op ≡ true → HasForm ts t op 0 (bare_form op)
 has_bare ts t op b = record { is = λ us u g e. always_bare op b us u; source = bare_is_task_only op b; inner = bare_is_literal op b; turns = λ l. refl; place = bare_place op t 0 (length t.nodes.items) b }
 
-pub has_placed : (ts : List (List ℕ)) (t : NodeTable) (op : Op) (n : ℕ) → is_placed op ≡ true → HasForm ts t op n (placed_form op n)
+pub has_placed : (ts : List (List ℕ)) (t : NodeTable) (op : Op) (n : ℕ)
+    → is_placed op ≡ true
+    → HasForm ts t op n (placed_form op n)
 has_placed ts t op n b = record { is = λ us u g e. always_placed op n b us u; source = placed_is_task_only op b; inner = placed_is_literal op b; turns = λ l. placed_turns op n b l; place = placed_place op t n (length t.nodes.items) b }
 
-pub has_named : (ts : List (List ℕ)) (t : NodeTable) (op : Op) (n : ℕ) (name : List ℕ) → is_named op ≡ true → Known ts n name → HasForm ts t op n (named_form op name)
+pub has_named : (ts : List (List ℕ)) (t : NodeTable) (op : Op) (n : ℕ) (name : List ℕ)
+    → is_named op ≡ true
+    → Known ts n name
+    → HasForm ts t op n (named_form op name)
 has_named ts t op n name b k = record { is = λ us u g e. always_named op n name b us u (k us g); source = named_is_task_only op b; inner = named_is_literal op b; turns = λ l. named_turns op n b l; place = named_place op t n (length t.nodes.items) b }
 
 -- ---- with an entry
 
-pub script_known : (ts : List (List ℕ)) (t : NodeTable) (n : ℕ) (e : ScriptEntry) (bs : List Binding) → slice_get t.scripts.items n ≡ Some e → AreBindings ts e.names bs → HasForm ts t ops.Script n (forms.Script e.number bs)
+pub script_known : (ts : List (List ℕ)) (t : NodeTable) (n : ℕ) (e : ScriptEntry) (bs : List Binding)
+    → slice_get t.scripts.items n ≡ Some e
+    → AreBindings ts e.names bs
+    → HasForm ts t ops.Script n (forms.Script e.number bs)
 unfolding form_of
 script_known ts t n e bs h k = record { is = λ us u g w. ap (script_form us) (begins_at t.scripts.items u.scripts.items n e w.scripts h) ∙ ap (forms.Script e.number) (k us g); source = refl; inner = refl; turns = λ l. absurd cc; place = tt }
 
-pub for_known : (ts : List (List ℕ)) (t : NodeTable) (n : ℕ) (e : ForEntry) (bs : List Binding) → slice_get t.fors.items n ≡ Some e → AreBindings ts e.names bs → HasForm ts t ops.EnterFor n (forms.EnterFor e.node e.constant bs)
+pub for_known : (ts : List (List ℕ)) (t : NodeTable) (n : ℕ) (e : ForEntry) (bs : List Binding)
+    → slice_get t.fors.items n ≡ Some e
+    → AreBindings ts e.names bs
+    → HasForm ts t ops.EnterFor n (forms.EnterFor e.node e.constant bs)
 unfolding form_of
 for_known ts t n e bs h k = record { is = λ us u g w. ap (for_form us) (begins_at t.fors.items u.fors.items n e w.fors h) ∙ ap (forms.EnterFor e.node e.constant) (k us g); source = refl; inner = refl; turns = λ l. absurd cc; place = tt }
 
-pub for_of_known : (ts : List (List ℕ)) (t : NodeTable) (n : ℕ) (e : ForOfEntry) (b : Binding) → slice_get t.for_ofs.items n ≡ Some e → IsBinding ts e.slot b → HasForm ts t ops.EnterForOf n (forms.EnterForOf e.node b)
+pub for_of_known : (ts : List (List ℕ)) (t : NodeTable) (n : ℕ) (e : ForOfEntry) (b : Binding)
+    → slice_get t.for_ofs.items n ≡ Some e
+    → IsBinding ts e.slot b
+    → HasForm ts t ops.EnterForOf n (forms.EnterForOf e.node b)
 unfolding form_of
 for_of_known ts t n e b h k = record { is = λ us u g w. ap (for_of_form us) (begins_at t.for_ofs.items u.for_ofs.items n e w.for_ofs h) ∙ ap (forms.EnterForOf e.node) (k us g); source = refl; inner = refl; turns = λ l. absurd cc; place = tt }
 
-pub block_known : (ts : List (List ℕ)) (t : NodeTable) (n : ℕ) (ss : List Slot) (bs : List Binding) → slice_get t.blocks.items n ≡ Some ss → AreBindings ts ss bs → HasForm ts t ops.Block n (forms.Block bs)
+pub block_known : (ts : List (List ℕ)) (t : NodeTable) (n : ℕ) (ss : List Slot) (bs : List Binding)
+    → slice_get t.blocks.items n ≡ Some ss
+    → AreBindings ts ss bs
+    → HasForm ts t ops.Block n (forms.Block bs)
 unfolding form_of
 block_known ts t n ss bs h k = record { is = λ us u g w. ap (block_form us) (begins_at t.blocks.items u.blocks.items n ss w.blocks h) ∙ ap forms.Block (k us g); source = refl; inner = refl; turns = λ l. absurd cc; place = tt }
 
-pub function_known : (ts : List (List ℕ)) (t : NodeTable) (n : ℕ) (e : FunctionEntry) (f : FunctionForm) → slice_get t.functions.items n ≡ Some e → IsFunction ts e f → e.at ≡ length t.nodes.items → HasForm ts t ops.Function n (forms.Function f)
+pub function_known : (ts : List (List ℕ)) (t : NodeTable) (n : ℕ) (e : FunctionEntry) (f : FunctionForm)
+    → slice_get t.functions.items n ≡ Some e
+    → IsFunction ts e f
+    → e.at ≡ length t.nodes.items
+    → HasForm ts t ops.Function n (forms.Function f)
 unfolding form_of
 function_known ts t n e f h k a = record { is = λ us u g w. ap (function_form us) (begins_at t.functions.items u.functions.items n e w.functions h) ∙ ap forms.Function (k us g); source = refl; inner = refl; turns = λ l. absurd cc; place = subst (IsEntryAt (length t.nodes.items)) (sym h) a }
 
-pub method_known : (ts : List (List ℕ)) (t : NodeTable) (n : ℕ) (e : FunctionEntry) (f : FunctionForm) → slice_get t.functions.items n ≡ Some e → IsFunction ts e f → e.at ≡ length t.nodes.items → HasForm ts t ops.Method n (forms.Method f)
+pub method_known : (ts : List (List ℕ)) (t : NodeTable) (n : ℕ) (e : FunctionEntry) (f : FunctionForm)
+    → slice_get t.functions.items n ≡ Some e
+    → IsFunction ts e f
+    → e.at ≡ length t.nodes.items
+    → HasForm ts t ops.Method n (forms.Method f)
 unfolding form_of
 method_known ts t n e f h k a = record { is = λ us u g w. ap (method_form us) (begins_at t.functions.items u.functions.items n e w.functions h) ∙ ap forms.Method (k us g); source = refl; inner = refl; turns = λ l. absurd cc; place = subst (IsEntryAt (length t.nodes.items)) (sym h) a }
 
-get_map : {X Y : Type 0} (f : X → Y) (xs : List X) (i : ℕ) (x : X) → slice_get xs i ≡ Some x → slice_get (map f xs) i ≡ Some (f x)
+get_map : {X Y : Type 0} (f : X → Y) (xs : List X) (i : ℕ) (x : X)
+    → slice_get xs i ≡ Some x
+    → slice_get (map f xs) i ≡ Some (f x)
 get_map f [] i x e = absurd cc
 get_map f (y ∷ xs) zero x e = let h : y ≡ x = cc in ap (λ z. Some (f z)) h
 get_map f (y ∷ xs) (suc i) x e = get_map f xs i x e
 
-pub object_known : (ts : List (List ℕ)) (t : NodeTable) (n : ℕ) (es : Vec MemberEntry) (ms : List Member) → slice_get t.objects.items n ≡ Some es → AreMembers ts es.items ms → HasForm ts t ops.Object n (forms.Object ms)
+pub object_known : (ts : List (List ℕ)) (t : NodeTable) (n : ℕ) (es : Vec MemberEntry) (ms : List Member)
+    → slice_get t.objects.items n ≡ Some es
+    → AreMembers ts es.items ms
+    → HasForm ts t ops.Object n (forms.Object ms)
 unfolding form_of
 object_known ts t n es ms h k = record { is = λ us u g w. ap (object_form us) (get_map (λ (v : Vec MemberEntry). v.items) u.objects.items n es (begins_at t.objects.items u.objects.items n es w.objects h)) ∙ ap forms.Object (k us g); source = refl; inner = refl; turns = λ l. absurd cc; place = tt }
 
-pub call_known : (ts : List (List ℕ)) (t : NodeTable) (n : ℕ) (e : CallEntry) → slice_get t.calls.items n ≡ Some e → HasForm ts t ops.Call n (forms.Call e.place e.statement)
+pub call_known : (ts : List (List ℕ)) (t : NodeTable) (n : ℕ) (e : CallEntry)
+    → slice_get t.calls.items n ≡ Some e
+    → HasForm ts t ops.Call n (forms.Call e.place e.statement)
 unfolding form_of
 call_known ts t n e h = record { is = λ us u g w. ap call_form (begins_at t.calls.items u.calls.items n e w.calls h); source = refl; inner = refl; turns = λ l. absurd cc; place = tt }
 
-pub name_call_known : (ts : List (List ℕ)) (t : NodeTable) (n : ℕ) (e : CallEntry) (name : List ℕ) → slice_get t.calls.items n ≡ Some e → Known ts e.name.number name → HasForm ts t ops.CallOfName n (forms.CallOf (references.Name name) e.place e.statement)
+pub name_call_known : (ts : List (List ℕ)) (t : NodeTable) (n : ℕ) (e : CallEntry) (name : List ℕ)
+    → slice_get t.calls.items n ≡ Some e
+    → Known ts e.name.number name
+    → HasForm ts t ops.CallOfName n (forms.CallOf (references.Name name) e.place e.statement)
 unfolding form_of
 name_call_known ts t n e name h k = record { is = λ us u g w. ap (name_call_form us) (begins_at t.calls.items u.calls.items n e w.calls h) ∙ ap (λ s. forms.CallOf (references.Name s) e.place e.statement) (k us g); source = refl; inner = refl; turns = λ l. absurd cc; place = tt }
 
-pub member_call_known : (ts : List (List ℕ)) (t : NodeTable) (n : ℕ) (e : CallEntry) (name : List ℕ) → slice_get t.calls.items n ≡ Some e → Known ts e.name.number name → HasForm ts t ops.CallOfMember n (forms.CallOf (references.Member name) e.place e.statement)
+pub member_call_known : (ts : List (List ℕ)) (t : NodeTable) (n : ℕ) (e : CallEntry) (name : List ℕ)
+    → slice_get t.calls.items n ≡ Some e
+    → Known ts e.name.number name
+    → HasForm ts t ops.CallOfMember n (forms.CallOf (references.Member name) e.place e.statement)
 unfolding form_of
 member_call_known ts t n e name h k = record { is = λ us u g w. ap (member_call_form us) (begins_at t.calls.items u.calls.items n e w.calls h) ∙ ap (λ s. forms.CallOf (references.Member s) e.place e.statement) (k us g); source = refl; inner = refl; turns = λ l. absurd cc; place = tt }
 
-pub index_call_known : (ts : List (List ℕ)) (t : NodeTable) (n : ℕ) (e : CallEntry) → slice_get t.calls.items n ≡ Some e → HasForm ts t ops.CallOfIndex n (forms.CallOf references.Index e.place e.statement)
+pub index_call_known : (ts : List (List ℕ)) (t : NodeTable) (n : ℕ) (e : CallEntry)
+    → slice_get t.calls.items n ≡ Some e
+    → HasForm ts t ops.CallOfIndex n (forms.CallOf references.Index e.place e.statement)
 unfolding form_of
 index_call_known ts t n e h = record { is = λ us u g w. ap index_call_form (begins_at t.calls.items u.calls.items n e w.calls h); source = refl; inner = refl; turns = λ l. absurd cc; place = tt }
 
 -- ---- equal forms
 
-pub same_form : (ts : List (List ℕ)) (r : Result Entry AllocError) (f g : Form) → g ≡ f → IfOk r (λ e. (t : NodeTable) → HasForm ts t e.op e.info f) → IfOk r (λ e. (t : NodeTable) → HasForm ts t e.op e.info g)
+pub same_form : (ts : List (List ℕ)) (r : Result Entry AllocError) (f g : Form)
+    → g ≡ f
+    → IfOk r (λ e. (t : NodeTable) → HasForm ts t e.op e.info f)
+    → IfOk r (λ e. (t : NodeTable) → HasForm ts t e.op e.info g)
 same_form ts (Ok e) f g h k = subst (λ (x : Form). (t : NodeTable) → HasForm ts t e.op e.info x) (sym h) k
 same_form ts (Err e) f g h k = tt
 
-pub same_entry : (ts : List (List ℕ)) (t : NodeTable) (op : Op) (info : ℕ) (f g : Form) → g ≡ f → HasForm ts t op info f → HasForm ts t op info g
+pub same_entry : (ts : List (List ℕ)) (t : NodeTable) (op : Op) (info : ℕ) (f g : Form)
+    → g ≡ f
+    → HasForm ts t op info f
+    → HasForm ts t op info g
 same_entry ts t op info f g h k = subst (λ (x : Form). HasForm ts t op info x) (sym h) k
 
-pub same_call : (ts : List (List ℕ)) (t : NodeTable) (r : Result Entry AllocError) (f g : Form) → g ≡ f → IfOk r (λ e. (us : List (List ℕ)) → HasForm us t e.op e.info f) → IfOk r (λ e. HasForm ts t e.op e.info g)
+pub same_call : (ts : List (List ℕ)) (t : NodeTable) (r : Result Entry AllocError) (f g : Form)
+    → g ≡ f
+    → IfOk r (λ e. (us : List (List ℕ)) → HasForm us t e.op e.info f)
+    → IfOk r (λ e. HasForm ts t e.op e.info g)
 same_call ts t (Ok e) f g h k = subst (λ (x : Form). HasForm ts t e.op e.info x) (sym h) (k ts)
 same_call ts t (Err e) f g h k = tt
 
 -- ---- forms that need neither names nor an entry
 
-loop_enters : (ts : List (List ℕ)) (t : NodeTable) (stage : Stage) (scope : Option Addr) → Enters ts t (forms.Loop stage scope) (loop_entry stage scope)
+loop_enters : (ts : List (List ℕ)) (t : NodeTable) (stage : Stage) (scope : Option Addr)
+    → Enters ts t (forms.Loop stage scope) (loop_entry stage scope)
 loop_enters ts t stage (Some a) = refl
 loop_enters ts t stages.First None = has_bare ts t ops.LoopFirst refl
 loop_enters ts t stages.Doing None = has_bare ts t ops.LoopDoing refl
@@ -313,7 +370,9 @@ loop_enters ts t stages.Testing None = has_bare ts t ops.LoopTesting refl
 loop_enters ts t stages.Body None = has_bare ts t ops.LoopBody refl
 loop_enters ts t stages.Updating None = has_bare ts t ops.LoopUpdating refl
 
-pub alone_enters : (ts : List (List ℕ)) (t : NodeTable) (f : Form) → needs_names f ≡ false → Enters ts t f (alone_entry f)
+pub alone_enters : (ts : List (List ℕ)) (t : NodeTable) (f : Form)
+    → needs_names f ≡ false
+    → Enters ts t f (alone_entry f)
 alone_enters ts t (forms.Script a b) e = absurd cc
 alone_enters ts t (forms.EnterFor a b c) e = absurd cc
 alone_enters ts t (forms.EnterForOf a b) e = absurd cc
@@ -351,11 +410,32 @@ alone_enters ts t (forms.Throw n) e = has_placed ts t ops.Throw n refl
 alone_enters ts t (forms.Loop stage scope) e = loop_enters ts t stage scope
 alone_enters ts t _ e = refl
 
-pub answer_enters : (ts : List (List ℕ)) (t : NodeTable) (f : Form) (o : Option Entry) → o ≡ alone_entry f → needs_names f ≡ false → Enters ts t f o
+pub answer_enters : (ts : List (List ℕ)) (t : NodeTable) (f : Form) (o : Option Entry)
+    → o ≡ alone_entry f
+    → needs_names f ≡ false
+    → Enters ts t f o
 answer_enters ts t f o e h = subst (λ (x : Option Entry). Enters ts t f x) (sym e) (alone_enters ts t f h)
 
 -- a form that is none of those
-pub needs_nothing : (f : Form) → ((x : ℕ) (y : List Binding) → f ≡ forms.Script x y → ⊥) → ((x : ℕ) (y : Bool) (z : List Binding) → f ≡ forms.EnterFor x y z → ⊥) → ((x : ℕ) (y : Binding) → f ≡ forms.EnterForOf x y → ⊥) → ((x : List Binding) → f ≡ forms.Block x → ⊥) → ((x : List ℕ) → f ≡ forms.Initialize x → ⊥) → ((x : Option (List ℕ)) → f ≡ forms.Catching x → ⊥) → ((x : Reference) → f ≡ forms.Read x → ⊥) → ((x : List ℕ) → f ≡ forms.TypeofName x → ⊥) → ((x : FunctionForm) → f ≡ forms.Function x → ⊥) → ((x : List Member) → f ≡ forms.Object x → ⊥) → ((x : FunctionForm) → f ≡ forms.Method x → ⊥) → ((x : Reference) → f ≡ forms.Assign x → ⊥) → ((x : BinaryOperator) (y : Reference) → f ≡ forms.Compound x y → ⊥) → ((x : UpdateOperator) (y : Bool) (z : Reference) → f ≡ forms.Update x y z → ⊥) → ((x : Reference) → f ≡ forms.Delete x → ⊥) → ((x : Mark) (y : ℕ) → f ≡ forms.Call x y → ⊥) → ((x : Reference) (y : Mark) (z : ℕ) → f ≡ forms.CallOf x y z → ⊥) → needs_names f ≡ false
+pub needs_nothing : (f : Form)
+    → ((x : ℕ) (y : List Binding) → f ≡ forms.Script x y → ⊥)
+    → ((x : ℕ) (y : Bool) (z : List Binding) → f ≡ forms.EnterFor x y z → ⊥)
+    → ((x : ℕ) (y : Binding) → f ≡ forms.EnterForOf x y → ⊥)
+    → ((x : List Binding) → f ≡ forms.Block x → ⊥)
+    → ((x : List ℕ) → f ≡ forms.Initialize x → ⊥)
+    → ((x : Option (List ℕ)) → f ≡ forms.Catching x → ⊥)
+    → ((x : Reference) → f ≡ forms.Read x → ⊥)
+    → ((x : List ℕ) → f ≡ forms.TypeofName x → ⊥)
+    → ((x : FunctionForm) → f ≡ forms.Function x → ⊥)
+    → ((x : List Member) → f ≡ forms.Object x → ⊥)
+    → ((x : FunctionForm) → f ≡ forms.Method x → ⊥)
+    → ((x : Reference) → f ≡ forms.Assign x → ⊥)
+    → ((x : BinaryOperator) (y : Reference) → f ≡ forms.Compound x y → ⊥)
+    → ((x : UpdateOperator) (y : Bool) (z : Reference) → f ≡ forms.Update x y z → ⊥)
+    → ((x : Reference) → f ≡ forms.Delete x → ⊥)
+    → ((x : Mark) (y : ℕ) → f ≡ forms.Call x y → ⊥)
+    → ((x : Reference) (y : Mark) (z : ℕ) → f ≡ forms.CallOf x y z → ⊥)
+    → needs_names f ≡ false
 needs_nothing (forms.Script x y) h0 h1 h2 h3 h4 h5 h6 h7 h8 h9 h10 h11 h12 h13 h14 h15 h16 = absurd (h0 x y refl)
 needs_nothing (forms.EnterFor x y z) h0 h1 h2 h3 h4 h5 h6 h7 h8 h9 h10 h11 h12 h13 h14 h15 h16 = absurd (h1 x y z refl)
 needs_nothing (forms.EnterForOf x y) h0 h1 h2 h3 h4 h5 h6 h7 h8 h9 h10 h11 h12 h13 h14 h15 h16 = absurd (h2 x y refl)

@@ -52,13 +52,23 @@ past (y ∷ xs) x zero h = absurd (omega arith)
 past (y ∷ xs) x (suc i) h = past xs x i (omega arith)
 
 -- what was added stands at the old length
-pub added_at : {X : Type 0} (xs ys : List X) (x : X) (n : ℕ) → ys ≡ xs ++ x ∷ [] → n ≡ length xs → slice_get ys n ≡ Some x
+pub added_at : {X : Type 0} (xs ys : List X) (x : X) (n : ℕ)
+    → ys ≡ xs ++ x ∷ []
+    → n ≡ length xs
+    → slice_get ys n ≡ Some x
 added_at xs ys x n e h = ap (slice_get ys) h ∙ ap (λ zs. slice_get zs (length xs)) e ∙ last_of xs x
 
-pub begins_at : {X : Type 0} (xs ys : List X) (i : ℕ) (x : X) → Begins xs ys → slice_get xs i ≡ Some x → slice_get ys i ≡ Some x
+pub begins_at : {X : Type 0} (xs ys : List X) (i : ℕ) (x : X)
+    → Begins xs ys
+    → slice_get xs i ≡ Some x
+    → slice_get ys i ≡ Some x
 begins_at xs ys i x b e = ap (λ zs. slice_get zs i) b.is ∙ front xs b.rest i (slice_get_within xs i x e) ∙ e
 
-begins_between : (xs ys : List ℕ) (from to : ℕ) → Begins xs ys → from ≤ to → to ≤ length xs → take (to - from) (drop from ys) ≡ take (to - from) (drop from xs)
+begins_between : (xs ys : List ℕ) (from to : ℕ)
+    → Begins xs ys
+    → from ≤ to
+    → to ≤ length xs
+    → take (to - from) (drop from ys) ≡ take (to - from) (drop from xs)
 begins_between xs ys from to b h k =
     ap (λ zs. take (to - from) (drop from zs)) b.is ∙ ap (λ zs. take (to - from) zs) (drop-append-le from xs b.rest (omega arith))
     ∙ take-append-le (to - from) (drop from xs) b.rest (omega (arith, length-drop from xs))
@@ -109,7 +119,10 @@ pub grows_then : (ts us : List (List ℕ)) (t u : NodeTable) → GoesOn ts us �
 grows_then ts us t u g k = record { names = g; table = k }
 
 -- a table with more entries and the same nodes
-node_kept : (t u : NodeTable) (n : ℕ) (o : Option Node) → Begins t.kids.items u.kids.items → IsNodeAt t n o → IsNodeAt u n o
+node_kept : (t u : NodeTable) (n : ℕ) (o : Option Node)
+    → Begins t.kids.items u.kids.items
+    → IsNodeAt t n o
+    → IsNodeAt u n o
 node_kept t u n None b i = tt
 node_kept t u n (Some node) b i = record {
   before = subst (EachBelow n) (sym (begins_between t.kids.items u.kids.items node.first node.end b (omega (arith, i.now, i.later)) i.within)) i.before;
@@ -126,25 +139,41 @@ same_nodes t u e k i =
       nodes = λ n. subst (λ (o : Option Node). IsNodeAt u n o) (ap (λ v. slice_get v.items n) (sym e)) (node_kept t u n (slice_get t.nodes.items n) b (i.nodes n));
     }
 
-entry_kept : (xs ys : List FunctionEntry) (i n : ℕ) (o : Option FunctionEntry) → slice_get xs i ≡ o → Begins xs ys → IsEntryAt n o → IsEntryAt n (slice_get ys i)
+entry_kept : (xs ys : List FunctionEntry) (i n : ℕ) (o : Option FunctionEntry)
+    → slice_get xs i ≡ o
+    → Begins xs ys
+    → IsEntryAt n o
+    → IsEntryAt n (slice_get ys i)
 entry_kept xs ys i n None e b h = absurd h
 entry_kept xs ys i n (Some x) e b h = subst (IsEntryAt n) (sym (begins_at xs ys i x b e)) h
 
-placed_kept : (t u : NodeTable) (op : Op) (info n : ℕ) → Begins t.functions.items u.functions.items → IsPlacedAt t op info n → IsPlacedAt u op info n
+placed_kept : (t u : NodeTable) (op : Op) (info n : ℕ)
+    → Begins t.functions.items u.functions.items
+    → IsPlacedAt t op info n
+    → IsPlacedAt u op info n
 placed_kept t u ops.Function info n b h = entry_kept t.functions.items u.functions.items info n (slice_get t.functions.items info) refl b h
 placed_kept t u ops.Method info n b h = entry_kept t.functions.items u.functions.items info n (slice_get t.functions.items info) refl b h
 placed_kept t u _ info n b h = tt
 
-node_placed : (t u : NodeTable) (n : ℕ) (o : Option Node) → Begins t.functions.items u.functions.items → IsPlacedNode t n o → IsPlacedNode u n o
+node_placed : (t u : NodeTable) (n : ℕ) (o : Option Node)
+    → Begins t.functions.items u.functions.items
+    → IsPlacedNode t n o
+    → IsPlacedNode u n o
 node_placed t u n None b h = tt
 node_placed t u n (Some node) b h = placed_kept t u node.op node.info n b h
 
-pub same_places : (t u : NodeTable) → u.nodes ≡ t.nodes → Begins t.functions.items u.functions.items → HasPlaces t → HasPlaces u
+pub same_places : (t u : NodeTable)
+    → u.nodes ≡ t.nodes
+    → Begins t.functions.items u.functions.items
+    → HasPlaces t
+    → HasPlaces u
 same_places t u e b h = record { nodes = λ n. subst (λ (o : Option Node). IsPlacedNode u n o) (ap (λ v. slice_get v.items n) (sym e)) (node_placed t u n (slice_get t.nodes.items n) b (h.nodes n)) }
 
 -- ---- one more node
 
-pub node_extends : (t u : NodeTable) (op : Op) (info n : ℕ) (now later : List ℕ) → IsNodeAdded t u op info now later n → Extends t u
+pub node_extends : (t u : NodeTable) (op : Op) (info n : ℕ) (now later : List ℕ)
+    → IsNodeAdded t u op info now later n
+    → Extends t u
 node_extends t u op info n now later a = record {
   nodes = begins_more t.nodes.items u.nodes.items (node_behind t.kids.items op info now later ∷ []) a.nodes;
   kids = begins_more t.kids.items u.kids.items (now ++ later) (a.kids ∙ append_assoc t.kids.items now later);
@@ -163,14 +192,22 @@ take_whole [] = refl
 take_whole (x ∷ xs) = ap (λ ys. x ∷ ys) (take_whole xs)
 
 -- the parts of the node that was added
-now_behind : (ks now later kids : List ℕ) (from mid : ℕ) → kids ≡ (ks ++ now) ++ later → from ≡ length ks → mid ≡ length ks + length now → take (mid - from) (drop from kids) ≡ now
+now_behind : (ks now later kids : List ℕ) (from mid : ℕ)
+    → kids ≡ (ks ++ now) ++ later
+    → from ≡ length ks
+    → mid ≡ length ks + length now
+    → take (mid - from) (drop from kids) ≡ now
 now_behind ks now later kids from mid e f m =
     let n : mid - from ≡ length now = omega arith in
     ap (λ k. take k (drop from kids)) n ∙ ap (λ k. take (length now) (drop k kids)) f
     ∙ ap (λ zs. take (length now) (drop (length ks) zs)) (e ∙ append_assoc ks now later)
     ∙ ap (λ zs. take (length now) zs) (drop-append_seam ks (now ++ later)) ∙ take-append_seam now later
 
-later_behind : (ks now later kids : List ℕ) (mid until : ℕ) → kids ≡ (ks ++ now) ++ later → mid ≡ length ks + length now → until ≡ length ks + length now + length later → take (until - mid) (drop mid kids) ≡ later
+later_behind : (ks now later kids : List ℕ) (mid until : ℕ)
+    → kids ≡ (ks ++ now) ++ later
+    → mid ≡ length ks + length now
+    → until ≡ length ks + length now + length later
+    → take (until - mid) (drop mid kids) ≡ later
 later_behind ks now later kids mid until e f m =
     let n : until - mid ≡ length later = omega arith in
     let k : mid ≡ length (ks ++ now) = omega (arith, length-append ks now) in
@@ -178,7 +215,11 @@ later_behind ks now later kids mid until e f m =
     ∙ ap (λ zs. take (length later) (drop (length (ks ++ now)) zs)) e
     ∙ ap (λ zs. take (length later) zs) (drop-append_seam (ks ++ now) later) ∙ take_whole later
 
-all_behind : (ks now later kids : List ℕ) (from until : ℕ) → kids ≡ (ks ++ now) ++ later → from ≡ length ks → until ≡ length ks + length now + length later → take (until - from) (drop from kids) ≡ now ++ later
+all_behind : (ks now later kids : List ℕ) (from until : ℕ)
+    → kids ≡ (ks ++ now) ++ later
+    → from ≡ length ks
+    → until ≡ length ks + length now + length later
+    → take (until - from) (drop from kids) ≡ now ++ later
 all_behind ks now later kids from until e f m =
     let n : until - from ≡ length (now ++ later) = omega (arith, length-append now later) in
     ap (λ k. take k (drop from kids)) n ∙ ap (λ k. take (length (now ++ later)) (drop k kids)) f
@@ -193,10 +234,17 @@ pub below_more : (m n : ℕ) (ks : List ℕ) → m ≤ n → EachBelow m ks → 
 below_more m n [] h b = tt
 below_more m n (k ∷ ks) h b = (omega (arith, b.0), below_more m n ks h b.1)
 
-length_both : (t u : NodeTable) (op : Op) (info n : ℕ) (now later : List ℕ) → IsNodeAdded t u op info now later n → length u.kids.items ≡ length t.kids.items + length now + length later
+length_both : (t u : NodeTable) (op : Op) (info n : ℕ) (now later : List ℕ)
+    → IsNodeAdded t u op info now later n
+    → length u.kids.items ≡ length t.kids.items + length now + length later
 length_both t u op info n now later a = ap length a.kids ∙ length-append (t.kids.items ++ now) later ∙ ap (λ k. k + length later) (length-append t.kids.items now)
 
-node_new : (t u : NodeTable) (op : Op) (info n : ℕ) (now later : List ℕ) → IsNodeAdded t u op info now later n → EachBelow (length t.nodes.items) now → EachBelow (length t.nodes.items) later → is_task_only op ≡ false → (is_loop op ≡ true → info ≡ 0)
+node_new : (t u : NodeTable) (op : Op) (info n : ℕ) (now later : List ℕ)
+    → IsNodeAdded t u op info now later n
+    → EachBelow (length t.nodes.items) now
+    → EachBelow (length t.nodes.items) later
+    → is_task_only op ≡ false
+    → (is_loop op ≡ true → info ≡ 0)
     → IsNode u (length t.nodes.items) (node_behind t.kids.items op info now later)
 node_new t u op info n now later a b c s l = record {
   before = subst (EachBelow (length t.nodes.items)) (sym (all_behind t.kids.items now later u.kids.items (length t.kids.items) (length t.kids.items + length now + length later) a.kids refl refl)) (below_both (length t.nodes.items) now later b c);
@@ -213,7 +261,14 @@ cases zero (suc n) = inl (omega arith)
 cases (suc i) zero = inr (inr (omega arith))
 cases (suc i) (suc n) = elim (cases i n) [ inl h ↦ inl (omega arith) | inr (inl e) ↦ inr (inl (ap suc e)) | inr (inr h) ↦ inr (inr (omega arith)) ]
 
-nodes_more : (t u : NodeTable) (node : Node) → IsTable t → Begins t.kids.items u.kids.items → u.nodes.items ≡ t.nodes.items ++ node ∷ [] → IsNode u (length t.nodes.items) node → (k : ℕ) → (k < length t.nodes.items) ⊎ ((k ≡ length t.nodes.items) ⊎ (length t.nodes.items < k)) → IsNodeAt u k (slice_get u.nodes.items k)
+nodes_more : (t u : NodeTable) (node : Node)
+    → IsTable t
+    → Begins t.kids.items u.kids.items
+    → u.nodes.items ≡ t.nodes.items ++ node ∷ []
+    → IsNode u (length t.nodes.items) node
+    → (k : ℕ)
+    → (k < length t.nodes.items) ⊎ ((k ≡ length t.nodes.items) ⊎ (length t.nodes.items < k))
+    → IsNodeAt u k (slice_get u.nodes.items k)
 nodes_more t u node i b e new k (inl h) =
     subst (λ (o : Option Node). IsNodeAt u k o) (sym (ap (λ ns. slice_get ns k) e ∙ front t.nodes.items (node ∷ []) k h)) (node_kept t u k (slice_get t.nodes.items k) b (i.nodes k))
 nodes_more t u node i b e new k (inr (inl h)) =
@@ -222,7 +277,14 @@ nodes_more t u node i b e new k (inr (inl h)) =
 nodes_more t u node i b e new k (inr (inr h)) =
     subst (λ (o : Option Node). IsNodeAt u k o) (sym (ap (λ ns. slice_get ns k) e ∙ past t.nodes.items node k h)) tt
 
-places_more : (t u : NodeTable) (node : Node) → HasPlaces t → Begins t.functions.items u.functions.items → u.nodes.items ≡ t.nodes.items ++ node ∷ [] → IsPlacedAt t node.op node.info (length t.nodes.items) → (k : ℕ) → (k < length t.nodes.items) ⊎ ((k ≡ length t.nodes.items) ⊎ (length t.nodes.items < k)) → IsPlacedNode u k (slice_get u.nodes.items k)
+places_more : (t u : NodeTable) (node : Node)
+    → HasPlaces t
+    → Begins t.functions.items u.functions.items
+    → u.nodes.items ≡ t.nodes.items ++ node ∷ []
+    → IsPlacedAt t node.op node.info (length t.nodes.items)
+    → (k : ℕ)
+    → (k < length t.nodes.items) ⊎ ((k ≡ length t.nodes.items) ⊎ (length t.nodes.items < k))
+    → IsPlacedNode u k (slice_get u.nodes.items k)
 places_more t u node h b e p k (inl l) =
     subst (λ (o : Option Node). IsPlacedNode u k o) (sym (ap (λ ns. slice_get ns k) e ∙ front t.nodes.items (node ∷ []) k l)) (node_placed t u k (slice_get t.nodes.items k) b (h.nodes k))
 places_more t u node h b e p k (inr (inl l)) =
@@ -231,7 +293,14 @@ places_more t u node h b e p k (inr (inl l)) =
 places_more t u node h b e p k (inr (inr l)) =
     subst (λ (o : Option Node). IsPlacedNode u k o) (sym (ap (λ ns. slice_get ns k) e ∙ past t.nodes.items node k l)) tt
 
-pub node_keeps : (t u : NodeTable) (op : Op) (info n : ℕ) (now later : List ℕ) → IsNodeAdded t u op info now later n → EachBelow (length t.nodes.items) now → EachBelow (length t.nodes.items) later → is_task_only op ≡ false → (is_loop op ≡ true → info ≡ 0) → IsPlacedAt t op info (length t.nodes.items) → Keeps t u
+pub node_keeps : (t u : NodeTable) (op : Op) (info n : ℕ) (now later : List ℕ)
+    → IsNodeAdded t u op info now later n
+    → EachBelow (length t.nodes.items) now
+    → EachBelow (length t.nodes.items) later
+    → is_task_only op ≡ false
+    → (is_loop op ≡ true → info ≡ 0)
+    → IsPlacedAt t op info (length t.nodes.items)
+    → Keeps t u
 node_keeps t u op info n now later a b c s l p =
     let g = node_extends t u op info n now later a in record {
       entries = g;
@@ -240,24 +309,44 @@ node_keeps t u op info n now later a b c s l p =
       sources = a.sources;
     }
 
-node_below : (t u : NodeTable) (op : Op) (info n : ℕ) (now later : List ℕ) → IsNodeAdded t u op info now later n → n < length u.nodes.items
+node_below : (t u : NodeTable) (op : Op) (info n : ℕ) (now later : List ℕ)
+    → IsNodeAdded t u op info now later n
+    → n < length u.nodes.items
 node_below t u op info n now later a = omega (arith, a.number, ap length a.nodes, length-append t.nodes.items (node_behind t.kids.items op info now later ∷ []))
 
-node_later : (t u v : NodeTable) (op : Op) (info n : ℕ) (now later : List ℕ) → IsNodeAdded t u op info now later n → Extends u v → slice_get v.nodes.items n ≡ Some (node_behind t.kids.items op info now later)
+node_later : (t u v : NodeTable) (op : Op) (info n : ℕ) (now later : List ℕ)
+    → IsNodeAdded t u op info now later n
+    → Extends u v
+    → slice_get v.nodes.items n ≡ Some (node_behind t.kids.items op info now later)
 node_later t u v op info n now later a g = begins_at u.nodes.items v.nodes.items n (node_behind t.kids.items op info now later) g.nodes (added_at t.nodes.items u.nodes.items (node_behind t.kids.items op info now later) n a.nodes a.number)
 
-now_later : (t u v : NodeTable) (op : Op) (info n : ℕ) (now later : List ℕ) → IsNodeAdded t u op info now later n → Extends u v → kids_between v (length t.kids.items) (length t.kids.items + length now) ≡ now
+now_later : (t u v : NodeTable) (op : Op) (info n : ℕ) (now later : List ℕ)
+    → IsNodeAdded t u op info now later n
+    → Extends u v
+    → kids_between v (length t.kids.items) (length t.kids.items + length now) ≡ now
 now_later t u v op info n now later a g =
     begins_between u.kids.items v.kids.items (length t.kids.items) (length t.kids.items + length now) g.kids (omega arith) (omega (arith, length_both t u op info n now later a))
     ∙ now_behind t.kids.items now later u.kids.items (length t.kids.items) (length t.kids.items + length now) a.kids refl refl
 
-later_later : (t u v : NodeTable) (op : Op) (info n : ℕ) (now later : List ℕ) → IsNodeAdded t u op info now later n → Extends u v → kids_between v (length t.kids.items + length now) (length t.kids.items + length now + length later) ≡ later
+later_later : (t u v : NodeTable) (op : Op) (info n : ℕ) (now later : List ℕ)
+    → IsNodeAdded t u op info now later n
+    → Extends u v
+    → kids_between v (length t.kids.items + length now) (length t.kids.items + length now + length later) ≡ later
 later_later t u v op info n now later a g =
     begins_between u.kids.items v.kids.items (length t.kids.items + length now) (length t.kids.items + length now + length later) g.kids (omega arith) (omega (arith, length_both t u op info n now later a))
     ∙ later_behind t.kids.items now later u.kids.items (length t.kids.items + length now) (length t.kids.items + length now + length later) a.kids refl refl
 
 -- a form over parts
-inner_tree : (ts us : List (List ℕ)) (t u v : NodeTable) (op : Op) (info n : ℕ) (now later : List ℕ) (f : Form) (xs ys : Terms) → IsNodeAdded t u op info now later n → HasForm ts t op info f → HaveTrees ts t now xs → HaveTrees ts t later ys → (fuel : ℕ) → n < fuel → GoesOn ts us → Extends u v → tree_within us v fuel n ≡ part f xs ys
+inner_tree : (ts us : List (List ℕ)) (t u v : NodeTable) (op : Op) (info n : ℕ) (now later : List ℕ) (f : Form) (xs ys : Terms)
+    → IsNodeAdded t u op info now later n
+    → HasForm ts t op info f
+    → HaveTrees ts t now xs
+    → HaveTrees ts t later ys
+    → (fuel : ℕ)
+    → n < fuel
+    → GoesOn ts us
+    → Extends u v
+    → tree_within us v fuel n ≡ part f xs ys
 inner_tree ts us t u v op info n now later f xs ys a h x y zero l g e = absurd (omega arith)
 inner_tree ts us t u v op info n now later f xs ys a h x y (suc fuel) l g e =
     let w = extends_twice t u v (node_extends t u op info n now later a) e in
@@ -272,14 +361,25 @@ inner_tree ts us t u v op info n now later f xs ys a h x y (suc fuel) l g e =
     ∙ ap (λ q. part f q (terms at (kids_between v mid last))) (ap (terms at) (now_later t u v op info n now later a e) ∙ x.are us v fuel k g w)
     ∙ ap (λ q. part f xs q) (ap (terms at) (later_later t u v op info n now later a e) ∙ y.are us v fuel k g w)
 
-pub node_tree : (ts : List (List ℕ)) (t u : NodeTable) (op : Op) (info n : ℕ) (now later : List ℕ) (f : Form) (xs ys : Terms) → IsNodeAdded t u op info now later n → HasForm ts t op info f → HaveTrees ts t now xs → HaveTrees ts t later ys → HasTree ts u n (part f xs ys)
+pub node_tree : (ts : List (List ℕ)) (t u : NodeTable) (op : Op) (info n : ℕ) (now later : List ℕ) (f : Form) (xs ys : Terms)
+    → IsNodeAdded t u op info now later n
+    → HasForm ts t op info f
+    → HaveTrees ts t now xs
+    → HaveTrees ts t later ys
+    → HasTree ts u n (part f xs ys)
 node_tree ts t u op info n now later f xs ys a h x y = record {
   below = node_below t u op info n now later a;
   is = λ us v fuel l g e. inner_tree ts us t u v op info n now later f xs ys a h x y fuel l g e;
 }
 
 -- a value
-literal_tree : (us : List (List ℕ)) (t u v : NodeTable) (info n : ℕ) (now later : List ℕ) (x : Value) → IsNodeAdded t u ops.Literal info now later n → slice_get t.constants.items info ≡ Some x → (fuel : ℕ) → n < fuel → Extends u v → tree_within us v fuel n ≡ done x
+literal_tree : (us : List (List ℕ)) (t u v : NodeTable) (info n : ℕ) (now later : List ℕ) (x : Value)
+    → IsNodeAdded t u ops.Literal info now later n
+    → slice_get t.constants.items info ≡ Some x
+    → (fuel : ℕ)
+    → n < fuel
+    → Extends u v
+    → tree_within us v fuel n ≡ done x
 unfolding constant_at
 literal_tree us t u v info n now later x a c zero l e = absurd (omega arith)
 literal_tree us t u v info n now later x a c (suc fuel) l e =
@@ -287,7 +387,10 @@ literal_tree us t u v info n now later x a c (suc fuel) l e =
     ap (node_term us v (tree_within us v fuel)) (node_later t u v ops.Literal info n now later a e)
     ∙ ap (λ o. done (unwrap_or o values.Undefined)) (begins_at t.constants.items v.constants.items info x w.constants c)
 
-pub literal_node : (ts : List (List ℕ)) (t u : NodeTable) (info n : ℕ) (now later : List ℕ) (x : Value) → IsNodeAdded t u ops.Literal info now later n → slice_get t.constants.items info ≡ Some x → HasTree ts u n (done x)
+pub literal_node : (ts : List (List ℕ)) (t u : NodeTable) (info n : ℕ) (now later : List ℕ) (x : Value)
+    → IsNodeAdded t u ops.Literal info now later n
+    → slice_get t.constants.items info ≡ Some x
+    → HasTree ts u n (done x)
 literal_node ts t u info n now later x a c = record {
   below = node_below t u ops.Literal info n now later a;
   is = λ us v fuel l g e. literal_tree us t u v info n now later x a c fuel l e;
@@ -295,14 +398,21 @@ literal_node ts t u info n now later x a c = record {
 
 -- ---- trees that stay
 
-pub trees_go_on : (ts us : List (List ℕ)) (t u : NodeTable) (ns : List ℕ) (xs : Terms) → GoesOn ts us → Extends t u → HaveTrees ts t ns xs → HaveTrees us u ns xs
+pub trees_go_on : (ts us : List (List ℕ)) (t u : NodeTable) (ns : List ℕ) (xs : Terms)
+    → GoesOn ts us
+    → Extends t u
+    → HaveTrees ts t ns xs
+    → HaveTrees us u ns xs
 trees_go_on ts us t u ns xs g w h =
     let m = begins_length t.nodes.items u.nodes.items w.nodes in record {
       below = below_more (length t.nodes.items) (length u.nodes.items) ns m h.below;
       are = λ vs v fuel l k e. h.are vs v fuel (omega arith) (goes-then ts us vs g k) (extends_twice t u v w e);
     }
 
-pub trees_stay : (ts us : List (List ℕ)) (t u : NodeTable) (ns : List ℕ) (xs : Terms) → Grows ts t us u → HaveTrees ts t ns xs → HaveTrees us u ns xs
+pub trees_stay : (ts us : List (List ℕ)) (t u : NodeTable) (ns : List ℕ) (xs : Terms)
+    → Grows ts t us u
+    → HaveTrees ts t ns xs
+    → HaveTrees us u ns xs
 trees_stay ts us t u ns xs g h = trees_go_on ts us t u ns xs g.names g.table.entries h
 
 pub no_trees : (ts : List (List ℕ)) (t : NodeTable) → HaveTrees ts t [] end
@@ -316,7 +426,11 @@ terms_push : (at : ℕ → Term) (ks : List ℕ) (k : ℕ) → terms at (ks ++ k
 terms_push at [] k = refl
 terms_push at (x ∷ ks) k = ap (more (at x)) (terms_push at ks k)
 
-pub trees_more : (ts : List (List ℕ)) (t : NodeTable) (ns ms : List ℕ) (xs : Terms) (n : ℕ) (x : Term) → HaveTrees ts t ns xs → HasTree ts t n x → ms ≡ ns ++ n ∷ [] → HaveTrees ts t ms (joined xs (one x))
+pub trees_more : (ts : List (List ℕ)) (t : NodeTable) (ns ms : List ℕ) (xs : Terms) (n : ℕ) (x : Term)
+    → HaveTrees ts t ns xs
+    → HasTree ts t n x
+    → ms ≡ ns ++ n ∷ []
+    → HaveTrees ts t ms (joined xs (one x))
 trees_more ts t ns ms xs n x h k e = record {
   below = subst (EachBelow (length t.nodes.items)) (sym e) (below_push (length t.nodes.items) n ns h.below k.below);
   are = λ us u fuel l g w. ap (terms (tree_within us u fuel)) e ∙ terms_push (tree_within us u fuel) ns n

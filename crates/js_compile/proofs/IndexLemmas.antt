@@ -14,7 +14,8 @@ pub first_first : (a b c : Option FunctionCode) → first_code (first_code a b) 
 first_first (Some x) b c = refl
 first_first None b c = refl
 
-pub all_joined : (x : ℕ) (xs ys : Terms) → function_in_all x (joined xs ys) ≡ first_code (function_in_all x xs) (function_in_all x ys)
+pub all_joined : (x : ℕ) (xs ys : Terms)
+    → function_in_all x (joined xs ys) ≡ first_code (function_in_all x xs) (function_in_all x ys)
 all_joined x end ys = refl
 all_joined x (more t xs) ys = ap (first_code (function_in x t)) (all_joined x xs ys) ∙ sym (first_first (function_in x t) (function_in_all x xs) (function_in_all x ys))
 
@@ -41,7 +42,10 @@ drop_both m (suc n) [] = none_of m ∙ sym (none_of (suc n + m))
     none_of (suc k) = refl
 drop_both m (suc n) (x ∷ xs) = let e : suc (n + m) ≡ suc n + m = omega arith in drop_both m n xs ∙ ap (λ k. drop k (x ∷ xs)) e
 
-kids_both : (t : NodeTable) (from mid to : ℕ) → from ≤ mid → mid ≤ to → kids_between t from to ≡ kids_between t from mid ++ kids_between t mid to
+kids_both : (t : NodeTable) (from mid to : ℕ)
+    → from ≤ mid
+    → mid ≤ to
+    → kids_between t from to ≡ kids_between t from mid ++ kids_between t mid to
 kids_both t from mid to h k =
     let a : to - from ≡ (mid - from) + (to - mid) = omega arith in
     let b : from + (mid - from) ≡ mid = omega arith in
@@ -49,7 +53,10 @@ kids_both t from mid to h k =
     ∙ ap (λ xs. take (mid - from) (drop from t.kids.items) ++ take (to - mid) xs) (drop_both (mid - from) from t.kids.items ∙ ap (λ n. drop n t.kids.items) b)
 
 -- what is found in a node: itself, or in its parts from the first to the last
-pub found_in_node : (ts : List (List ℕ)) (t : NodeTable) (n : ℕ) (node : Node) (x : ℕ) → IsTable t → slice_get t.nodes.items n ≡ Some node → is_literal node.op ≡ false
+pub found_in_node : (ts : List (List ℕ)) (t : NodeTable) (n : ℕ) (node : Node) (x : ℕ)
+    → IsTable t
+    → slice_get t.nodes.items n ≡ Some node
+    → is_literal node.op ≡ false
     → function_in x (tree ts t n) ≡ first_code (code_here (form_of ts t node.op node.info) x (trees ts t node.mid node.end)) (function_in_all x (trees ts t node.first node.end))
 found_in_node ts t n node x table e l =
     let i = node-at t n node table e in
@@ -67,8 +74,13 @@ unfolding kid_at
 kid_some t i h = get_kid t.kids.items i h
 
 -- one more part, from the last to the first
-pub found_before : (ts : List (List ℕ)) (t : NodeTable) (n i : ℕ) (node : Node) (x : ℕ) (before now after : Option FunctionCode) → IsTable t → slice_get t.nodes.items n ≡ Some node → i < node.end
-    → now ≡ first_code (function_in_all x (trees ts t (i + 1) node.end)) before → after ≡ first_code (function_in x (tree ts t (kid_at t i))) now → after ≡ first_code (function_in_all x (trees ts t i node.end)) before
+pub found_before : (ts : List (List ℕ)) (t : NodeTable) (n i : ℕ) (node : Node) (x : ℕ) (before now after : Option FunctionCode)
+    → IsTable t
+    → slice_get t.nodes.items n ≡ Some node
+    → i < node.end
+    → now ≡ first_code (function_in_all x (trees ts t (i + 1) node.end)) before
+    → after ≡ first_code (function_in x (tree ts t (kid_at t i))) now
+    → after ≡ first_code (function_in_all x (trees ts t i node.end)) before
 found_before ts t n i node x before now after table e l a b =
     let w = node-at t n node table e in
     b ∙ ap (first_code (function_in x (tree ts t (kid_at t i)))) a
@@ -88,7 +100,12 @@ get_drop [] (suc from) i = refl
 get_drop (k ∷ ks) (suc from) i = let e : suc (from + i) ≡ suc from + i = omega arith in get_drop ks from i ∙ ap (slice_get (k ∷ ks)) e
 
 -- the walk goes down
-pub kid_below : (t : NodeTable) (n i : ℕ) (node : Node) → IsTable t → slice_get t.nodes.items n ≡ Some node → node.first ≤ i → i < node.end → kid_at t i < n
+pub kid_below : (t : NodeTable) (n i : ℕ) (node : Node)
+    → IsTable t
+    → slice_get t.nodes.items n ≡ Some node
+    → node.first ≤ i
+    → i < node.end
+    → kid_at t i < n
 kid_below t n i node table e h l =
     let w = node-at t n node table e in
     let f : node.first + (i - node.first) ≡ i = omega arith in

@@ -10,7 +10,9 @@ eq_suc : (i x : ℕ) (b : Bool) → nat_eq i x ≡ b → b ≡ nat_eq (suc i) (s
 eq_suc i x true e = grind arith
 eq_suc i x false e = grind arith
 
-pub number_set : (xs : List ℕ) (i x n : ℕ) → i < length xs → number_at (slice_set xs i n) x ≡ (if nat_eq i x then n else number_at xs x)
+pub number_set : (xs : List ℕ) (i x n : ℕ)
+    → i < length xs
+    → number_at (slice_set xs i n) x ≡ (if nat_eq i x then n else number_at xs x)
 number_set [] i x n h = absurd (omega arith)
 number_set (y ∷ xs) zero zero n h = refl
 number_set (y ∷ xs) zero (suc x) n h = let e : false ≡ nat_eq 0 (suc x) = grind arith in number_if false (nat_eq 0 (suc x)) n (number_at xs x) e

@@ -18,10 +18,18 @@ use Rattle.js_compile.specs.Plain.{is_plain_form, is_plain, are_plain}
 both_true : (b c : Bool) → b ≡ true → c ≡ true → (b && c) ≡ true
 both_true b c h k = ap (λ x. x && c) h ∙ k
 
-part_plain : (f : Form) (now later : Terms) → is_plain_form f ≡ true → are_plain now ≡ true → are_plain later ≡ true → is_plain (part f now later) ≡ true
+part_plain : (f : Form) (now later : Terms)
+    → is_plain_form f ≡ true
+    → are_plain now ≡ true
+    → are_plain later ≡ true
+    → is_plain (part f now later) ≡ true
 part_plain f now later e h k = both_true (is_plain_form f) (are_plain now && are_plain later) e (both_true (are_plain now) (are_plain later) h k)
 
-placed_plain : (at : ℕ → Addr) (n : ℕ) (f : Form) (now later : Terms) → UnstartedForm f → are_plain (all_with_literals at n now) ≡ true → are_plain (all_with_literals at (n + length (literals_of now)) later) ≡ true → is_plain (with_literals at n (part f now later)) ≡ true
+placed_plain : (at : ℕ → Addr) (n : ℕ) (f : Form) (now later : Terms)
+    → UnstartedForm f
+    → are_plain (all_with_literals at n now) ≡ true
+    → are_plain (all_with_literals at (n + length (literals_of now)) later) ≡ true
+    → is_plain (with_literals at n (part f now later)) ≡ true
 placed_plain at n (forms.Scoped a) now later u h k = absurd u
 placed_plain at n (forms.Frame node a) now later u h k = absurd u
 placed_plain at n (forms.ListOf b) now later u h k = absurd u

@@ -24,7 +24,10 @@ use Rattle.js_compile.proofs.GrownLemmas.{extends_same, extends_twice, node_exte
 use Rattle.js_compile.proofs.EntryLemmas.{has_bare}
 use Rattle.js_world.proofs.StartLemmas.{goes-then}
 
-pub continues_twice : (ts us vs : List (List ℕ)) (t u v : NodeTable) → Continues ts t us u → Continues us u vs v → Continues ts t vs v
+pub continues_twice : (ts us vs : List (List ℕ)) (t u v : NodeTable)
+    → Continues ts t us u
+    → Continues us u vs v
+    → Continues ts t vs v
 continues_twice ts us vs t u v g h = record { names = goes-then ts us vs g.names h.names; entries = extends_twice t u v g.entries h.entries; table = λ k. h.table (g.table k); places = λ k. h.places (g.places k) }
 
 -- ---- one more source
@@ -33,11 +36,14 @@ count : semantics.Terms → ℕ
 count semantics.end = 0
 count (semantics.more x xs) = suc (count xs)
 
-sources_push : (us : List (List ℕ)) (v : NodeTable) (es : List SourceEntry) (e : SourceEntry) → source_trees us v (es ++ e ∷ []) ≡ source_trees us v es ++ source_tree us v e ∷ []
+sources_push : (us : List (List ℕ)) (v : NodeTable) (es : List SourceEntry) (e : SourceEntry)
+    → source_trees us v (es ++ e ∷ []) ≡ source_trees us v es ++ source_tree us v e ∷ []
 sources_push us v [] e = refl
 sources_push us v (d ∷ es) e = ap (λ xs. source_tree us v d ∷ xs) (sources_push us v es e)
 
-program_push : (n m : ℕ) (xs : semantics.Terms) (x : semantics.Term) → m ≡ n + count xs → program_from n (semantics.joined xs (semantics.one x)) ≡ program_from n xs ++ record { source = script_source m; tree = x } ∷ []
+program_push : (n m : ℕ) (xs : semantics.Terms) (x : semantics.Term)
+    → m ≡ n + count xs
+    → program_from n (semantics.joined xs (semantics.one x)) ≡ program_from n xs ++ record { source = script_source m; tree = x } ∷ []
 unfolding count
 program_push n m semantics.end x e = let k : n ≡ m = omega arith in ap (λ j. let s : SourceTree = record { source = script_source j; tree = x } in s ∷ []) k
 program_push n m (semantics.more y xs) x e = let k : m ≡ n + 1 + count xs = omega arith in ap (λ ps. let s : SourceTree = record { source = script_source n; tree = y } in s ∷ ps) (program_push (n + 1) m xs x k)
@@ -52,11 +58,24 @@ take_length zero xs h = refl
 take_length (suc i) [] h = absurd (omega arith)
 take_length (suc i) (x ∷ xs) h = ap suc (take_length i xs (omega arith))
 
-tree_of : (ts us : List (List ℕ)) (t u : NodeTable) (n : ℕ) (x : semantics.Term) → HasTree ts t n x → GoesOn ts us → Extends t u → tree us u n ≡ x
+tree_of : (ts us : List (List ℕ)) (t u : NodeTable) (n : ℕ) (x : semantics.Term)
+    → HasTree ts t n x
+    → GoesOn ts us
+    → Extends t u
+    → tree us u n ≡ x
 unfolding tree
 tree_of ts us t u n x h g e = h.is us u (suc n) (omega arith) g e
 
-pub script_step : (ts us : List (List ℕ)) (t u : NodeTable) (items : List Term) (i number root : ℕ) (x : Term) (o : Option ℕ) → IsProgram ts t (program_from 1 (listed_view (take i items))) → Continues ts t us u → o ≡ Some root → Holds us u (term_view x) o → AddsSource t u number o → number ≡ i + 1 → i < length items → x ≡ get_or items i x → IsProgram us u (program_from 1 (listed_view (take (i + 1) items)))
+pub script_step : (ts us : List (List ℕ)) (t u : NodeTable) (items : List Term) (i number root : ℕ) (x : Term) (o : Option ℕ)
+    → IsProgram ts t (program_from 1 (listed_view (take i items)))
+    → Continues ts t us u
+    → o ≡ Some root
+    → Holds us u (term_view x) o
+    → AddsSource t u number o
+    → number ≡ i + 1
+    → i < length items
+    → x ≡ get_or items i x
+    → IsProgram us u (program_from 1 (listed_view (take (i + 1) items)))
 script_step ts us t u items i number root x o p g s k a n l is vs v h w =
     let j : HasTree us u root (term_view x) = (let j' : Holds us u (term_view x) (Some root) = subst (λ (q : Option ℕ). Holds us u (term_view x) q) s k in j') in
     let b : IsSourceAdded t u number root = (let b' : AddsSource t u number (Some root) = subst (λ (q : Option ℕ). AddsSource t u number q) s a in b') in
@@ -80,7 +99,15 @@ empty_places t e = record { nodes = λ n. subst (λ (o : Option Node). IsPlacedN
 
 -- ---- the node over all of them
 
-pub all_nodes : (ts us : List (List ℕ)) (s t u : NodeTable) (root : ℕ) (none : List ℕ) (o : Option (Vec ℕ)) (nodes : Vec ℕ) (xs : semantics.Terms) → IsEmpty s → Continues ts s us t → o ≡ Some nodes → HoldsAll us t xs o → IfSome o (λ v. IsProgram us t (program_from 1 xs)) → none ≡ [] → IsNodeAdded t u ops.Scripts 0 nodes.items none root → HasNodes us xs u root
+pub all_nodes : (ts us : List (List ℕ)) (s t u : NodeTable) (root : ℕ) (none : List ℕ) (o : Option (Vec ℕ)) (nodes : Vec ℕ) (xs : semantics.Terms)
+    → IsEmpty s
+    → Continues ts s us t
+    → o ≡ Some nodes
+    → HoldsAll us t xs o
+    → IfSome o (λ v. IsProgram us t (program_from 1 xs))
+    → none ≡ []
+    → IsNodeAdded t u ops.Scripts 0 nodes.items none root
+    → HasNodes us xs u root
 all_nodes ts us s t u root none o nodes xs e g k h r z a =
     let b : HaveTrees us t nodes.items xs = (let b' : HoldsAll us t xs (Some nodes) = subst (λ (q : Option (Vec ℕ)). HoldsAll us t xs q) k h in b') in
     let c : HaveTrees us t none semantics.end = subst (λ (ns : List ℕ). HaveTrees us t ns semantics.end) (sym z) (no_trees us t) in
@@ -95,9 +122,23 @@ all_nodes ts us s t u root none o nodes xs e g k h r z a =
       tree = λ vs l. tree_of us vs u u root (semantics.part forms.Scripts xs semantics.end) (node_tree us t u ops.Scripts 0 root nodes.items none forms.Scripts xs semantics.end a f b c) l (extends_same u);
     }
 
-pub source_added : (t u v : NodeTable) (e : SourceEntry) (number root : ℕ) → u.sources ≡ t.sources → v.sources.items ≡ u.sources.items ++ e ∷ [] → e.source ≡ script_source number → e.root ≡ root → IsSourceAdded t v number root
+pub source_added : (t u v : NodeTable) (e : SourceEntry) (number root : ℕ)
+    → u.sources ≡ t.sources
+    → v.sources.items ≡ u.sources.items ++ e ∷ []
+    → e.source ≡ script_source number
+    → e.root ≡ root
+    → IsSourceAdded t v number root
 source_added t u v e number root s a b c = record { entry = e; source = b; node = c; sources = a ∙ ap (λ xs. xs.items ++ e ∷ []) s }
 
 -- the same of scripts that are equal
-pub nodes_same : (ts us : List (List ℕ)) (s t u : NodeTable) (root : ℕ) (none : List ℕ) (o : Option (Vec ℕ)) (nodes : Vec ℕ) (xs ys : semantics.Terms) → xs ≡ ys → IsEmpty s → Continues ts s us t → o ≡ Some nodes → HoldsAll us t xs o → IfSome o (λ v. IsProgram us t (program_from 1 xs)) → none ≡ [] → IsNodeAdded t u ops.Scripts 0 nodes.items none root → HasNodes us ys u root
+pub nodes_same : (ts us : List (List ℕ)) (s t u : NodeTable) (root : ℕ) (none : List ℕ) (o : Option (Vec ℕ)) (nodes : Vec ℕ) (xs ys : semantics.Terms)
+    → xs ≡ ys
+    → IsEmpty s
+    → Continues ts s us t
+    → o ≡ Some nodes
+    → HoldsAll us t xs o
+    → IfSome o (λ v. IsProgram us t (program_from 1 xs))
+    → none ≡ []
+    → IsNodeAdded t u ops.Scripts 0 nodes.items none root
+    → HasNodes us ys u root
 nodes_same ts us s t u root none o nodes xs ys q e g k h r z a = subst (λ (zs : semantics.Terms). HasNodes us zs u root) q (all_nodes ts us s t u root none o nodes xs e g k h r z a)

@@ -122,12 +122,20 @@ Enters ts t f (Some e) = HasForm ts t e.op e.info f
 -- a node has a tree, however names and table go on
 pub record HasTree (ts : List (List ℕ)) (t : NodeTable) (n : ℕ) (x : Term) : Type 0 where
   pub below : n < length t.nodes.items
-  pub is : (us : List (List ℕ)) (u : NodeTable) (fuel : ℕ) → n < fuel → GoesOn ts us → Extends t u → tree_within us u fuel n ≡ x
+  pub is : (us : List (List ℕ)) (u : NodeTable) (fuel : ℕ)
+      → n < fuel
+      → GoesOn ts us
+      → Extends t u
+      → tree_within us u fuel n ≡ x
 
 -- nodes have trees, in order
 pub record HaveTrees (ts : List (List ℕ)) (t : NodeTable) (ns : List ℕ) (xs : Terms) : Type 0 where
   pub below : EachBelow (length t.nodes.items) ns
-  pub are : (us : List (List ℕ)) (u : NodeTable) (fuel : ℕ) → length t.nodes.items ≤ fuel → GoesOn ts us → Extends t u → terms (tree_within us u fuel) ns ≡ xs
+  pub are : (us : List (List ℕ)) (u : NodeTable) (fuel : ℕ)
+      → length t.nodes.items ≤ fuel
+      → GoesOn ts us
+      → Extends t u
+      → terms (tree_within us u fuel) ns ≡ xs
 
 -- the answer for a term: a node, or none where no node has such a tree
 abbrev pub Holds : List (List ℕ) → NodeTable → Term → Option ℕ → Type 0

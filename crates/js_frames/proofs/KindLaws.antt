@@ -84,7 +84,8 @@ index_call_entry None = refl
 
 -- ---- the forms of tasks
 
-pub form-kind : (ts : List (List ℕ)) (t : NodeTable) (op : Op) (info : ℕ) (inner : Addr) (e : Option Extra) → kind_of (form_in ts t op info inner e) ≡ op_kind t op info
+pub form-kind : (ts : List (List ℕ)) (t : NodeTable) (op : Op) (info : ℕ) (inner : Addr) (e : Option Extra)
+    → kind_of (form_in ts t op info inner e) ≡ op_kind t op info
 unfolding form_of
 form-kind ts t ops.Script info inner e = script_entry ts (slice_get t.scripts.items info)
 form-kind ts t ops.EnterFor info inner e = for_entry ts (slice_get t.fors.items info)
@@ -123,19 +124,31 @@ catching-kind (catching n) = refl
 catching-kind f = refl
 
 -- a test of kinds that no entry passes
-for_fails : (p : Kind → Bool) (o : Option ForEntry) → p plain ≡ false → ((n : ℕ) → p (entering n) ≡ false) → p (for_kind o) ≡ false
+for_fails : (p : Kind → Bool) (o : Option ForEntry)
+    → p plain ≡ false
+    → ((n : ℕ) → p (entering n) ≡ false)
+    → p (for_kind o) ≡ false
 for_fails p (Some e) h k = k e.node
 for_fails p None h k = h
 
-for_of_fails : (p : Kind → Bool) (o : Option ForOfEntry) → p plain ≡ false → ((n : ℕ) → p (entering n) ≡ false) → p (for_of_kind o) ≡ false
+for_of_fails : (p : Kind → Bool) (o : Option ForOfEntry)
+    → p plain ≡ false
+    → ((n : ℕ) → p (entering n) ≡ false)
+    → p (for_of_kind o) ≡ false
 for_of_fails p (Some e) h k = k e.node
 for_of_fails p None h k = h
 
-call_fails : (p : Kind → Bool) (o : Option CallEntry) → p plain ≡ false → ((m : Mark) (n : ℕ) → p (calling m n) ≡ false) → p (call_kind o) ≡ false
+call_fails : (p : Kind → Bool) (o : Option CallEntry)
+    → p plain ≡ false
+    → ((m : Mark) (n : ℕ) → p (calling m n) ≡ false)
+    → p (call_kind o) ≡ false
 call_fails p (Some c) h k = k c.place c.statement
 call_fails p None h k = h
 
-script_fails : (p : Kind → Bool) (o : Option ScriptEntry) → p plain ≡ false → ((n : ℕ) → p (opening n) ≡ false) → p (script_kind o) ≡ false
+script_fails : (p : Kind → Bool) (o : Option ScriptEntry)
+    → p plain ≡ false
+    → ((n : ℕ) → p (opening n) ≡ false)
+    → p (script_kind o) ≡ false
 script_fails p (Some e) h k = k e.number
 script_fails p None h k = h
 
@@ -164,5 +177,6 @@ debugging-op t op info = refl
 pub task-catches : (ts : List (List ℕ)) (t : NodeTable) (w : Wide) → is_catching (task_form ts t w) ≡ is_catcher w.op
 task-catches ts t w = catching-kind (task_form ts t w) ∙ ap is_guarding (task-kind ts t w) ∙ guarding_op t w.op w.info
 
-pub task-leaves : (ts : List (List ℕ)) (t : NodeTable) (w : Wide) → is_leaving (kind_of (task_form ts t w)) ≡ is_frame w.op
+pub task-leaves : (ts : List (List ℕ)) (t : NodeTable) (w : Wide)
+    → is_leaving (kind_of (task_form ts t w)) ≡ is_frame w.op
 task-leaves ts t w = ap is_leaving (task-kind ts t w) ∙ leaving-op t w.op w.info

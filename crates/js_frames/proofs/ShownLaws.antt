@@ -23,7 +23,10 @@ bottom_kind (reduces f vs) g = bottom_of f vs g
 bottom_kind (stands v place) g = refl
 bottom_kind nothing_left g = refl
 
-pub bottom-shown : (a : Active) (fs : List Frame) (d : ℕ) (f : Frame) → d ≡ length fs - 1 → slice_get fs d ≡ Some f → slice_get (shown_frames a fs) d ≡ Some (at_script (opened_by (active_kind a)) f)
+pub bottom-shown : (a : Active) (fs : List Frame) (d : ℕ) (f : Frame)
+    → d ≡ length fs - 1
+    → slice_get fs d ≡ Some f
+    → slice_get (shown_frames a fs) d ≡ Some (at_script (opened_by (active_kind a)) f)
 bottom-shown a [] d f e h = cc
 bottom-shown a (g ∷ []) zero f e h =
     let q : g ≡ f = cc in
@@ -32,7 +35,10 @@ bottom-shown a (g ∷ []) (suc d) f e h = absurd (omega arith)
 bottom-shown a (g ∷ k ∷ fs) zero f e h = absurd (omega arith)
 bottom-shown a (g ∷ k ∷ fs) (suc d) f e h = bottom-shown a (k ∷ fs) d f (omega arith) h
 
-pub other-shown : (a : Active) (fs : List Frame) (d : ℕ) (f : Frame) → (d ≡ length fs - 1 → ⊥) → slice_get fs d ≡ Some f → slice_get (shown_frames a fs) d ≡ Some f
+pub other-shown : (a : Active) (fs : List Frame) (d : ℕ) (f : Frame)
+    → (d ≡ length fs - 1 → ⊥)
+    → slice_get fs d ≡ Some f
+    → slice_get (shown_frames a fs) d ≡ Some f
 other-shown a [] d f e h = cc
 other-shown a (g ∷ []) zero f e h = absurd (e (omega arith))
 other-shown a (g ∷ []) (suc d) f e h = cc
@@ -48,7 +54,9 @@ none-shown a (g ∷ k ∷ fs) (suc d) h = none-shown a (k ∷ fs) d h
 
 -- ---- with its scope
 
-scoped_at : (fs : List Frame) (xs : List Addr) (d : ℕ) (f : Frame) → slice_get fs d ≡ Some f → slice_get (with_scopes fs xs) d ≡ Some (in_scope (slice_get xs d) f)
+scoped_at : (fs : List Frame) (xs : List Addr) (d : ℕ) (f : Frame)
+    → slice_get fs d ≡ Some f
+    → slice_get (with_scopes fs xs) d ≡ Some (in_scope (slice_get xs d) f)
 scoped_at [] xs d f h = cc
 scoped_at (g ∷ fs) [] d f h = h
 scoped_at (g ∷ fs) (x ∷ xs) zero f h =
@@ -56,7 +64,9 @@ scoped_at (g ∷ fs) (x ∷ xs) zero f h =
     ap (λ (k : Frame). Some (in_scope (Some x) k)) q
 scoped_at (g ∷ fs) (x ∷ xs) (suc d) f h = scoped_at fs xs d f h
 
-none_scoped : (fs : List Frame) (xs : List Addr) (d : ℕ) → slice_get fs d ≡ None → slice_get (with_scopes fs xs) d ≡ None
+none_scoped : (fs : List Frame) (xs : List Addr) (d : ℕ)
+    → slice_get fs d ≡ None
+    → slice_get (with_scopes fs xs) d ≡ None
 none_scoped [] xs d h = refl
 none_scoped (g ∷ fs) [] d h = h
 none_scoped (g ∷ fs) (x ∷ xs) zero h = cc
@@ -64,15 +74,24 @@ none_scoped (g ∷ fs) (x ∷ xs) (suc d) h = none_scoped fs xs d h
 
 -- ---- the frame at a depth
 
-pub frame-none : (d : ℕ) (root : Addr) (x : Term) (w : World) (c : Context) (taken : List (List ℕ)) → slice_get c.frames d ≡ None → None ≡ frame_at d root x (state_of w c taken)
+pub frame-none : (d : ℕ) (root : Addr) (x : Term) (w : World) (c : Context) (taken : List (List ℕ))
+    → slice_get c.frames d ≡ None
+    → None ≡ frame_at d root x (state_of w c taken)
 frame-none d root x w c taken h = sym (none_scoped (shown_frames (active x) c.frames) (reversed_onto (scopes_at root x) []) d (none-shown (active x) c.frames d h))
 
-pub frame-some : (d : ℕ) (root : Addr) (x : Term) (w : World) (c : Context) (taken : List (List ℕ)) (f g : Frame) (scopes : List Addr) (o : Option Addr) → slice_get (shown_frames (active x) c.frames) d ≡ Some f → reversed_onto (scopes_at root x) [] ≡ scopes → o ≡ slice_get scopes d → g ≡ in_scope o f → Some g ≡ frame_at d root x (state_of w c taken)
+pub frame-some : (d : ℕ) (root : Addr) (x : Term) (w : World) (c : Context) (taken : List (List ℕ)) (f g : Frame) (scopes : List Addr) (o : Option Addr)
+    → slice_get (shown_frames (active x) c.frames) d ≡ Some f
+    → reversed_onto (scopes_at root x) [] ≡ scopes
+    → o ≡ slice_get scopes d
+    → g ≡ in_scope o f
+    → Some g ≡ frame_at d root x (state_of w c taken)
 frame-some d root x w c taken f g scopes o h s e i =
     ap (λ k. Some k) (i ∙ ap (λ p. in_scope p f) e ∙ ap (λ xs. in_scope (slice_get xs d) f) (sym s))
     ∙ sym (scoped_at (shown_frames (active x) c.frames) (reversed_onto (scopes_at root x) []) d f h)
 
 -- ---- the bottom frame is as far out as calls are active
 
-pub depth-count : (n : ℕ) (c : Context) → ((w : World) (taken : List (List ℕ)) → n ≡ depth (state_of w c taken)) → n ≡ length c.frames - 1
+pub depth-count : (n : ℕ) (c : Context)
+    → ((w : World) (taken : List (List ℕ)) → n ≡ depth (state_of w c taken))
+    → n ≡ length c.frames - 1
 depth-count n c h = h (record { base = []; scratch = []; start = None; room = base_room }) []

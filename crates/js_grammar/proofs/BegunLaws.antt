@@ -22,17 +22,28 @@ use Rattle.js_grammar.proofs.DeepWhole.{expression_too_deep, script_too_deep, fu
 record ReadSo {Tree : Type 0} (Is : List Token → Tree → Type 0) (height_of : Tree → ℕ) (parse : ℕ → List Token → Result Tree Fault) : Type 0 where
   sound : (n : ℕ) (ts : List Token) (t : Tree) → parse n ts ≡ Ok t → Is ts t
   lives : (n : ℕ) (ts : List Token) (e : Fault) → parse n ts ≡ Err e → LivesIn Is ts e
-  leaves : (n : ℕ) (ts : List Token) (k : ℕ) (before left : List Token) → parse n ts ≡ Err (stuck k) → ts ≡ before ++ left → length left ≡ k → Leaves Is before left
+  leaves : (n : ℕ) (ts : List Token) (k : ℕ) (before left : List Token)
+      → parse n ts ≡ Err (stuck k)
+      → ts ≡ before ++ left
+      → length left ≡ k
+      → Leaves Is before left
   deepens : (n : ℕ) (ts : List Token) (k : ℕ) → parse (n + 3) ts ≡ Err (deep k) → TooDeepFrom Is height_of ts n
 
 -- where no token is left, those before are all
-at_end : {Tree : Type 0} (Is : List Token → Tree → Type 0) (ts before left : List Token) → ts ≡ before ++ left → Leaves Is before left → Begins Is ts → BeginsWritten Is before → BeginsWritten Is ts
+at_end : {Tree : Type 0} (Is : List Token → Tree → Type 0) (ts before left : List Token)
+    → ts ≡ before ++ left
+    → Leaves Is before left
+    → Begins Is ts
+    → BeginsWritten Is before
+    → BeginsWritten Is ts
 at_end Is ts before [] p l b w = subst (λ (us : List Token). BeginsWritten Is us) (sym (p ∙ append-nil before)) w
 at_end Is ts before (y ∷ left) p l b w =
     let same : ts ++ b.0 ≡ (before ++ (y ∷ [])) ++ (left ++ b.0) = ap (λ (us : List Token). us ++ b.0) p ∙ append_assoc before (y ∷ left) b.0 ∙ sym (append_assoc before (y ∷ []) (left ++ b.0)) in
     absurd (l (left ++ b.0, (b.1.0, subst (λ (us : List Token). Is us b.1.0) same b.1.1)))
 
-written_by : {Tree : Type 0} (Is : List Token → Tree → Type 0) (height_of : Tree → ℕ) (parse : ℕ → List Token → Result Tree Fault) → ReadSo Is height_of parse → (ts : List Token) (b : Begins Is ts)
+written_by : {Tree : Type 0} (Is : List Token → Tree → Type 0) (height_of : Tree → ℕ) (parse : ℕ → List Token → Result Tree Fault)
+    → ReadSo Is height_of parse
+    → (ts : List Token) (b : Begins Is ts)
     → (r : Result Tree Fault) → parse (height_of b.1.0 + 3) ts ≡ r → BeginsWritten Is ts
 written_by Is height_of parse s ts b (Ok t) e = record { rest = []; tokens = tt; language = (t, subst (λ (us : List Token). Is us t) (sym (append-nil ts)) (s.sound (height_of b.1.0 + 3) ts t e)) }
 written_by Is height_of parse s ts b (Err (stuck k)) e =
@@ -54,7 +65,9 @@ function_written ts b =
     written_by IsFunction height parse_function (record { sound = λ n ts t e. (function_read n ts t e).0; lives = function_alive; leaves = function_leaves; deepens = function_too_deep }) ts b (parse_function (height b.1.0 + 3) ts) refl
 
 -- The same of scripts.
-pub script_written : (earlier : List Identifier) (ts : List Token) → Begins (IsScript earlier) ts → BeginsWritten (IsScript earlier) ts
+pub script_written : (earlier : List Identifier) (ts : List Token)
+    → Begins (IsScript earlier) ts
+    → BeginsWritten (IsScript earlier) ts
 script_written earlier ts b =
     written_by (IsScript earlier) height_of_statements (λ n ts. parse_script n earlier ts)
     (record { sound = λ n ts t e. (script_read n earlier ts t e).0; lives = λ n ts e p. script_alive n earlier ts e p; leaves = λ n ts k before left e p c. script_leaves n earlier ts k before left e p c; deepens = λ n ts k e. script_too_deep n earlier ts k e })
@@ -68,7 +81,12 @@ alike_tail [] (u ∷ us) a = absurd a
 alike_tail (t ∷ ts) [] a = absurd a
 alike_tail (t ∷ ts) (u ∷ us) a = a.4
 
-alike_symbol : (s : Symbol) (t u : Token) → t.kind ≡ u.kind → t.string_value ≡ u.string_value → t.numeric_value ≡ u.numeric_value → IsSymbol s t → IsSymbol s u
+alike_symbol : (s : Symbol) (t u : Token)
+    → t.kind ≡ u.kind
+    → t.string_value ≡ u.string_value
+    → t.numeric_value ≡ u.numeric_value
+    → IsSymbol s t
+    → IsSymbol s u
 alike_symbol (fixed k) t u p q r i = sym p ∙ i
 alike_symbol (identifier n) t u p q r i = (sym p ∙ i.0, sym q ∙ i.1)
 alike_symbol (identifier_name n) t u p q r i = (sym (ap (λ (k : TokenKind). is_word k) p) ∙ i.0, sym q ∙ i.1)
@@ -113,5 +131,8 @@ expression_alike ts us e a i = record { well = i.well; spelled = alike_matches (
 pub function_alike : (ts us : List Token) (e : Expression) → AreAlike ts us → IsFunction ts e → IsFunction us e
 function_alike ts us e a i = record { form = i.form; well = i.well; spelled = alike_matches (flat e) ts us a i.spelled }
 
-pub script_alike : (earlier : List Identifier) (ts us : List Token) (body : Statements) → AreAlike ts us → IsScript earlier ts body → IsScript earlier us body
+pub script_alike : (earlier : List Identifier) (ts us : List Token) (body : Statements)
+    → AreAlike ts us
+    → IsScript earlier ts body
+    → IsScript earlier us body
 script_alike earlier ts us body a i = record { well = i.well; spelled = alike_matches (flat_statements body) ts us a i.spelled }

@@ -59,16 +59,36 @@ pub record TakesCode (n : ℕ) (ts : List Token) (f : Code) (r : List Token) : T
 
 -- What reads below a node reads well-formed trees at most n high. A block and a function count one beside their statements.
 pub record SoundBelow (n : ℕ) (b : Below) : Type 0 where
-  pub assignment : (ts : List Token) (x : Expression × List Token) → b.assignment ts ≡ Ok x → TakesExpression levels.an_assignment n ts x.0 x.1
-  pub expression : (ts : List Token) (x : Expression × List Token) → b.expression ts ≡ Ok x → TakesExpression levels.any_expression n ts x.0 x.1
+  pub assignment : (ts : List Token) (x : Expression × List Token)
+      → b.assignment ts ≡ Ok x
+      → TakesExpression levels.an_assignment n ts x.0 x.1
+  pub expression : (ts : List Token) (x : Expression × List Token)
+      → b.expression ts ≡ Ok x
+      → TakesExpression levels.any_expression n ts x.0 x.1
   -- an operation ends before an operator that binds so tightly
-  pub operation : (m : ℕ) → m ≤ levels.a_unary → (ts : List Token) (x : Expression × List Token) → b.operation m ts ≡ Ok x → TakesExpression m n ts x.0 x.1 × (operator_from m (operator (head_of x.1)) ≡ None)
-  pub unary : (ts : List Token) (x : Expression × List Token) → b.unary ts ≡ Ok x → TakesExpression levels.a_unary n ts x.0 x.1
-  pub call : (ts : List Token) (x : Expression × List Token) → b.call ts ≡ Ok x → TakesExpression levels.a_call n ts x.0 x.1
-  pub statement : (context : Context) (ts : List Token) (x : Statement × List Token) → b.statement context ts ≡ Ok x → TakesStatement context n ts x.0 x.1
-  pub item : (context : Context) (taken : List Identifier) (ts : List Token) (x : Statement × List Token) → b.item context taken ts ≡ Ok x → TakesItem context taken n ts x.0 x.1
-  pub block : (context : Context) (taken : List Identifier) (ts : List Token) (x : Statements × List Token) → b.block context taken ts ≡ Ok x → TakesBlock context taken n ts x.0 x.1 × (suc (height_of_statements x.0) ≤ n)
-  pub function : (ts : List Token) (x : Code × List Token) → b.function ts ≡ Ok x → TakesCode n ts x.0 x.1 × (suc (height_of_statements x.0.body) ≤ n)
+  pub operation : (m : ℕ)
+      → m ≤ levels.a_unary
+      → (ts : List Token) (x : Expression × List Token)
+      → b.operation m ts ≡ Ok x
+      → TakesExpression m n ts x.0 x.1 × (operator_from m (operator (head_of x.1)) ≡ None)
+  pub unary : (ts : List Token) (x : Expression × List Token)
+      → b.unary ts ≡ Ok x
+      → TakesExpression levels.a_unary n ts x.0 x.1
+  pub call : (ts : List Token) (x : Expression × List Token)
+      → b.call ts ≡ Ok x
+      → TakesExpression levels.a_call n ts x.0 x.1
+  pub statement : (context : Context) (ts : List Token) (x : Statement × List Token)
+      → b.statement context ts ≡ Ok x
+      → TakesStatement context n ts x.0 x.1
+  pub item : (context : Context) (taken : List Identifier) (ts : List Token) (x : Statement × List Token)
+      → b.item context taken ts ≡ Ok x
+      → TakesItem context taken n ts x.0 x.1
+  pub block : (context : Context) (taken : List Identifier) (ts : List Token) (x : Statements × List Token)
+      → b.block context taken ts ≡ Ok x
+      → TakesBlock context taken n ts x.0 x.1 × (suc (height_of_statements x.0) ≤ n)
+  pub function : (ts : List Token) (x : Code × List Token)
+      → b.function ts ≡ Ok x
+      → TakesCode n ts x.0 x.1 × (suc (height_of_statements x.0.body) ≤ n)
 
 -- ---- the flat tokens of a production
 
@@ -288,15 +308,77 @@ Follows s r = (follows_statement (head_of r) ≡ true) × NoElse s r
 
 -- What reads below a node reads every well-formed tree that is at most n high.
 pub record AgainBelow (n : ℕ) (b : Below) : Type 0 where
-  pub assignment : (e : Expression) → Well e → levels.an_assignment ≤ level e → height e ≤ n → (ts r : List Token) → Matches (flat e) ts r → Stops (edge e) r → b.assignment ts ≡ Ok (e, r)
-  pub expression : (e : Expression) → Well e → height e ≤ n → (ts r : List Token) → Matches (flat e) ts r → Stops (edge e) r → NoComma r → b.expression ts ≡ Ok (e, r)
-  pub operation : (m : ℕ) (e : Expression) → Well e → levels.an_operation ≤ level e → m ≤ level e → height e ≤ n → (ts r : List Token) → Matches (flat e) ts r → StopsOperation m (edge e) r → b.operation m ts ≡ Ok (e, r)
-  pub unary : (e : Expression) → Well e → levels.a_unary ≤ level e → height e ≤ n → (ts r : List Token) → Matches (flat e) ts r → StopsUnary (edge e) r → b.unary ts ≡ Ok (e, r)
-  pub call : (e : Expression) → Well e → levels.a_call ≤ level e → height e ≤ n → (ts r : List Token) → Matches (flat e) ts r → link (head_of r) ≡ no_link → b.call ts ≡ Ok (e, r)
-  pub statement : (context : Context) (s : Statement) → WellStatement context s → is_statement s ≡ true → height_of_statement s ≤ n → (ts r : List Token) → Matches (flat_statement s) ts r → Follows s r → b.statement context ts ≡ Ok (s, r)
-  pub item : (context : Context) (taken : List Identifier) (s : Statement) → WellStatement context s → AreFresh taken (declared_by s) → height_of_statement s ≤ n → (ts r : List Token) → Matches (flat_statement s) ts r → Follows s r → b.item context taken ts ≡ Ok (s, r)
-  pub block : (context : Context) (taken : List Identifier) (ss : Statements) → WellStatements context ss → AreFresh taken (declared_names ss) → suc (height_of_statements ss) ≤ n → (ts r : List Token) → Matches (flats.in_braces (flat_statements ss)) ts r → b.block context taken ts ≡ Ok (ss, r)
-  pub function : (f : Code) → DifferIn f.parameters f.body → WellStatements function_body f.body → suc (height_of_statements f.body) ≤ n → (ts r : List Token) → Matches (flat_parameters f.parameters ++ flats.in_braces (flat_statements f.body)) ts r → b.function ts ≡ Ok (f, r)
+  pub assignment : (e : Expression)
+      → Well e
+      → levels.an_assignment ≤ level e
+      → height e ≤ n
+      → (ts r : List Token)
+      → Matches (flat e) ts r
+      → Stops (edge e) r
+      → b.assignment ts ≡ Ok (e, r)
+  pub expression : (e : Expression)
+      → Well e
+      → height e ≤ n
+      → (ts r : List Token)
+      → Matches (flat e) ts r
+      → Stops (edge e) r
+      → NoComma r
+      → b.expression ts ≡ Ok (e, r)
+  pub operation : (m : ℕ) (e : Expression)
+      → Well e
+      → levels.an_operation ≤ level e
+      → m ≤ level e
+      → height e ≤ n
+      → (ts r : List Token)
+      → Matches (flat e) ts r
+      → StopsOperation m (edge e) r
+      → b.operation m ts ≡ Ok (e, r)
+  pub unary : (e : Expression)
+      → Well e
+      → levels.a_unary ≤ level e
+      → height e ≤ n
+      → (ts r : List Token)
+      → Matches (flat e) ts r
+      → StopsUnary (edge e) r
+      → b.unary ts ≡ Ok (e, r)
+  pub call : (e : Expression)
+      → Well e
+      → levels.a_call ≤ level e
+      → height e ≤ n
+      → (ts r : List Token)
+      → Matches (flat e) ts r
+      → link (head_of r) ≡ no_link
+      → b.call ts ≡ Ok (e, r)
+  pub statement : (context : Context) (s : Statement)
+      → WellStatement context s
+      → is_statement s ≡ true
+      → height_of_statement s ≤ n
+      → (ts r : List Token)
+      → Matches (flat_statement s) ts r
+      → Follows s r
+      → b.statement context ts ≡ Ok (s, r)
+  pub item : (context : Context) (taken : List Identifier) (s : Statement)
+      → WellStatement context s
+      → AreFresh taken (declared_by s)
+      → height_of_statement s ≤ n
+      → (ts r : List Token)
+      → Matches (flat_statement s) ts r
+      → Follows s r
+      → b.item context taken ts ≡ Ok (s, r)
+  pub block : (context : Context) (taken : List Identifier) (ss : Statements)
+      → WellStatements context ss
+      → AreFresh taken (declared_names ss)
+      → suc (height_of_statements ss) ≤ n
+      → (ts r : List Token)
+      → Matches (flats.in_braces (flat_statements ss)) ts r
+      → b.block context taken ts ≡ Ok (ss, r)
+  pub function : (f : Code)
+      → DifferIn f.parameters f.body
+      → WellStatements function_body f.body
+      → suc (height_of_statements f.body) ≤ n
+      → (ts r : List Token)
+      → Matches (flat_parameters f.parameters ++ flats.in_braces (flat_statements f.body)) ts r
+      → b.function ts ≡ Ok (f, r)
 
 -- what an item's value needs of what follows it
 abbrev pub Ends : (i : Item) → Value i → List Token → Type 0

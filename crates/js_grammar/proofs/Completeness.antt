@@ -68,16 +68,25 @@ again_below (suc n) =
 -- ---- whole sources
 
 -- What is an expression is read, as itself.
-pub expression_again_whole : (n : ℕ) (ts : List Token) (e : Expression) → IsExpression ts e → height e ≤ n → parse_expression n ts ≡ Ok e
+pub expression_again_whole : (n : ℕ) (ts : List Token) (e : Expression)
+    → IsExpression ts e
+    → height e ≤ n
+    → parse_expression n ts ≡ Ok e
 unfolding parse_expression
 expression_again_whole n ts e i h = rw ((again_below n).expression e i.well h ts [] i.spelled (stops_at_end (edge e)) refl) refl
 
-pub function_again_whole : (n : ℕ) (ts : List Token) (e : Expression) → IsFunction ts e → height e ≤ n → parse_function n ts ≡ Ok e
+pub function_again_whole : (n : ℕ) (ts : List Token) (e : Expression)
+    → IsFunction ts e
+    → height e ≤ n
+    → parse_function n ts ≡ Ok e
 unfolding parse_function
 function_again_whole zero ts e i h = absurd (omega (arith, height_positive e))
 function_again_whole (suc n) ts e i h = rw (function_code_again seq_again n (below n) (again_below n) e i.form i.well h ts i.spelled) refl
 
-pub script_again_whole : (n : ℕ) (earlier : List Identifier) (ts : List Token) (body : Statements) → IsScript earlier ts body → height_of_statements body ≤ n → parse_script n earlier ts ≡ Ok body
+pub script_again_whole : (n : ℕ) (earlier : List Identifier) (ts : List Token) (body : Statements)
+    → IsScript earlier ts body
+    → height_of_statements body ≤ n
+    → parse_script n earlier ts ≡ Ok body
 unfolding parse_script
 script_again_whole n earlier ts body i h = rw (statements_again n (below n) (again_below n) top earlier body i.well.1 i.well.0 h ts [] i.spelled refl) refl
 
@@ -98,7 +107,10 @@ one_function ts e f i j =
     let q : parse_function n ts ≡ Ok f = function_again_whole n ts f j (omega arith) in
     cc
 
-pub one_script : (earlier : List Identifier) (ts : List Token) (a b : Statements) → IsScript earlier ts a → IsScript earlier ts b → a ≡ b
+pub one_script : (earlier : List Identifier) (ts : List Token) (a b : Statements)
+    → IsScript earlier ts a
+    → IsScript earlier ts b
+    → a ≡ b
 one_script earlier ts a b i j =
     let n : ℕ = max (height_of_statements a) (height_of_statements b) in
     let p : parse_script n earlier ts ≡ Ok a = script_again_whole n earlier ts a i (omega arith) in

@@ -37,7 +37,11 @@ ended_not_deep t [] k e = absurd cc
 ended_not_deep t (x ∷ ts) k e = absurd cc
 
 -- what answers less is too deep too
-less_deep : {A : Type 0} (f g : Reader A) → Follows f g → (ts : List Token) (k : ℕ) → whole (g ts) ≡ Err (deep k) → (j : ℕ) × (f ts ≡ Err (deep j))
+less_deep : {A : Type 0} (f g : Reader A)
+    → Follows f g
+    → (ts : List Token) (k : ℕ)
+    → whole (g ts) ≡ Err (deep k)
+    → (j : ℕ) × (f ts ≡ Err (deep j))
 less_deep {A} f g h ts k e = by_answer (f ts) refl
   where
     by_answer : (x : Read A) → f ts ≡ x → (j : ℕ) × (f ts ≡ Err (deep j))
@@ -57,8 +61,15 @@ above h n f = by_test (nat_le h n) refl
     by_test false e = leb-false h n e
 
 -- Where a reader too deep for the last one is between two others, of which the first reads all trees that are at most n high, the tokens through the one that shows it begin only deeper ones.
-too_deep_from : {A : Type 0} (Is : List Token → A → Type 0) (height_of : A → ℕ) (n : ℕ) (low mid high : Reader A) → Follows low mid → Follows mid high → ((j : ℕ) → Deepens j mid) → ((ts : List Token) (e : Fault) → mid ts ≡ Err e → LivesIn Is ts e)
-    → ((ts : List Token) (t : A) → Is ts t → height_of t ≤ n → whole (low ts) ≡ Ok t) → (ts : List Token) (k : ℕ) → whole (high ts) ≡ Err (deep k) → TooDeepFrom Is height_of ts n
+too_deep_from : {A : Type 0} (Is : List Token → A → Type 0) (height_of : A → ℕ) (n : ℕ) (low mid high : Reader A)
+    → Follows low mid
+    → Follows mid high
+    → ((j : ℕ) → Deepens j mid)
+    → ((ts : List Token) (e : Fault) → mid ts ≡ Err e → LivesIn Is ts e)
+    → ((ts : List Token) (t : A) → Is ts t → height_of t ≤ n → whole (low ts) ≡ Ok t)
+    → (ts : List Token) (k : ℕ)
+    → whole (high ts) ≡ Err (deep k)
+    → TooDeepFrom Is height_of ts n
 too_deep_from {A} Is height_of n low mid high h h' d lives again ts k e =
     let p = less_deep mid high h' ts k e in
     let l : LivesIn Is ts (deep p.0) = lives ts (deep p.0) p.1 in
@@ -81,7 +92,9 @@ three_more n = omega arith
 
 -- ---- expressions and scripts
 
-expression_deeper : (n : ℕ) (ts : List Token) (k : ℕ) → parse_expression (raised n) ts ≡ Err (deep k) → TooDeepFrom IsExpression height ts n
+expression_deeper : (n : ℕ) (ts : List Token) (k : ℕ)
+    → parse_expression (raised n) ts ≡ Err (deep k)
+    → TooDeepFrom IsExpression height ts n
 unfolding parse_expression
 expression_deeper n ts k e =
     let q : Kept n = kept n in
@@ -89,10 +102,14 @@ expression_deeper n ts k e =
     (λ ts d p. begins_so (λ us t g m. record { well = g.0; spelled = m }) (q.alive.expression ts d p))
     (λ ts t is le. expression_again_whole n ts t is le) ts k e
 
-pub expression_too_deep : (n : ℕ) (ts : List Token) (k : ℕ) → parse_expression (n + 3) ts ≡ Err (deep k) → TooDeepFrom IsExpression height ts n
+pub expression_too_deep : (n : ℕ) (ts : List Token) (k : ℕ)
+    → parse_expression (n + 3) ts ≡ Err (deep k)
+    → TooDeepFrom IsExpression height ts n
 expression_too_deep n ts k e = expression_deeper n ts k (ap (λ (m : ℕ). parse_expression m ts) (sym (three_more n)) ∙ e)
 
-script_deeper : (n : ℕ) (earlier : List Identifier) (ts : List Token) (k : ℕ) → parse_script (raised n) earlier ts ≡ Err (deep k) → TooDeepFrom (IsScript earlier) height_of_statements ts n
+script_deeper : (n : ℕ) (earlier : List Identifier) (ts : List Token) (k : ℕ)
+    → parse_script (raised n) earlier ts ≡ Err (deep k)
+    → TooDeepFrom (IsScript earlier) height_of_statements ts n
 unfolding parse_script
 script_deeper n earlier ts k e =
     let q : Kept n = kept n in
@@ -102,7 +119,9 @@ script_deeper n earlier ts k e =
     (λ ts d p. begins_so (λ us t g m. record { well = g; spelled = m }) (items_at_lives (raised n) (room n) (room_sound n q) q.alive top earlier ts d p))
     (λ ts t is le. script_again_whole n earlier ts t is le) ts k e
 
-pub script_too_deep : (n : ℕ) (earlier : List Identifier) (ts : List Token) (k : ℕ) → parse_script (n + 3) earlier ts ≡ Err (deep k) → TooDeepFrom (IsScript earlier) height_of_statements ts n
+pub script_too_deep : (n : ℕ) (earlier : List Identifier) (ts : List Token) (k : ℕ)
+    → parse_script (n + 3) earlier ts ≡ Err (deep k)
+    → TooDeepFrom (IsScript earlier) height_of_statements ts n
 script_too_deep n earlier ts k e = script_deeper n earlier ts k (ap (λ (m : ℕ). parse_script m earlier ts) (sym (three_more n)) ∙ e)
 
 -- ---- functions
@@ -123,11 +142,16 @@ code_reader b ts = function_code_by b (start (head_of ts)) ts
 code_deepens : (b : Below) → Pair b b → DeepBelow b → (n : ℕ) → Deepens n (code_reader b)
 code_deepens b p d n = deep_peeks_all n start (λ v ts. function_code_by b v ts) (code_by_deepens b p d n)
 
-code_again : (n : ℕ) (ts : List Token) (t : Expression) → IsFunction ts t → height t ≤ suc n → whole (code_reader (below n) ts) ≡ Ok t
+code_again : (n : ℕ) (ts : List Token) (t : Expression)
+    → IsFunction ts t
+    → height t ≤ suc n
+    → whole (code_reader (below n) ts) ≡ Ok t
 unfolding parse_function
 code_again n ts t is le = function_again_whole (suc n) ts t is le
 
-function_deeper : (n : ℕ) (ts : List Token) (k : ℕ) → parse_function (raised n) ts ≡ Err (deep k) → TooDeepFrom IsFunction height ts n
+function_deeper : (n : ℕ) (ts : List Token) (k : ℕ)
+    → parse_function (raised n) ts ≡ Err (deep k)
+    → TooDeepFrom IsFunction height ts n
 unfolding parse_function
 -- no tree is lower than 1
 function_deeper zero ts k e =
@@ -141,5 +165,7 @@ function_deeper (suc n) ts k e =
     (λ ts d p. begins_so (λ us t g m. record { form = g.1; well = g.0.0; spelled = m }) (function_code_lives (raised n) (room n) (room_sound n q) q.alive (start (head_of ts)) ts d refl p))
     (λ ts t is le. code_again n ts t is le) ts k e
 
-pub function_too_deep : (n : ℕ) (ts : List Token) (k : ℕ) → parse_function (n + 3) ts ≡ Err (deep k) → TooDeepFrom IsFunction height ts n
+pub function_too_deep : (n : ℕ) (ts : List Token) (k : ℕ)
+    → parse_function (n + 3) ts ≡ Err (deep k)
+    → TooDeepFrom IsFunction height ts n
 function_too_deep n ts k e = function_deeper n ts k (ap (λ (m : ℕ). parse_function m ts) (sym (three_more n)) ∙ e)

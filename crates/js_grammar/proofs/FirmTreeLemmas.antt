@@ -69,7 +69,11 @@ mutual
   expressions_firm (trees.an_expression e es) s w = more_firm (flat e) (expression_firm e w.0) es w.2
 
   -- further ones behind marks that end in a token
-  more_firm : (ms : List Mark) → is_firm ms ≡ true → (es : Expressions) → AreAssignments es → is_firm (ms ++ more_expressions es) ≡ true
+  more_firm : (ms : List Mark)
+      → is_firm ms ≡ true
+      → (es : Expressions)
+      → AreAssignments es
+      → is_firm (ms ++ more_expressions es) ≡ true
   more_firm ms f trees.no_expressions w = firm_nil ms f
   more_firm ms f (trees.an_expression e es) w = firm_append ms (token (fixed kinds.Comma) ∷ (flat e ++ (more_expressions es ++ []))) (firm_behind (token (fixed kinds.Comma)) (flat e ++ (more_expressions es ++ []))
       (ap (λ (l : List Mark). is_firm (flat e ++ l)) (append-nil (more_expressions es)) ∙ more_firm (flat e) (expression_firm e w.0) es w.2))
@@ -87,15 +91,24 @@ property_firm (trees.shorthand n) w = refl
 property_firm (trees.value k e) w = firm_append (flat_key k) (token (fixed kinds.Colon) ∷ (flat e ++ [])) (firm_behind (token (fixed kinds.Colon)) (flat e ++ []) (firm_nil (flat e) (expression_firm e w.1)))
 property_firm (trees.method k ps body) w = firm_append (flat_key k) (flat_parameters ps ++ (flats.in_braces (flat_statements body) ++ [])) (firm_append (flat_parameters ps) (flats.in_braces (flat_statements body) ++ []) (firm_nil (flats.in_braces (flat_statements body)) (firm_braces (flat_statements body))))
 
-pub declarator_firm : (d : Declarator) → (e : WellDeclarators (trees.a_declarator d trees.no_declarators)) → is_firm (flat_declarator d) ≡ true
+pub declarator_firm : (d : Declarator)
+    → (e : WellDeclarators (trees.a_declarator d trees.no_declarators))
+    → is_firm (flat_declarator d) ≡ true
 declarator_firm (trees.declarator n trees.omitted) w = refl
 declarator_firm (trees.declarator n (trees.present e)) w = firm_behind (token (identifier n)) (token (fixed kinds.Assign) ∷ (flat e ++ [])) (firm_behind (token (fixed kinds.Assign)) (flat e ++ []) (firm_nil (flat e) (expression_firm e w.0.0)))
 
-more_declarators_firm : (ms : List Mark) → is_firm ms ≡ true → (ds : Declarators) → WellDeclarators ds → is_firm (ms ++ more_declarators ds) ≡ true
+more_declarators_firm : (ms : List Mark)
+    → is_firm ms ≡ true
+    → (ds : Declarators)
+    → WellDeclarators ds
+    → is_firm (ms ++ more_declarators ds) ≡ true
 more_declarators_firm ms f trees.no_declarators w = firm_nil ms f
 more_declarators_firm ms f (trees.a_declarator d ds) w = firm_append ms (token (fixed kinds.Comma) ∷ (flat_declarator d ++ (more_declarators ds ++ []))) (firm_behind (token (fixed kinds.Comma)) (flat_declarator d ++ (more_declarators ds ++ []))
     (ap (λ (l : List Mark). is_firm (flat_declarator d ++ l)) (append-nil (more_declarators ds)) ∙ more_declarators_firm (flat_declarator d) (declarator_firm d (w.0, tt)) ds w.1))
 
-pub declarators_firm : (ds : Declarators) → is_some_declarator ds ≡ true → WellDeclarators ds → is_firm (flat_declarators ds) ≡ true
+pub declarators_firm : (ds : Declarators)
+    → is_some_declarator ds ≡ true
+    → WellDeclarators ds
+    → is_firm (flat_declarators ds) ≡ true
 declarators_firm trees.no_declarators s w = absurd cc
 declarators_firm (trees.a_declarator d ds) s w = more_declarators_firm (flat_declarator d) (declarator_firm d (w.0, tt)) ds w.1

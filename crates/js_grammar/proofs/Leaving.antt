@@ -32,31 +32,49 @@ failed k = Err (stuck k)
 stuck_is : {A : Type 0} (j k : ℕ) → failed {A = A} j ≡ failed k → j ≡ k
 stuck_is j k e = cc
 
-goes_past : {A : Type 0} (a : A) (r : List Token) (y : Token) → head_of r ≡ Some y → ended_by a r ≡ Err (stuck (length r))
+goes_past : {A : Type 0} (a : A) (r : List Token) (y : Token)
+    → head_of r ≡ Some y
+    → ended_by a r ≡ Err (stuck (length r))
 goes_past a [] y e = absurd cc
 goes_past a (x ∷ r) y e = refl
 
 -- so many tokens are left where a whole source doesn't go on
-left_count : {A : Type 0} (g : Reader A) (ts : List Token) (x : Read A) (k : ℕ) → whole x ≡ Err (stuck k) → (s : Seen g ts x) → length s.left ≡ k
+left_count : {A : Type 0} (g : Reader A) (ts : List Token) (x : Read A) (k : ℕ)
+    → whole x ≡ Err (stuck k)
+    → (s : Seen g ts x)
+    → length s.left ≡ k
 left_count {A} g ts (Ok (a, [])) k e s = absurd cc
 left_count {A} g ts (Ok (a, y ∷ ys)) k e s = ap (λ (l : List Token). length l) (same_left a s.left (y ∷ ys) s.same) ∙ stuck_is {A = A} (suc (length ys)) k e
 left_count {A} g ts (Err (stuck j)) k e s = same_count {A = A} (length s.left) j s.same ∙ stuck_is {A = A} j k e
 left_count {A} g ts (Err (deep j)) k e s = absurd cc
 
 -- and it doesn't go on before any tokens that begin alike
-whole_moved : {A : Type 0} (g : Reader A) (ts : List Token) (x : Read A) (k : ℕ) → whole x ≡ Err (stuck k) → (s : Seen g ts x) → (r : List Token) → head_of r ≡ head_of s.left → whole (moved x r) ≡ Err (stuck (length r))
+whole_moved : {A : Type 0} (g : Reader A) (ts : List Token) (x : Read A) (k : ℕ)
+    → whole x ≡ Err (stuck k)
+    → (s : Seen g ts x)
+    → (r : List Token)
+    → head_of r ≡ head_of s.left
+    → whole (moved x r) ≡ Err (stuck (length r))
 whole_moved {A} g ts (Ok (a, [])) k e s r h = absurd cc
 whole_moved {A} g ts (Ok (a, y ∷ ys)) k e s r h = goes_past a r y (h ∙ ap (λ (l : List Token). head_of l) (same_left a s.left (y ∷ ys) s.same))
 whole_moved {A} g ts (Err (stuck j)) k e s r h = refl
 whole_moved {A} g ts (Err (deep j)) k e s r h = absurd cc
 
-clear_whole : {A : Type 0} (x : Read A) (k : ℕ) (g : Reader A) (ts : List Token) → whole x ≡ Err (stuck k) → FollowsAt x g ts → Seen g ts x
+clear_whole : {A : Type 0} (x : Read A) (k : ℕ) (g : Reader A) (ts : List Token)
+    → whole x ≡ Err (stuck k)
+    → FollowsAt x g ts
+    → Seen g ts x
 clear_whole (Ok x) k g ts e s = s tt
 clear_whole (Err (stuck j)) k g ts e s = s tt
 clear_whole (Err (deep j)) k g ts e s = absurd cc
 
 -- the fault is the same, wherever what is left begins alike
-pub stays : {A : Type 0} (f g : Reader A) → Follows f g → (ts : List Token) (k : ℕ) (before left : List Token) → whole (f ts) ≡ Err (stuck k) → ts ≡ before ++ left → length left ≡ k
+pub stays : {A : Type 0} (f g : Reader A)
+    → Follows f g
+    → (ts : List Token) (k : ℕ) (before left : List Token)
+    → whole (f ts) ≡ Err (stuck k)
+    → ts ≡ before ++ left
+    → length left ≡ k
     → (r : List Token) → head_of r ≡ head_of left → whole (g (before ++ r)) ≡ Err (stuck (length r))
 stays {A} f g h ts k before left e p c r q =
     let s : Seen g ts (f ts) = clear_whole (f ts) k g ts e (h.at ts) in
@@ -69,8 +87,14 @@ not_both : {A : Type 0} (x : Result A Fault) (k : ℕ) (t : A) → x ≡ Err (st
 not_both x k t e h = absurd cc
 
 -- Where the readers of all heights answer alike, and read what is in the language, none of it begins so.
-pub leaves : {A : Type 0} (Is : List Token → A → Type 0) (height_of : A → ℕ) (read : ℕ → Reader A) → ((n m : ℕ) → n ≤ m → Follows (read n) (read m)) → ((n : ℕ) (ts : List Token) (t : A) → Is ts t → height_of t ≤ n → whole (read n ts) ≡ Ok t)
-    → (n : ℕ) (ts : List Token) (k : ℕ) (before left : List Token) → whole (read n ts) ≡ Err (stuck k) → ts ≡ before ++ left → length left ≡ k → Leaves Is before left
+pub leaves : {A : Type 0} (Is : List Token → A → Type 0) (height_of : A → ℕ) (read : ℕ → Reader A)
+    → ((n m : ℕ) → n ≤ m → Follows (read n) (read m))
+    → ((n : ℕ) (ts : List Token) (t : A) → Is ts t → height_of t ≤ n → whole (read n ts) ≡ Ok t)
+    → (n : ℕ) (ts : List Token) (k : ℕ) (before left : List Token)
+    → whole (read n ts) ≡ Err (stuck k)
+    → ts ≡ before ++ left
+    → length left ≡ k
+    → Leaves Is before left
 leaves Is height_of read h again n ts k before [] e p c = λ q.
     let t = q.0 in
     let m : ℕ = max n (height_of t) in
@@ -85,12 +109,20 @@ leaves Is height_of read h again n ts k before (y ∷ left) e p c = λ q.
 -- ---- whole sources
 
 -- Where an expression is stuck, the language is left.
-pub expression_leaves : (n : ℕ) (ts : List Token) (k : ℕ) (before left : List Token) → parse_expression n ts ≡ Err (stuck k) → ts ≡ before ++ left → length left ≡ k → Leaves IsExpression before left
+pub expression_leaves : (n : ℕ) (ts : List Token) (k : ℕ) (before left : List Token)
+    → parse_expression n ts ≡ Err (stuck k)
+    → ts ≡ before ++ left
+    → length left ≡ k
+    → Leaves IsExpression before left
 unfolding parse_expression
 expression_leaves n ts k before left e p c =
     leaves IsExpression height (λ m ts. (below m).expression ts) (λ n m le. (follows_below n m le).expression) (λ m ts t i l. expression_again_whole m ts t i l) n ts k before left e p c
 
-pub script_leaves : (n : ℕ) (earlier : List Identifier) (ts : List Token) (k : ℕ) (before left : List Token) → parse_script n earlier ts ≡ Err (stuck k) → ts ≡ before ++ left → length left ≡ k → Leaves (IsScript earlier) before left
+pub script_leaves : (n : ℕ) (earlier : List Identifier) (ts : List Token) (k : ℕ) (before left : List Token)
+    → parse_script n earlier ts ≡ Err (stuck k)
+    → ts ≡ before ++ left
+    → length left ≡ k
+    → Leaves (IsScript earlier) before left
 unfolding parse_script
 script_leaves n earlier ts k before left e p c =
     leaves (IsScript earlier) height_of_statements (λ m ts. items_at (below m) top earlier ts) (λ n m le. items_follows_below n m le top earlier) (λ m ts t i l. script_again_whole m earlier ts t i l) n ts k before left e p c
@@ -110,6 +142,10 @@ unfolding parse_function
 function_whole zero ts = refl
 function_whole (suc n) ts = refl
 
-pub function_leaves : (n : ℕ) (ts : List Token) (k : ℕ) (before left : List Token) → parse_function n ts ≡ Err (stuck k) → ts ≡ before ++ left → length left ≡ k → Leaves IsFunction before left
+pub function_leaves : (n : ℕ) (ts : List Token) (k : ℕ) (before left : List Token)
+    → parse_function n ts ≡ Err (stuck k)
+    → ts ≡ before ++ left
+    → length left ≡ k
+    → Leaves IsFunction before left
 function_leaves n ts k before left e p c =
     leaves IsFunction height function_reader function_reader_follows (λ m ts t i l. sym (function_whole m ts) ∙ function_again_whole m ts t i l) n ts k before left (sym (function_whole n ts) ∙ e) p c

@@ -12,7 +12,9 @@ joins (trailing_comma ∷ ms) ns ts us r (inl p) q = inl (p.0, joins ms ns (tail
 joins (trailing_comma ∷ ms) ns ts us r (inr p) q = inr (joins ms ns ts us r p q)
 
 -- where the first marks end
-pub parts : (ms ns : List Mark) (ts r : List Token) → Matches (ms ++ ns) ts r → (us : List Token) × Matches ms ts us × Matches ns us r
+pub parts : (ms ns : List Mark) (ts r : List Token)
+    → Matches (ms ++ ns) ts r
+    → (us : List Token) × Matches ms ts us × Matches ns us r
 parts [] ns ts r m = (ts, refl, m)
 parts (token s ∷ ms) ns ts r m = let p = parts ms ns (tail_of ts) r m.1 in (p.0, (m.0, p.1), p.2)
 parts (beside s ∷ ms) ns ts r m = let p = parts ms ns (tail_of ts) r m.2 in (p.0, (m.0, m.1, p.1), p.2)

@@ -55,20 +55,26 @@ whole_ok (Err e) t h = absurd cc
 whole_ok (Ok x) t h = ended_ok x.0 x.1 t h
 
 -- What is read as an expression is one.
-pub expression_read : (n : ℕ) (ts : List Token) (e : Expression) → parse_expression n ts ≡ Ok e → IsExpression ts e × (height e ≤ n)
+pub expression_read : (n : ℕ) (ts : List Token) (e : Expression)
+    → parse_expression n ts ≡ Ok e
+    → IsExpression ts e × (height e ≤ n)
 unfolding parse_expression
 expression_read n ts e h =
     let t = (sound_below n).expression ts (e, []) (whole_ok ((below n).expression ts) e h) in
     (record { well = t.well; spelled = t.marks }, t.height)
 
-pub function_read : (n : ℕ) (ts : List Token) (e : Expression) → parse_function n ts ≡ Ok e → IsFunction ts e × (height e ≤ n)
+pub function_read : (n : ℕ) (ts : List Token) (e : Expression)
+    → parse_function n ts ≡ Ok e
+    → IsFunction ts e × (height e ≤ n)
 unfolding parse_function
 function_read zero ts e h = absurd cc
 function_read (suc n) ts e h =
     let t = function_code_sound seq_sound n (below n) (sound_below n) (start (head_of ts)) ts (e, []) refl (whole_ok (function_code_by (below n) (start (head_of ts)) ts) e h) in
     (record { form = t.1; well = t.0.well; spelled = t.0.marks }, t.0.height)
 
-pub script_read : (n : ℕ) (earlier : List Identifier) (ts : List Token) (body : Statements) → parse_script n earlier ts ≡ Ok body → IsScript earlier ts body × (height_of_statements body ≤ n)
+pub script_read : (n : ℕ) (earlier : List Identifier) (ts : List Token) (body : Statements)
+    → parse_script n earlier ts ≡ Ok body
+    → IsScript earlier ts body × (height_of_statements body ≤ n)
 unfolding parse_script
 script_read n earlier ts body h =
     let t = items_at_sound n (below n) (sound_below n) top earlier ts (body, []) (whole_ok (items_at (below n) top earlier ts) body h) in

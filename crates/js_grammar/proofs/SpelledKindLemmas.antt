@@ -28,7 +28,12 @@ abbrev text_in : TokenKind → Table → List ℕ
 text_in k [] = []
 text_in k (e ∷ es) = cond (is_same_kind e.0 k) e.1 (text_in k es)
 
-listed_by : (k : TokenKind) (e : TokenKind × List ℕ) (es : Table) → (is_in k es ≡ true → IsListed (k, text_in k es) es) → (b : Bool) → is_same_kind e.0 k ≡ b → cond b true (is_in k es) ≡ true → IsListed (k, cond b e.1 (text_in k es)) (e ∷ es)
+listed_by : (k : TokenKind) (e : TokenKind × List ℕ) (es : Table)
+    → (is_in k es ≡ true → IsListed (k, text_in k es) es)
+    → (b : Bool)
+    → is_same_kind e.0 k ≡ b
+    → cond b true (is_in k es) ≡ true
+    → IsListed (k, cond b e.1 (text_in k es)) (e ∷ es)
 listed_by k e es go true s h = inl (ap (λ (k : TokenKind). (k, e.1)) (sym (same_kind e.0 k s)))
 listed_by k e es go false s h = inr (go h)
 
@@ -54,7 +59,10 @@ text_of_kind k = fixed_text k
 fixed_token : (k : TokenKind) → is_fixed k ≡ true → IsToken k (fixed_text k) []
 fixed_token k h = by_test (is_in k reserved_words) refl h
   where
-    by_test : (b : Bool) → is_in k reserved_words ≡ b → cond b true (is_in k punctuators) ≡ true → IsToken k (cond b (text_in k reserved_words) (text_in k punctuators)) []
+    by_test : (b : Bool)
+        → is_in k reserved_words ≡ b
+        → cond b true (is_in k punctuators) ≡ true
+        → IsToken k (cond b (text_in k reserved_words) (text_in k punctuators)) []
     by_test true s h = reserved (listed k reserved_words s)
     by_test false s h = punctuator (listed k punctuators h)
 

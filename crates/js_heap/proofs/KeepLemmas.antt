@@ -27,7 +27,11 @@ stays-append [] c i = tt
 stays-append (d ∷ cs) c zero = refl
 stays-append (d ∷ cs) c (suc i) = stays-append cs c i
 
-pub stays-set : (cs : List Cell) (j : ℕ) (old new : Cell) → slice_get cs j ≡ Some old → kind_of new ≡ kind_of old → (i : ℕ) → KindStays (slice_get cs i) (slice_get (slice_set cs j new) i)
+pub stays-set : (cs : List Cell) (j : ℕ) (old new : Cell)
+    → slice_get cs j ≡ Some old
+    → kind_of new ≡ kind_of old
+    → (i : ℕ)
+    → KindStays (slice_get cs i) (slice_get (slice_set cs j new) i)
 stays-set [] j old new e k i = tt
 stays-set (d ∷ cs) zero old new e k zero = let f : d ≡ old = cc in k ∙ ap kind_of (sym f)
 stays-set (d ∷ cs) zero old new e k (suc i) = stays-same (slice_get cs i)
@@ -42,7 +46,9 @@ stays-trans (Some c) (Some d) (Some e) h k = k ∙ h
 
 -- ---- refusals
 
-pub fine_if : {A : Type 0} (b : Bool) (what : Counted) (t : Tried A) (P : A → World → Type 0) → AfterFine t P → AfterFine (if b then t else full what) P
+pub fine_if : {A : Type 0} (b : Bool) (what : Counted) (t : Tried A) (P : A → World → Type 0)
+    → AfterFine t P
+    → AfterFine (if b then t else full what) P
 fine_if true what t P h = h
 fine_if false what t P h = tt
 
@@ -69,17 +75,20 @@ keeps-trans u v w h k = record {
 
 -- ---- making
 
-pub made_kinds : (w : World) (r : Room) (o : Option ℕ) (c : Cell) (a : Addr) → KindStays (read_cell w a) (read_cell (record (with_cell w o c) { room = r }) a)
+pub made_kinds : (w : World) (r : Room) (o : Option ℕ) (c : Cell) (a : Addr)
+    → KindStays (read_cell w a) (read_cell (record (with_cell w o c) { room = r }) a)
 made_kinds w r None c (Base i) = stays-append w.base c i
 made_kinds w r None c (Scratch i) = stays-same (slice_get w.scratch i)
 made_kinds w r (Some n) c (Base i) = stays-same (slice_get w.base i)
 made_kinds w r (Some n) c (Scratch i) = stays-append w.scratch c i
 
-pub made_others : (w : World) (r : Room) (o : Option ℕ) (c : Cell) → OthersStay o w (record (with_cell w o c) { room = r })
+pub made_others : (w : World) (r : Room) (o : Option ℕ) (c : Cell)
+    → OthersStay o w (record (with_cell w o c) { room = r })
 made_others w r None c = tt
 made_others w r (Some n) c = (refl, λ h. (omega (arith, length-append w.scratch (c ∷ [])), take-append-le n w.scratch (c ∷ []) h))
 
-pub made_start : (w : World) (r : Room) (o : Option ℕ) (c : Cell) → let v : World = record (with_cell w o c) { room = r } in v.start ≡ w.start
+pub made_start : (w : World) (r : Room) (o : Option ℕ) (c : Cell)
+    → let v : World = record (with_cell w o c) { room = r } in v.start ≡ w.start
 made_start w r None c = refl
 made_start w r (Some n) c = refl
 
@@ -130,38 +139,58 @@ changed-kind (cells.Bindings k n o ns) (changes.Length l) = tt
 changed-kind (cells.Bindings k n o ns) (changes.Declare d b) = refl
 changed-kind (cells.Bindings k n o ns) (changes.Bind d v) = kept_if (is_some (binding_of ns d)) (cells.Bindings k n o ns) (cells.Bindings k n o _) refl
 
-pub set_kinds : (w : World) (r : Room) (a : Addr) (old new : Cell) → read_cell w a ≡ Some old → kind_of new ≡ kind_of old → (b : Addr) → KindStays (read_cell w b) (read_cell (record (replaced w a new) { room = r }) b)
+pub set_kinds : (w : World) (r : Room) (a : Addr) (old new : Cell)
+    → read_cell w a ≡ Some old
+    → kind_of new ≡ kind_of old
+    → (b : Addr)
+    → KindStays (read_cell w b) (read_cell (record (replaced w a new) { room = r }) b)
 set_kinds w r (Base j) old new e k (Base i) = stays-set w.base j old new e k i
 set_kinds w r (Base j) old new e k (Scratch i) = stays-same (slice_get w.scratch i)
 set_kinds w r (Scratch j) old new e k (Base i) = stays-same (slice_get w.base i)
 set_kinds w r (Scratch j) old new e k (Scratch i) = stays-set w.scratch j old new e k i
 
-pub set_others : (o : Option ℕ) (w : World) (r : Room) (a : Addr) (new : Cell) → is_own o a ≡ true → OthersStay o w (record (replaced w a new) { room = r })
+pub set_others : (o : Option ℕ) (w : World) (r : Room) (a : Addr) (new : Cell)
+    → is_own o a ≡ true
+    → OthersStay o w (record (replaced w a new) { room = r })
 set_others None w r (Base j) new own = tt
 set_others None w r (Scratch j) new own = tt
 set_others (Some n) w r (Base j) new own = cc
 set_others (Some n) w r (Scratch j) new own =
     (refl, λ h. (omega (arith, length-set w.scratch j new), take-set-le n w.scratch j new (leb-true n j own)))
 
-pub set_start : (w : World) (r : Room) (a : Addr) (new : Cell) → let v : World = record (replaced w a new) { room = r } in v.start ≡ w.start
+pub set_start : (w : World) (r : Room) (a : Addr) (new : Cell)
+    → let v : World = record (replaced w a new) { room = r } in v.start ≡ w.start
 set_start w r (Base j) new = refl
 set_start w r (Scratch j) new = refl
 
-pub set-keeps : (w : World) (r : Room) (a : Addr) (old new : Cell) → read_cell w a ≡ Some old → kind_of new ≡ kind_of old → is_own w.start a ≡ true → Keeps w (record (replaced w a new) { room = r })
+pub set-keeps : (w : World) (r : Room) (a : Addr) (old new : Cell)
+    → read_cell w a ≡ Some old
+    → kind_of new ≡ kind_of old
+    → is_own w.start a ≡ true
+    → Keeps w (record (replaced w a new) { room = r })
 set-keeps w r a old new e k own = record { start = set_start w r a new; kinds = set_kinds w r a old new e k; others = set_others w.start w r a new own }
 
-pub written_keeps : (w : World) (a : Addr) (old : Cell) (o : Option Cell) → read_cell w a ≡ Some old → KindKept old o → is_own w.start a ≡ true → AfterFine (written w a old o) (λ u v. Keeps w v)
+pub written_keeps : (w : World) (a : Addr) (old : Cell) (o : Option Cell)
+    → read_cell w a ≡ Some old
+    → KindKept old o
+    → is_own w.start a ≡ true
+    → AfterFine (written w a old o) (λ u v. Keeps w v)
 written_keeps w a old None e k own = keeps-same w
 written_keeps w a old (Some new) e k own =
     let v : World = record (replaced w a new) { room = room_after w.room (weight old) (weight new) } in
     let P : Unit {0} → World → Type 0 = λ u x. Keeps w x in
     fine_if (nat_le (weight new) (w.room.units + weight old)) counted.Units (fine tt v) P (set-keeps w v.room a old new e k own)
 
-pub written_at_keeps : (w : World) (a : Addr) (ch : Change) (o : Option Cell) → read_cell w a ≡ o → is_own w.start a ≡ true → AfterFine (written_at w a o ch) (λ u v. Keeps w v)
+pub written_at_keeps : (w : World) (a : Addr) (ch : Change) (o : Option Cell)
+    → read_cell w a ≡ o
+    → is_own w.start a ≡ true
+    → AfterFine (written_at w a o ch) (λ u v. Keeps w v)
 written_at_keeps w a ch None e own = keeps-same w
 written_at_keeps w a ch (Some old) e own = written_keeps w a old (changed old ch) e (changed-kind old ch) own
 
-pub own_keeps : (w : World) (a : Addr) (ch : Change) (b : Bool) → is_own w.start a ≡ b → AfterFine (if b then written_at w a (read_cell w a) ch else effect) (λ u v. Keeps w v)
+pub own_keeps : (w : World) (a : Addr) (ch : Change) (b : Bool)
+    → is_own w.start a ≡ b
+    → AfterFine (if b then written_at w a (read_cell w a) ch else effect) (λ u v. Keeps w v)
 own_keeps w a ch true own = written_at_keeps w a ch (read_cell w a) refl own
 own_keeps w a ch false own = tt
 

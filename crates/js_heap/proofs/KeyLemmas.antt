@@ -47,7 +47,10 @@ first_digit : (b c : Bool) → (b && c) ≡ true → b ≡ true
 first_digit true c h = refl
 first_digit false c h = h
 
-pub value-past : (key : List ℕ) (i n : ℕ) → i < length key → all_ascii_digits (drop i key) ≡ true → n * 10 + (get_or key i 0 - 48) ≤ digits_value_after 10 n (drop i key)
+pub value-past : (key : List ℕ) (i n : ℕ)
+    → i < length key
+    → all_ascii_digits (drop i key) ≡ true
+    → n * 10 + (get_or key i 0 - 48) ≤ digits_value_after 10 n (drop i key)
 value-past [] i n h d = absurd (omega arith)
 value-past (u ∷ us) zero n h d = let e = digit-of u (first_digit (is_ascii_digit u) (all_ascii_digits us) d) in omega (arith, e, after-grows us (n * 10 + digit_value u))
 value-past (u ∷ us) (suc i) n h d = value-past us i n (omega arith) d

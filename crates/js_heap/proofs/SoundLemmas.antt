@@ -72,16 +72,25 @@ sound_cells w v l (c ∷ cs) h = (sound_cell w v l c h.0, sound_cells w v l cs h
 
 -- ---- lists of cells
 
-pub cells-append : (w : World) (cs : List Cell) (c : Cell) → SoundCells w cs → SoundCell w c → SoundCells w (cs ++ c ∷ [])
+pub cells-append : (w : World) (cs : List Cell) (c : Cell)
+    → SoundCells w cs
+    → SoundCell w c
+    → SoundCells w (cs ++ c ∷ [])
 cells-append w [] c h k = (k, tt)
 cells-append w (d ∷ cs) c h k = (h.0, cells-append w cs c h.1 k)
 
-pub cells-set : (w : World) (cs : List Cell) (i : ℕ) (c : Cell) → SoundCells w cs → SoundCell w c → SoundCells w (slice_set cs i c)
+pub cells-set : (w : World) (cs : List Cell) (i : ℕ) (c : Cell)
+    → SoundCells w cs
+    → SoundCell w c
+    → SoundCells w (slice_set cs i c)
 cells-set w [] i c h k = tt
 cells-set w (d ∷ cs) zero c h k = (k, h.1)
 cells-set w (d ∷ cs) (suc i) c h k = (h.0, cells-set w cs i c h.1 k)
 
-pub cell-get : (w : World) (cs : List Cell) (i : ℕ) (c : Cell) → slice_get cs i ≡ Some c → SoundCells w cs → SoundCell w c
+pub cell-get : (w : World) (cs : List Cell) (i : ℕ) (c : Cell)
+    → slice_get cs i ≡ Some c
+    → SoundCells w cs
+    → SoundCell w c
 cell-get w [] i c e h = cc
 cell-get w (d ∷ cs) zero c e h = let f : d ≡ c = cc in let P : Cell → Type 0 = λ x. SoundCell w x in subst P f h.0
 cell-get w (d ∷ cs) (suc i) c e h = cell-get w cs i c e h.1
@@ -92,7 +101,10 @@ read-sound w (Scratch i) c e h = cell-get w w.scratch i c e h.scratch_cells
 
 -- ---- making
 
-pub made_sound : (w : World) (r : Room) (o : Option ℕ) (c : Cell) → IsSound w → SoundCell w c → IsSound (record (with_cell w o c) { room = r })
+pub made_sound : (w : World) (r : Room) (o : Option ℕ) (c : Cell)
+    → IsSound w
+    → SoundCell w c
+    → IsSound (record (with_cell w o c) { room = r })
 made_sound w r None c h k =
     let v : World = record (with_cell w None c) { room = r } in
     let l : Later w v = made_kinds w r None c in
@@ -111,43 +123,74 @@ making-sound w c h k =
 
 -- ---- changes
 
-pub put_value_if : (w : World) (b : Bool) (p : Property) (ps : List Property) (key : List ℕ) (v : Value) → SoundProperties w (p ∷ ps) → SoundValue w v → SoundProperties w (with_value ps key v) → SoundProperties w (if b then record p { value = v } ∷ ps else p ∷ with_value ps key v)
+pub put_value_if : (w : World) (b : Bool) (p : Property) (ps : List Property) (key : List ℕ) (v : Value)
+    → SoundProperties w (p ∷ ps)
+    → SoundValue w v
+    → SoundProperties w (with_value ps key v)
+    → SoundProperties w (if b then record p { value = v } ∷ ps else p ∷ with_value ps key v)
 put_value_if w true p ps key v h k rest = (k, h.1)
 put_value_if w false p ps key v h k rest = (h.0, rest)
 
-pub put_value : (w : World) (ps : List Property) (key : List ℕ) (v : Value) → SoundProperties w ps → SoundValue w v → SoundProperties w (with_value ps key v)
+pub put_value : (w : World) (ps : List Property) (key : List ℕ) (v : Value)
+    → SoundProperties w ps
+    → SoundValue w v
+    → SoundProperties w (with_value ps key v)
 put_value w [] key v h k = tt
 put_value w (p ∷ ps) key v h k = put_value_if w (same_units p.key key) p ps key v h k (put_value w ps key v h.1 k)
 
-pub place_new_if : (w : World) (b : Bool) (p : Property) (ps : List Property) (new : Property) → SoundProperties w (p ∷ ps) → SoundValue w new.value → SoundProperties w (placed ps new) → SoundProperties w (if b then new ∷ p ∷ ps else p ∷ placed ps new)
+pub place_new_if : (w : World) (b : Bool) (p : Property) (ps : List Property) (new : Property)
+    → SoundProperties w (p ∷ ps)
+    → SoundValue w new.value
+    → SoundProperties w (placed ps new)
+    → SoundProperties w (if b then new ∷ p ∷ ps else p ∷ placed ps new)
 place_new_if w true p ps new h k rest = (k, h)
 place_new_if w false p ps new h k rest = (h.0, rest)
 
-pub place_new : (w : World) (ps : List Property) (new : Property) → SoundProperties w ps → SoundValue w new.value → SoundProperties w (placed ps new)
+pub place_new : (w : World) (ps : List Property) (new : Property)
+    → SoundProperties w ps
+    → SoundValue w new.value
+    → SoundProperties w (placed ps new)
 place_new w [] new h k = (k, tt)
 place_new w (p ∷ ps) new h k = place_new_if w (stands_before (index_of_key new.key) (index_of_key p.key)) p ps new h k (place_new w ps new h.1 k)
 
-pub put_sound_if : (w : World) (b : Bool) (ps : List Property) (key : List ℕ) (v : Value) → SoundProperties w ps → SoundValue w v → SoundProperties w (if b then with_value ps key v else placed ps (assigned key v))
+pub put_sound_if : (w : World) (b : Bool) (ps : List Property) (key : List ℕ) (v : Value)
+    → SoundProperties w ps
+    → SoundValue w v
+    → SoundProperties w (if b then with_value ps key v else placed ps (assigned key v))
 put_sound_if w true ps key v h k = put_value w ps key v h k
 put_sound_if w false ps key v h k = place_new w ps (assigned key v) h k
 
-pub put_sound : (w : World) (ps : List Property) (key : List ℕ) (v : Value) → SoundProperties w ps → SoundValue w v → SoundProperties w (put_property ps key v)
+pub put_sound : (w : World) (ps : List Property) (key : List ℕ) (v : Value)
+    → SoundProperties w ps
+    → SoundValue w v
+    → SoundProperties w (put_property ps key v)
 put_sound w ps key v h k = put_sound_if w (has_key ps key) ps key v h k
 
-pub remove_if : (w : World) (b : Bool) (p : Property) (ps : List Property) (key : List ℕ) → SoundProperties w (p ∷ ps) → SoundProperties w (without_key ps key) → SoundProperties w (if b then ps else p ∷ without_key ps key)
+pub remove_if : (w : World) (b : Bool) (p : Property) (ps : List Property) (key : List ℕ)
+    → SoundProperties w (p ∷ ps)
+    → SoundProperties w (without_key ps key)
+    → SoundProperties w (if b then ps else p ∷ without_key ps key)
 remove_if w true p ps key h rest = h.1
 remove_if w false p ps key h rest = (h.0, rest)
 
-pub remove_sound : (w : World) (ps : List Property) (key : List ℕ) → SoundProperties w ps → SoundProperties w (without_key ps key)
+pub remove_sound : (w : World) (ps : List Property) (key : List ℕ)
+    → SoundProperties w ps
+    → SoundProperties w (without_key ps key)
 remove_sound w [] key h = tt
 remove_sound w (p ∷ ps) key h = remove_if w (same_units p.key key) p ps key h (remove_sound w ps key h.1)
 
-pub values-set : (w : World) (vs : List Value) (i : ℕ) (v : Value) → SoundValues w vs → SoundValue w v → SoundValues w (slice_set vs i v)
+pub values-set : (w : World) (vs : List Value) (i : ℕ) (v : Value)
+    → SoundValues w vs
+    → SoundValue w v
+    → SoundValues w (slice_set vs i v)
 values-set w [] i v h k = tt
 values-set w (u ∷ vs) zero v h k = (k, h.1)
 values-set w (u ∷ vs) (suc i) v h k = (h.0, values-set w vs i v h.1 k)
 
-pub values-append : (w : World) (vs : List Value) (v : Value) → SoundValues w vs → SoundValue w v → SoundValues w (vs ++ v ∷ [])
+pub values-append : (w : World) (vs : List Value) (v : Value)
+    → SoundValues w vs
+    → SoundValue w v
+    → SoundValues w (vs ++ v ∷ [])
 values-append w [] v h k = (k, tt)
 values-append w (u ∷ vs) v h k = (h.0, values-append w vs v h.1 k)
 
@@ -156,20 +199,32 @@ values-take w vs zero h = tt
 values-take w [] (suc l) h = tt
 values-take w (v ∷ vs) (suc l) h = (h.0, values-take w vs l h.1)
 
-pub element_if : (w : World) (b : Bool) (vs : List Value) (i : ℕ) (v : Value) → SoundValues w vs → SoundValue w v → SoundValues w (if b then slice_set vs i v else vs ++ v ∷ [])
+pub element_if : (w : World) (b : Bool) (vs : List Value) (i : ℕ) (v : Value)
+    → SoundValues w vs
+    → SoundValue w v
+    → SoundValues w (if b then slice_set vs i v else vs ++ v ∷ [])
 element_if w true vs i v h k = values-set w vs i v h k
 element_if w false vs i v h k = values-append w vs v h k
 
-pub names-append : (w : World) (bs : List Binding) (d : List ℕ) (constant : Bool) → SoundNames w bs → SoundNames w (bs ++ declared d constant ∷ [])
+pub names-append : (w : World) (bs : List Binding) (d : List ℕ) (constant : Bool)
+    → SoundNames w bs
+    → SoundNames w (bs ++ declared d constant ∷ [])
 names-append w [] d constant h = (tt, tt)
 names-append w (b ∷ bs) d constant h = (h.0, names-append w bs d constant h.1)
 
-pub bind_if : (w : World) (t : Bool) (b : Binding) (bs : List Binding) (n : List ℕ) (v : Value) → SoundNames w (b ∷ bs) → SoundValue w v → SoundNames w (bound bs n v) → SoundNames w (if t then record b { value = Some v } ∷ bs else b ∷ bound bs n v)
+pub bind_if : (w : World) (t : Bool) (b : Binding) (bs : List Binding) (n : List ℕ) (v : Value)
+    → SoundNames w (b ∷ bs)
+    → SoundValue w v
+    → SoundNames w (bound bs n v)
+    → SoundNames w (if t then record b { value = Some v } ∷ bs else b ∷ bound bs n v)
 bind_if w true b bs n v h k rest = (k, h.1)
 bind_if w false b bs n v h k rest = (h.0, rest)
 
 -- the cell after a change is sound
-pub bind_sound : (w : World) (bs : List Binding) (n : List ℕ) (v : Value) → SoundNames w bs → SoundValue w v → SoundNames w (bound bs n v)
+pub bind_sound : (w : World) (bs : List Binding) (n : List ℕ) (v : Value)
+    → SoundNames w bs
+    → SoundValue w v
+    → SoundNames w (bound bs n v)
 bind_sound w [] n v h k = tt
 bind_sound w (b ∷ bs) n v h k = bind_if w (same_units b.name n) b bs n v h k (bind_sound w bs n v h.1 k)
 
@@ -211,7 +266,12 @@ changed-sound w (cells.Bindings k n o ns) (changes.Bind d v) h s = some_if w (is
 
 -- ---- writing
 
-pub set_sound : (w : World) (r : Room) (a : Addr) (old new : Cell) → read_cell w a ≡ Some old → kind_of new ≡ kind_of old → IsSound w → SoundCell w new → IsSound (record (replaced w a new) { room = r })
+pub set_sound : (w : World) (r : Room) (a : Addr) (old new : Cell)
+    → read_cell w a ≡ Some old
+    → kind_of new ≡ kind_of old
+    → IsSound w
+    → SoundCell w new
+    → IsSound (record (replaced w a new) { room = r })
 set_sound w r (Base j) old new e k h s =
     let v : World = record (replaced w (Base j) new) { room = r } in
     let l : Later w v = set_kinds w r (Base j) old new e k in
@@ -221,22 +281,37 @@ set_sound w r (Scratch j) old new e k h s =
     let l : Later w v = set_kinds w r (Scratch j) old new e k in
     record { base_cells = sound_cells w v l w.base h.base_cells; scratch_cells = cells-set v w.scratch j new (sound_cells w v l w.scratch h.scratch_cells) (sound_cell w v l new s) }
 
-pub written_sound : (w : World) (a : Addr) (old : Cell) (o : Option Cell) → read_cell w a ≡ Some old → KindKept old o → IsSound w → SoundSome w o → AfterFine (written w a old o) (λ u v. IsSound v)
+pub written_sound : (w : World) (a : Addr) (old : Cell) (o : Option Cell)
+    → read_cell w a ≡ Some old
+    → KindKept old o
+    → IsSound w
+    → SoundSome w o
+    → AfterFine (written w a old o) (λ u v. IsSound v)
 written_sound w a old None e k h s = h
 written_sound w a old (Some new) e k h s =
     let v : World = record (replaced w a new) { room = room_after w.room (weight old) (weight new) } in
     let P : Unit {0} → World → Type 0 = λ u x. IsSound x in
     fine_if (nat_le (weight new) (w.room.units + weight old)) counted.Units (fine tt v) P (set_sound w v.room a old new e k h s)
 
-pub written_at_sound : (w : World) (a : Addr) (ch : Change) (o : Option Cell) → read_cell w a ≡ o → IsSound w → SoundChange w ch → AfterFine (written_at w a o ch) (λ u v. IsSound v)
+pub written_at_sound : (w : World) (a : Addr) (ch : Change) (o : Option Cell)
+    → read_cell w a ≡ o
+    → IsSound w
+    → SoundChange w ch
+    → AfterFine (written_at w a o ch) (λ u v. IsSound v)
 written_at_sound w a ch None e h s = h
 written_at_sound w a ch (Some old) e h s = written_sound w a old (changed old ch) e (changed-kind old ch) h (changed-sound w old ch (read-sound w a old e h) s)
 
-pub own_sound : (w : World) (a : Addr) (ch : Change) (b : Bool) → IsSound w → SoundChange w ch → AfterFine (if b then written_at w a (read_cell w a) ch else effect) (λ u v. IsSound v)
+pub own_sound : (w : World) (a : Addr) (ch : Change) (b : Bool)
+    → IsSound w
+    → SoundChange w ch
+    → AfterFine (if b then written_at w a (read_cell w a) ch else effect) (λ u v. IsSound v)
 own_sound w a ch true h s = written_at_sound w a ch (read_cell w a) refl h s
 own_sound w a ch false h s = tt
 
-pub writing-sound : (w : World) (a : Addr) (ch : Change) → IsSound w → SoundChange w ch → AfterFine (write_cell w a ch) (λ u v. IsSound v)
+pub writing-sound : (w : World) (a : Addr) (ch : Change)
+    → IsSound w
+    → SoundChange w ch
+    → AfterFine (write_cell w a ch) (λ u v. IsSound v)
 writing-sound w a ch h s = own_sound w a ch (is_own w.start a) h s
 
 -- ---- where a new cell is
@@ -245,11 +320,13 @@ pub leads-to : (c : Cell) (o : Option Cell) → o ≡ Some c → Leads (λ k. k 
 leads-to c None e = cc
 leads-to c (Some d) e = let f : d ≡ c = cc in ap kind_of f
 
-made_leads : (w : World) (r : Room) (o : Option ℕ) (c : Cell) → Leads (λ k. k ≡ kind_of c) (read_cell (record (with_cell w o c) { room = r }) (next_address w o))
+made_leads : (w : World) (r : Room) (o : Option ℕ) (c : Cell)
+    → Leads (λ k. k ≡ kind_of c) (read_cell (record (with_cell w o c) { room = r }) (next_address w o))
 made_leads w r None c = leads-to c (slice_get (w.base ++ c ∷ []) (length w.base)) (get-last w.base c)
 made_leads w r (Some n) c = leads-to c (slice_get (w.scratch ++ c ∷ []) (length w.scratch)) (get-last w.scratch c)
 
-pub making-leads : (w : World) (c : Cell) → AfterFine (make_cell w c) (λ a v. Leads (λ k. k ≡ kind_of c) (read_cell v a))
+pub making-leads : (w : World) (c : Cell)
+    → AfterFine (make_cell w c) (λ a v. Leads (λ k. k ≡ kind_of c) (read_cell v a))
 making-leads w c =
     let v : World = record (with_cell w w.start c) { room = room_less w.room (weight c) } in
     let P : Addr → World → Type 0 = λ a u. Leads (λ k. k ≡ kind_of c) (read_cell u a) in

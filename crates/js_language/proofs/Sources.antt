@@ -152,19 +152,23 @@ expression_8 = record { well = search rules; spelled = search rules }
 -- ---- trees that make no source of the language
 
 -- a LF ++ LF b: no postfix operator on a new line
-no_script_1 : IsScript [] (w "a" ∷ nl (a k.Increment) ∷ nl (w "b") ∷ []) (statements (expression (postfix updates.Increment (v "a")) ∷ expression (v "b") ∷ [])) → ⊥
+no_script_1 : IsScript [] (w "a" ∷ nl (a k.Increment) ∷ nl (w "b") ∷ []) (statements (expression (postfix updates.Increment (v "a")) ∷ expression (v "b") ∷ []))
+    → ⊥
 no_script_1 h = cc
 
 -- x = () => {} LF (1): an arrow function is no callee
-no_script_2 : IsScript [] (w "x" ∷ a k.Assign ∷ a k.LeftParenthesis ∷ a k.RightParenthesis ∷ a k.Arrow ∷ a k.LeftBrace ∷ a k.RightBrace ∷ nl (a k.LeftParenthesis) ∷ d 1 ∷ a k.RightParenthesis ∷ []) (statements (expression (assign assigns.Assign (v "x") (call (arrow_block (name_list []) (statements [])) (expressions (number 1 ∷ [])))) ∷ [])) → ⊥
+no_script_2 : IsScript [] (w "x" ∷ a k.Assign ∷ a k.LeftParenthesis ∷ a k.RightParenthesis ∷ a k.Arrow ∷ a k.LeftBrace ∷ a k.RightBrace ∷ nl (a k.LeftParenthesis) ∷ d 1 ∷ a k.RightParenthesis ∷ []) (statements (expression (assign assigns.Assign (v "x") (call (arrow_block (name_list []) (statements [])) (expressions (number 1 ∷ [])))) ∷ []))
+    → ⊥
 no_script_2 h = omega arith
 
 -- x = () => a LF (1): ( goes on with the statement
-no_script_3 : IsScript [] (w "x" ∷ a k.Assign ∷ a k.LeftParenthesis ∷ a k.RightParenthesis ∷ a k.Arrow ∷ w "a" ∷ nl (a k.LeftParenthesis) ∷ d 1 ∷ a k.RightParenthesis ∷ []) (statements (expression (assign assigns.Assign (v "x") (arrow (name_list []) (v "a"))) ∷ expression (parenthesized (number 1)) ∷ [])) → ⊥
+no_script_3 : IsScript [] (w "x" ∷ a k.Assign ∷ a k.LeftParenthesis ∷ a k.RightParenthesis ∷ a k.Arrow ∷ w "a" ∷ nl (a k.LeftParenthesis) ∷ d 1 ∷ a k.RightParenthesis ∷ []) (statements (expression (assign assigns.Assign (v "x") (arrow (name_list []) (v "a"))) ∷ expression (parenthesized (number 1)) ∷ []))
+    → ⊥
 no_script_3 h = grind arith
 
 -- let a = 1 LF (2): the same
-no_script_4 : IsScript [] (reserved k.Let "let" ∷ w "a" ∷ a k.Assign ∷ d 1 ∷ nl (a k.LeftParenthesis) ∷ d 2 ∷ a k.RightParenthesis ∷ []) (statements (lexical false (declarators (declarator (codes "a") (present (number 1)) ∷ [])) ∷ expression (parenthesized (number 2)) ∷ [])) → ⊥
+no_script_4 : IsScript [] (reserved k.Let "let" ∷ w "a" ∷ a k.Assign ∷ d 1 ∷ nl (a k.LeftParenthesis) ∷ d 2 ∷ a k.RightParenthesis ∷ []) (statements (lexical false (declarators (declarator (codes "a") (present (number 1)) ∷ [])) ∷ expression (parenthesized (number 2)) ∷ []))
+    → ⊥
 no_script_4 h = grind arith
 
 -- throw LF 1
@@ -172,7 +176,8 @@ no_script_5 : IsScript [] (reserved k.Throw "throw" ∷ nl (d 1) ∷ []) (statem
 no_script_5 h = cc
 
 -- let x = 1 let y: no line terminator before the second let
-no_script_6 : IsScript [] (reserved k.Let "let" ∷ w "x" ∷ a k.Assign ∷ d 1 ∷ reserved k.Let "let" ∷ w "y" ∷ []) (statements (lexical false (declarators (declarator (codes "x") (present (number 1)) ∷ [])) ∷ lexical false (declarators (declarator (codes "y") omitted ∷ [])) ∷ [])) → ⊥
+no_script_6 : IsScript [] (reserved k.Let "let" ∷ w "x" ∷ a k.Assign ∷ d 1 ∷ reserved k.Let "let" ∷ w "y" ∷ []) (statements (lexical false (declarators (declarator (codes "x") (present (number 1)) ∷ [])) ∷ lexical false (declarators (declarator (codes "y") omitted ∷ [])) ∷ []))
+    → ⊥
 no_script_6 h = grind arith
 
 -- return at the top
@@ -180,47 +185,58 @@ no_script_7 : IsScript [] (reserved k.Return "return" ∷ []) (statements (retur
 no_script_7 h = cc
 
 -- let a = 1; let a = 2;
-no_script_8 : IsScript [] (reserved k.Let "let" ∷ w "a" ∷ a k.Assign ∷ d 1 ∷ a k.Semicolon ∷ reserved k.Let "let" ∷ w "a" ∷ a k.Assign ∷ d 2 ∷ a k.Semicolon ∷ []) (statements (lexical false (declarators (declarator (codes "a") (present (number 1)) ∷ [])) ∷ lexical false (declarators (declarator (codes "a") (present (number 2)) ∷ [])) ∷ [])) → ⊥
+no_script_8 : IsScript [] (reserved k.Let "let" ∷ w "a" ∷ a k.Assign ∷ d 1 ∷ a k.Semicolon ∷ reserved k.Let "let" ∷ w "a" ∷ a k.Assign ∷ d 2 ∷ a k.Semicolon ∷ []) (statements (lexical false (declarators (declarator (codes "a") (present (number 1)) ∷ [])) ∷ lexical false (declarators (declarator (codes "a") (present (number 2)) ∷ [])) ∷ []))
+    → ⊥
 no_script_8 h = cc
 
 -- let a; function a() {}
-no_script_9 : IsScript [] (reserved k.Let "let" ∷ w "a" ∷ a k.Semicolon ∷ reserved k.Function "function" ∷ w "a" ∷ a k.LeftParenthesis ∷ a k.RightParenthesis ∷ a k.LeftBrace ∷ a k.RightBrace ∷ []) (statements (lexical false (declarators (declarator (codes "a") omitted ∷ [])) ∷ declared_function (codes "a") [] (statements []) ∷ [])) → ⊥
+no_script_9 : IsScript [] (reserved k.Let "let" ∷ w "a" ∷ a k.Semicolon ∷ reserved k.Function "function" ∷ w "a" ∷ a k.LeftParenthesis ∷ a k.RightParenthesis ∷ a k.LeftBrace ∷ a k.RightBrace ∷ []) (statements (lexical false (declarators (declarator (codes "a") omitted ∷ [])) ∷ declared_function (codes "a") [] (statements []) ∷ []))
+    → ⊥
 no_script_9 h = cc
 
 -- if (a) b else c
-no_script_10 : IsScript [] (reserved k.If "if" ∷ a k.LeftParenthesis ∷ w "a" ∷ a k.RightParenthesis ∷ w "b" ∷ reserved k.Else "else" ∷ w "c" ∷ []) (statements (if_else (v "a") (expression (v "b")) (expression (v "c")) ∷ [])) → ⊥
+no_script_10 : IsScript [] (reserved k.If "if" ∷ a k.LeftParenthesis ∷ w "a" ∷ a k.RightParenthesis ∷ w "b" ∷ reserved k.Else "else" ∷ w "c" ∷ []) (statements (if_else (v "a") (expression (v "b")) (expression (v "c")) ∷ []))
+    → ⊥
 no_script_10 h = grind arith
 
 -- if (a) if (b) c; else d: the else goes with the nearest if
-no_script_11 : IsScript [] (reserved k.If "if" ∷ a k.LeftParenthesis ∷ w "a" ∷ a k.RightParenthesis ∷ reserved k.If "if" ∷ a k.LeftParenthesis ∷ w "b" ∷ a k.RightParenthesis ∷ w "c" ∷ a k.Semicolon ∷ reserved k.Else "else" ∷ w "d" ∷ []) (statements (if_else (v "a") (if_then (v "b") (expression (v "c"))) (expression (v "d")) ∷ [])) → ⊥
+no_script_11 : IsScript [] (reserved k.If "if" ∷ a k.LeftParenthesis ∷ w "a" ∷ a k.RightParenthesis ∷ reserved k.If "if" ∷ a k.LeftParenthesis ∷ w "b" ∷ a k.RightParenthesis ∷ w "c" ∷ a k.Semicolon ∷ reserved k.Else "else" ∷ w "d" ∷ []) (statements (if_else (v "a") (if_then (v "b") (expression (v "c"))) (expression (v "d")) ∷ []))
+    → ⊥
 no_script_11 h = cc
 
 -- if (a) let b
-no_script_12 : IsScript [] (reserved k.If "if" ∷ a k.LeftParenthesis ∷ w "a" ∷ a k.RightParenthesis ∷ reserved k.Let "let" ∷ w "b" ∷ []) (statements (if_then (v "a") (lexical false (declarators (declarator (codes "b") omitted ∷ []))) ∷ [])) → ⊥
+no_script_12 : IsScript [] (reserved k.If "if" ∷ a k.LeftParenthesis ∷ w "a" ∷ a k.RightParenthesis ∷ reserved k.Let "let" ∷ w "b" ∷ []) (statements (if_then (v "a") (lexical false (declarators (declarator (codes "b") omitted ∷ []))) ∷ []))
+    → ⊥
 no_script_12 h = cc
 
 -- while (0) function f() {}
-no_script_13 : IsScript [] (reserved k.While "while" ∷ a k.LeftParenthesis ∷ d 0 ∷ a k.RightParenthesis ∷ reserved k.Function "function" ∷ w "f" ∷ a k.LeftParenthesis ∷ a k.RightParenthesis ∷ a k.LeftBrace ∷ a k.RightBrace ∷ []) (statements (while (number 0) (declared_function (codes "f") [] (statements [])) ∷ [])) → ⊥
+no_script_13 : IsScript [] (reserved k.While "while" ∷ a k.LeftParenthesis ∷ d 0 ∷ a k.RightParenthesis ∷ reserved k.Function "function" ∷ w "f" ∷ a k.LeftParenthesis ∷ a k.RightParenthesis ∷ a k.LeftBrace ∷ a k.RightBrace ∷ []) (statements (while (number 0) (declared_function (codes "f") [] (statements [])) ∷ []))
+    → ⊥
 no_script_13 h = cc
 
 -- if (a): an empty statement is never absent
-no_script_14 : IsScript [] (reserved k.If "if" ∷ a k.LeftParenthesis ∷ w "a" ∷ a k.RightParenthesis ∷ []) (statements (if_then (v "a") empty ∷ [])) → ⊥
+no_script_14 : IsScript [] (reserved k.If "if" ∷ a k.LeftParenthesis ∷ w "a" ∷ a k.RightParenthesis ∷ []) (statements (if_then (v "a") empty ∷ []))
+    → ⊥
 no_script_14 h = h.spelled.1.1.1.1.0
 
 -- for (a LF ++b;;) ;: the semicolons of a head are never absent
-no_script_15 : IsScript [] (reserved k.For "for" ∷ a k.LeftParenthesis ∷ w "a" ∷ nl (a k.Increment) ∷ w "b" ∷ a k.Semicolon ∷ a k.Semicolon ∷ a k.RightParenthesis ∷ a k.Semicolon ∷ []) (statements (for (present (v "a")) (present (prefix updates.Increment (v "b"))) omitted empty ∷ [])) → ⊥
+no_script_15 : IsScript [] (reserved k.For "for" ∷ a k.LeftParenthesis ∷ w "a" ∷ nl (a k.Increment) ∷ w "b" ∷ a k.Semicolon ∷ a k.Semicolon ∷ a k.RightParenthesis ∷ a k.Semicolon ∷ []) (statements (for (present (v "a")) (present (prefix updates.Increment (v "b"))) omitted empty ∷ []))
+    → ⊥
 no_script_15 h = cc
 
 -- for (const a;;) ;
-no_script_16 : IsScript [] (reserved k.For "for" ∷ a k.LeftParenthesis ∷ reserved k.Const "const" ∷ w "a" ∷ a k.Semicolon ∷ a k.Semicolon ∷ a k.RightParenthesis ∷ a k.Semicolon ∷ []) (statements (for_lexical true (declarators (declarator (codes "a") omitted ∷ [])) omitted omitted empty ∷ [])) → ⊥
+no_script_16 : IsScript [] (reserved k.For "for" ∷ a k.LeftParenthesis ∷ reserved k.Const "const" ∷ w "a" ∷ a k.Semicolon ∷ a k.Semicolon ∷ a k.RightParenthesis ∷ a k.Semicolon ∷ []) (statements (for_lexical true (declarators (declarator (codes "a") omitted ∷ [])) omitted omitted empty ∷ []))
+    → ⊥
 no_script_16 h = cc
 
 -- for (let a, a;;) ;
-no_script_17 : IsScript [] (reserved k.For "for" ∷ a k.LeftParenthesis ∷ reserved k.Let "let" ∷ w "a" ∷ a k.Comma ∷ w "a" ∷ a k.Semicolon ∷ a k.Semicolon ∷ a k.RightParenthesis ∷ a k.Semicolon ∷ []) (statements (for_lexical false (declarators (declarator (codes "a") omitted ∷ declarator (codes "a") omitted ∷ [])) omitted omitted empty ∷ [])) → ⊥
+no_script_17 : IsScript [] (reserved k.For "for" ∷ a k.LeftParenthesis ∷ reserved k.Let "let" ∷ w "a" ∷ a k.Comma ∷ w "a" ∷ a k.Semicolon ∷ a k.Semicolon ∷ a k.RightParenthesis ∷ a k.Semicolon ∷ []) (statements (for_lexical false (declarators (declarator (codes "a") omitted ∷ declarator (codes "a") omitted ∷ [])) omitted omitted empty ∷ []))
+    → ⊥
 no_script_17 h = cc
 
 -- const a
-no_script_18 : IsScript [] (reserved k.Const "const" ∷ w "a" ∷ []) (statements (lexical true (declarators (declarator (codes "a") omitted ∷ [])) ∷ [])) → ⊥
+no_script_18 : IsScript [] (reserved k.Const "const" ∷ w "a" ∷ []) (statements (lexical true (declarators (declarator (codes "a") omitted ∷ [])) ∷ []))
+    → ⊥
 no_script_18 h = cc
 
 -- break outside of a loop
@@ -228,27 +244,33 @@ no_script_19 : IsScript [] (reserved k.Break "break" ∷ []) (statements (break 
 no_script_19 h = cc
 
 -- for (;;) { () => { break; } }: the loop is outside of the function
-no_script_20 : IsScript [] (reserved k.For "for" ∷ a k.LeftParenthesis ∷ a k.Semicolon ∷ a k.Semicolon ∷ a k.RightParenthesis ∷ a k.LeftBrace ∷ a k.LeftParenthesis ∷ a k.RightParenthesis ∷ a k.Arrow ∷ a k.LeftBrace ∷ reserved k.Break "break" ∷ a k.Semicolon ∷ a k.RightBrace ∷ a k.RightBrace ∷ []) (statements (for omitted omitted omitted (block (statements (expression (arrow_block (name_list []) (statements (break ∷ []))) ∷ []))) ∷ [])) → ⊥
+no_script_20 : IsScript [] (reserved k.For "for" ∷ a k.LeftParenthesis ∷ a k.Semicolon ∷ a k.Semicolon ∷ a k.RightParenthesis ∷ a k.LeftBrace ∷ a k.LeftParenthesis ∷ a k.RightParenthesis ∷ a k.Arrow ∷ a k.LeftBrace ∷ reserved k.Break "break" ∷ a k.Semicolon ∷ a k.RightBrace ∷ a k.RightBrace ∷ []) (statements (for omitted omitted omitted (block (statements (expression (arrow_block (name_list []) (statements (break ∷ []))) ∷ []))) ∷ []))
+    → ⊥
 no_script_20 h = cc
 
 -- try {}
-no_script_21 : IsScript [] (reserved k.Try "try" ∷ a k.LeftBrace ∷ a k.RightBrace ∷ []) (statements (try (statements []) no_catch no_finally ∷ [])) → ⊥
+no_script_21 : IsScript [] (reserved k.Try "try" ∷ a k.LeftBrace ∷ a k.RightBrace ∷ []) (statements (try (statements []) no_catch no_finally ∷ []))
+    → ⊥
 no_script_21 h = cc
 
 -- try {} catch (e) { let e; }
-no_script_22 : IsScript [] (reserved k.Try "try" ∷ a k.LeftBrace ∷ a k.RightBrace ∷ reserved k.Catch "catch" ∷ a k.LeftParenthesis ∷ w "e" ∷ a k.RightParenthesis ∷ a k.LeftBrace ∷ reserved k.Let "let" ∷ w "e" ∷ a k.Semicolon ∷ a k.RightBrace ∷ []) (statements (try (statements []) (catch (Some (codes "e")) (statements (lexical false (declarators (declarator (codes "e") omitted ∷ [])) ∷ []))) no_finally ∷ [])) → ⊥
+no_script_22 : IsScript [] (reserved k.Try "try" ∷ a k.LeftBrace ∷ a k.RightBrace ∷ reserved k.Catch "catch" ∷ a k.LeftParenthesis ∷ w "e" ∷ a k.RightParenthesis ∷ a k.LeftBrace ∷ reserved k.Let "let" ∷ w "e" ∷ a k.Semicolon ∷ a k.RightBrace ∷ []) (statements (try (statements []) (catch (Some (codes "e")) (statements (lexical false (declarators (declarator (codes "e") omitted ∷ [])) ∷ []))) no_finally ∷ []))
+    → ⊥
 no_script_22 h = cc
 
 -- function f(a) { let a; }
-no_script_23 : IsScript [] (reserved k.Function "function" ∷ w "f" ∷ a k.LeftParenthesis ∷ w "a" ∷ a k.RightParenthesis ∷ a k.LeftBrace ∷ reserved k.Let "let" ∷ w "a" ∷ a k.Semicolon ∷ a k.RightBrace ∷ []) (statements (declared_function (codes "f") ((codes "a") ∷ []) (statements (lexical false (declarators (declarator (codes "a") omitted ∷ [])) ∷ [])) ∷ [])) → ⊥
+no_script_23 : IsScript [] (reserved k.Function "function" ∷ w "f" ∷ a k.LeftParenthesis ∷ w "a" ∷ a k.RightParenthesis ∷ a k.LeftBrace ∷ reserved k.Let "let" ∷ w "a" ∷ a k.Semicolon ∷ a k.RightBrace ∷ []) (statements (declared_function (codes "f") ((codes "a") ∷ []) (statements (lexical false (declarators (declarator (codes "a") omitted ∷ [])) ∷ [])) ∷ []))
+    → ⊥
 no_script_23 h = cc
 
 -- {a}: a block, no object
-no_script_24 : IsScript [] (a k.LeftBrace ∷ w "a" ∷ a k.RightBrace ∷ []) (statements (expression (object (properties (shorthand (codes "a") ∷ []))) ∷ [])) → ⊥
+no_script_24 : IsScript [] (a k.LeftBrace ∷ w "a" ∷ a k.RightBrace ∷ []) (statements (expression (object (properties (shorthand (codes "a") ∷ []))) ∷ []))
+    → ⊥
 no_script_24 h = cc
 
 -- function f() {}: a declaration, no expression
-no_script_25 : IsScript [] (reserved k.Function "function" ∷ w "f" ∷ a k.LeftParenthesis ∷ a k.RightParenthesis ∷ a k.LeftBrace ∷ a k.RightBrace ∷ []) (statements (expression (function (Some (codes "f")) [] (statements [])) ∷ [])) → ⊥
+no_script_25 : IsScript [] (reserved k.Function "function" ∷ w "f" ∷ a k.LeftParenthesis ∷ a k.RightParenthesis ∷ a k.LeftBrace ∷ a k.RightBrace ∷ []) (statements (expression (function (Some (codes "f")) [] (statements [])) ∷ []))
+    → ⊥
 no_script_25 h = cc
 
 -- a b
@@ -256,19 +278,23 @@ no_script_26 : IsScript [] (w "a" ∷ w "b" ∷ []) (statements (expression (v "
 no_script_26 h = grind arith
 
 -- a - b - c: from the left
-no_expression_1 : IsExpression (w "a" ∷ a k.Minus ∷ w "b" ∷ a k.Minus ∷ w "c" ∷ []) (binary binaries.Subtract (v "a") (binary binaries.Subtract (v "b") (v "c"))) → ⊥
+no_expression_1 : IsExpression (w "a" ∷ a k.Minus ∷ w "b" ∷ a k.Minus ∷ w "c" ∷ []) (binary binaries.Subtract (v "a") (binary binaries.Subtract (v "b") (v "c")))
+    → ⊥
 no_expression_1 h = omega arith
 
 -- a = b = c: from the right
-no_expression_2 : IsExpression (w "a" ∷ a k.Assign ∷ w "b" ∷ a k.Assign ∷ w "c" ∷ []) (assign assigns.Assign (assign assigns.Assign (v "a") (v "b")) (v "c")) → ⊥
+no_expression_2 : IsExpression (w "a" ∷ a k.Assign ∷ w "b" ∷ a k.Assign ∷ w "c" ∷ []) (assign assigns.Assign (assign assigns.Assign (v "a") (v "b")) (v "c"))
+    → ⊥
 no_expression_2 h = cc
 
 -- a * b + c: * binds tighter
-no_expression_3 : IsExpression (w "a" ∷ a k.Multiply ∷ w "b" ∷ a k.Plus ∷ w "c" ∷ []) (binary binaries.Multiply (v "a") (binary binaries.Add (v "b") (v "c"))) → ⊥
+no_expression_3 : IsExpression (w "a" ∷ a k.Multiply ∷ w "b" ∷ a k.Plus ∷ w "c" ∷ []) (binary binaries.Multiply (v "a") (binary binaries.Add (v "b") (v "c")))
+    → ⊥
 no_expression_3 h = omega arith
 
 -- 1 + a => 1
-no_expression_4 : IsExpression (d 1 ∷ a k.Plus ∷ w "a" ∷ a k.Arrow ∷ d 1 ∷ []) (binary binaries.Add (number 1) (arrow (one_name (codes "a")) (number 1))) → ⊥
+no_expression_4 : IsExpression (d 1 ∷ a k.Plus ∷ w "a" ∷ a k.Arrow ∷ d 1 ∷ []) (binary binaries.Add (number 1) (arrow (one_name (codes "a")) (number 1)))
+    → ⊥
 no_expression_4 h = omega arith
 
 -- a LF => 1
@@ -276,47 +302,58 @@ no_expression_5 : IsExpression (w "a" ∷ nl (a k.Arrow) ∷ d 1 ∷ []) (arrow 
 no_expression_5 h = cc
 
 -- (a, a) => 1
-no_expression_6 : IsExpression (a k.LeftParenthesis ∷ w "a" ∷ a k.Comma ∷ w "a" ∷ a k.RightParenthesis ∷ a k.Arrow ∷ d 1 ∷ []) (arrow (name_list ((codes "a") ∷ (codes "a") ∷ [])) (number 1)) → ⊥
+no_expression_6 : IsExpression (a k.LeftParenthesis ∷ w "a" ∷ a k.Comma ∷ w "a" ∷ a k.RightParenthesis ∷ a k.Arrow ∷ d 1 ∷ []) (arrow (name_list ((codes "a") ∷ (codes "a") ∷ [])) (number 1))
+    → ⊥
 no_expression_6 h = cc
 
 -- x => { let x; }
-no_expression_7 : IsExpression (w "x" ∷ a k.Arrow ∷ a k.LeftBrace ∷ reserved k.Let "let" ∷ w "x" ∷ a k.Semicolon ∷ a k.RightBrace ∷ []) (arrow_block (one_name (codes "x")) (statements (lexical false (declarators (declarator (codes "x") omitted ∷ [])) ∷ []))) → ⊥
+no_expression_7 : IsExpression (w "x" ∷ a k.Arrow ∷ a k.LeftBrace ∷ reserved k.Let "let" ∷ w "x" ∷ a k.Semicolon ∷ a k.RightBrace ∷ []) (arrow_block (one_name (codes "x")) (statements (lexical false (declarators (declarator (codes "x") omitted ∷ [])) ∷ [])))
+    → ⊥
 no_expression_7 h = cc
 
 -- () => {}: braces of statements
-no_expression_8 : IsExpression (a k.LeftParenthesis ∷ a k.RightParenthesis ∷ a k.Arrow ∷ a k.LeftBrace ∷ a k.RightBrace ∷ []) (arrow (name_list []) (object (properties []))) → ⊥
+no_expression_8 : IsExpression (a k.LeftParenthesis ∷ a k.RightParenthesis ∷ a k.Arrow ∷ a k.LeftBrace ∷ a k.RightBrace ∷ []) (arrow (name_list []) (object (properties [])))
+    → ⊥
 no_expression_8 h = cc
 
 -- (a,): a comma list has no trailing comma
-no_expression_9 : IsExpression (a k.LeftParenthesis ∷ w "a" ∷ a k.Comma ∷ a k.RightParenthesis ∷ []) (parenthesized (comma (expressions (v "a" ∷ [])))) → ⊥
+no_expression_9 : IsExpression (a k.LeftParenthesis ∷ w "a" ∷ a k.Comma ∷ a k.RightParenthesis ∷ []) (parenthesized (comma (expressions (v "a" ∷ []))))
+    → ⊥
 no_expression_9 h = cc
 
 -- (a, b) = 1
-no_expression_10 : IsExpression (a k.LeftParenthesis ∷ w "a" ∷ a k.Comma ∷ w "b" ∷ a k.RightParenthesis ∷ a k.Assign ∷ d 1 ∷ []) (assign assigns.Assign (parenthesized (comma (expressions (v "a" ∷ v "b" ∷ [])))) (number 1)) → ⊥
+no_expression_10 : IsExpression (a k.LeftParenthesis ∷ w "a" ∷ a k.Comma ∷ w "b" ∷ a k.RightParenthesis ∷ a k.Assign ∷ d 1 ∷ []) (assign assigns.Assign (parenthesized (comma (expressions (v "a" ∷ v "b" ∷ [])))) (number 1))
+    → ⊥
 no_expression_10 h = cc
 
 -- f() = 1
-no_expression_11 : IsExpression (w "f" ∷ a k.LeftParenthesis ∷ a k.RightParenthesis ∷ a k.Assign ∷ d 1 ∷ []) (assign assigns.Assign (call (v "f") (expressions [])) (number 1)) → ⊥
+no_expression_11 : IsExpression (w "f" ∷ a k.LeftParenthesis ∷ a k.RightParenthesis ∷ a k.Assign ∷ d 1 ∷ []) (assign assigns.Assign (call (v "f") (expressions [])) (number 1))
+    → ⊥
 no_expression_11 h = cc
 
 -- ++f()
-no_expression_12 : IsExpression (a k.Increment ∷ w "f" ∷ a k.LeftParenthesis ∷ a k.RightParenthesis ∷ []) (prefix updates.Increment (call (v "f") (expressions []))) → ⊥
+no_expression_12 : IsExpression (a k.Increment ∷ w "f" ∷ a k.LeftParenthesis ∷ a k.RightParenthesis ∷ []) (prefix updates.Increment (call (v "f") (expressions [])))
+    → ⊥
 no_expression_12 h = cc
 
 -- delete (a)
-no_expression_13 : IsExpression (reserved k.Delete "delete" ∷ a k.LeftParenthesis ∷ w "a" ∷ a k.RightParenthesis ∷ []) (unary unaries.Delete (parenthesized (v "a"))) → ⊥
+no_expression_13 : IsExpression (reserved k.Delete "delete" ∷ a k.LeftParenthesis ∷ w "a" ∷ a k.RightParenthesis ∷ []) (unary unaries.Delete (parenthesized (v "a")))
+    → ⊥
 no_expression_13 h = cc
 
 -- delete a.b()
-no_expression_14 : IsExpression (reserved k.Delete "delete" ∷ w "a" ∷ a k.Dot ∷ w "b" ∷ a k.LeftParenthesis ∷ a k.RightParenthesis ∷ []) (unary unaries.Delete (call (member (v "a") (codes "b")) (expressions []))) → ⊥
+no_expression_14 : IsExpression (reserved k.Delete "delete" ∷ w "a" ∷ a k.Dot ∷ w "b" ∷ a k.LeftParenthesis ∷ a k.RightParenthesis ∷ []) (unary unaries.Delete (call (member (v "a") (codes "b")) (expressions [])))
+    → ⊥
 no_expression_14 h = cc
 
 -- [a,,b]
-no_expression_15 : IsExpression (a k.LeftBracket ∷ w "a" ∷ a k.Comma ∷ a k.Comma ∷ w "b" ∷ a k.RightBracket ∷ []) (array (expressions (v "a" ∷ v "b" ∷ []))) → ⊥
+no_expression_15 : IsExpression (a k.LeftBracket ∷ w "a" ∷ a k.Comma ∷ a k.Comma ∷ w "b" ∷ a k.RightBracket ∷ []) (array (expressions (v "a" ∷ v "b" ∷ [])))
+    → ⊥
 no_expression_15 h = cc
 
 -- f(,)
-no_expression_16 : IsExpression (w "f" ∷ a k.LeftParenthesis ∷ a k.Comma ∷ a k.RightParenthesis ∷ []) (call (v "f") (expressions [])) → ⊥
+no_expression_16 : IsExpression (w "f" ∷ a k.LeftParenthesis ∷ a k.Comma ∷ a k.RightParenthesis ∷ []) (call (v "f") (expressions []))
+    → ⊥
 no_expression_16 h = cc
 
 -- a.1
@@ -324,7 +361,8 @@ no_expression_17 : IsExpression (w "a" ∷ a k.Dot ∷ d 1 ∷ []) (member (v "a
 no_expression_17 h = cc
 
 -- ({if})
-no_expression_18 : IsExpression (a k.LeftParenthesis ∷ a k.LeftBrace ∷ reserved k.If "if" ∷ a k.RightBrace ∷ a k.RightParenthesis ∷ []) (parenthesized (object (properties (shorthand (codes "if") ∷ [])))) → ⊥
+no_expression_18 : IsExpression (a k.LeftParenthesis ∷ a k.LeftBrace ∷ reserved k.If "if" ∷ a k.RightBrace ∷ a k.RightParenthesis ∷ []) (parenthesized (object (properties (shorthand (codes "if") ∷ []))))
+    → ⊥
 no_expression_18 h = cc
 
 -- let
@@ -338,14 +376,16 @@ function_1 = record { form = refl; well = search rules; spelled = search rules }
 function_2 : IsFunction (w "x" ∷ a k.Arrow ∷ d 1 ∷ []) (arrow (one_name (codes "x")) (number 1))
 function_2 = record { form = refl; well = search rules; spelled = search rules }
 
-no_function : IsFunction (a k.LeftParenthesis ∷ w "x" ∷ a k.Arrow ∷ d 1 ∷ a k.RightParenthesis ∷ []) (parenthesized (arrow (one_name (codes "x")) (number 1))) → ⊥
+no_function : IsFunction (a k.LeftParenthesis ∷ w "x" ∷ a k.Arrow ∷ d 1 ∷ a k.RightParenthesis ∷ []) (parenthesized (arrow (one_name (codes "x")) (number 1)))
+    → ⊥
 no_function h = cc
 
 -- let b; where an earlier script declares a, and let a; there
 script_after : IsScript (codes "a" ∷ []) (reserved k.Let "let" ∷ w "b" ∷ a k.Semicolon ∷ []) (statements (lexical false (declarators (declarator (codes "b") omitted ∷ [])) ∷ []))
 script_after = record { well = search rules; spelled = search rules }
 
-no_script_after : IsScript (codes "a" ∷ []) (reserved k.Let "let" ∷ w "a" ∷ a k.Semicolon ∷ []) (statements (lexical false (declarators (declarator (codes "a") omitted ∷ [])) ∷ [])) → ⊥
+no_script_after : IsScript (codes "a" ∷ []) (reserved k.Let "let" ∷ w "a" ∷ a k.Semicolon ∷ []) (statements (lexical false (declarators (declarator (codes "a") omitted ∷ [])) ∷ []))
+    → ⊥
 no_script_after h = cc
 
 -- ---- flat tokens

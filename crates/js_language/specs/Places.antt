@@ -95,7 +95,8 @@ finally_if_some (Some ps) = plain (a kinds.Finally) ++ ps
 -- ---- one level of each type, with the pieces of its parts in their places
 
 -- a level of a tree whose parts are the places that they have
-abbrev pub Pieces : (Type 0 → Type 0 → Type 0 → Type 0 → Type 0 → Type 0 → Type 0 → Type 0 → Type 0 → Type 0 → Type 0 → Type 0) → Type 0
+abbrev pub Pieces : (Type 0 → Type 0 → Type 0 → Type 0 → Type 0 → Type 0 → Type 0 → Type 0 → Type 0 → Type 0 → Type 0 → Type 0)
+    → Type 0
 Pieces F = F (List Place) (List Place) (List Place) (List Place) (List Place) (List Place) (List Place) (List Place) (List Place) (List Place) (List Place)
 
 -- the places of an expression

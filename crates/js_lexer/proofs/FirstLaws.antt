@@ -46,7 +46,12 @@ agree_behind [] us vs a = a
 agree_behind (c ∷ front) us vs a = inr (front ++ us, refl, agree_behind front us vs a)
 
 -- what the next unit of the first isn't, and no blank is, the next unit of the second isn't
-agree_next : (p : ℕ → Bool) → ((line : Bool) → p (blank_before line) ≡ false) → (us vs : List ℕ) → Agree us vs → begins p us ≡ false → begins p vs ≡ false
+agree_next : (p : ℕ → Bool)
+    → ((line : Bool) → p (blank_before line) ≡ false)
+    → (us vs : List ℕ)
+    → Agree us vs
+    → begins p us ≡ false
+    → begins p vs ≡ false
 agree_next p h us [] a e = refl
 agree_next p h us (c ∷ cs) (inl b) e = ap p b.1 ∙ h b.0
 agree_next p h us (c ∷ cs) (inr r) e = sym (ap (begins p) r.1) ∙ e
@@ -74,7 +79,11 @@ no_blank false c s e = let is : 32 ≡ c = eqb-true 32 c e in absurd (solid_is c
     solid_is c is s = let no : false ≡ true = rw is at s in cc
 
 -- what begins the second also begins the first
-agree_begins : (t us vs : List ℕ) → is_solid t ≡ true → Agree us vs → is_prefix_of t vs ≡ true → is_prefix_of t us ≡ true
+agree_begins : (t us vs : List ℕ)
+    → is_solid t ≡ true
+    → Agree us vs
+    → is_prefix_of t vs ≡ true
+    → is_prefix_of t us ≡ true
 agree_begins [] us vs s a e = refl
 agree_begins (c ∷ t) us [] s a e = absurd cc
 agree_begins (c ∷ t) us (v ∷ vs) s (inl b) e =
@@ -86,7 +95,14 @@ agree_begins (c ∷ t) us (v ∷ vs) s (inr r) e =
     let q = and_parts (eqb v c) (is_prefix_of t vs) e in
     subst (λ (us : List ℕ). is_prefix_of (c ∷ t) us ≡ true) (sym r.1) (rw (q.0, agree_begins t r.0 vs p.1 r.2 q.1) refl)
 
-no_comment_by : (us vs : List ℕ) → Agree us vs → opens_comment us ≡ false → (x : Bool) → is_prefix_of (codes "//") vs ≡ x → (y : Bool) → is_prefix_of (codes "/*") vs ≡ y → (x || y) ≡ false
+no_comment_by : (us vs : List ℕ)
+    → Agree us vs
+    → opens_comment us ≡ false
+    → (x : Bool)
+    → is_prefix_of (codes "//") vs ≡ x
+    → (y : Bool)
+    → is_prefix_of (codes "/*") vs ≡ y
+    → (x || y) ≡ false
 no_comment_by us vs a o true p y q = let b = agree_begins (codes "//") us vs refl a p in let no : true ≡ false = rw b at o in cc
 no_comment_by us vs a o false p true q = either_false (is_prefix_of (codes "//") us) (is_prefix_of (codes "/*") us) (agree_begins (codes "/*") us vs refl a q) o
   where
@@ -100,7 +116,10 @@ agree_comment us vs a o = no_comment_by us vs a o (is_prefix_of (codes "//") vs)
 
 -- ---- the token at the front
 
-first_same : (p : ℕ → Bool) (n : ℕ) (here vs : List ℕ) → 0 < n → n ≤ length here → begins p (take n here ++ vs) ≡ begins p here
+first_same : (p : ℕ → Bool) (n : ℕ) (here vs : List ℕ)
+    → 0 < n
+    → n ≤ length here
+    → begins p (take n here ++ vs) ≡ begins p here
 first_same p zero here vs some within = absurd (omega arith)
 first_same p (suc n) [] vs some within = absurd (omega arith)
 first_same p (suc n) (c ∷ here) vs some within = refl
@@ -119,7 +138,10 @@ Again here vs found = Agree (drop found.1 here) vs → token_at (take found.1 he
 abbrev Within : List ℕ → ℕ → Type 0
 Within here n = (0 < n) × (n ≤ length here)
 
-word_again : (here vs : List ℕ) → begins is_word_start here ≡ true → Within here (leading is_word_part here) → Again here vs (kind_in reserved_words (take (leading is_word_part here) here), leading is_word_part here)
+word_again : (here vs : List ℕ)
+    → begins is_word_start here ≡ true
+    → Within here (leading is_word_part here)
+    → Again here vs (kind_in reserved_words (take (leading is_word_part here) here), leading is_word_part here)
 unfolding token_at
 word_again here vs s w a =
     let n = leading is_word_part here in
@@ -129,7 +151,13 @@ word_again here vs s w a =
     let is : token_at (t ++ vs) ≡ found (kind_in reserved_words t) (length t) = rw (start, l, take-append_seam t vs) refl in
     is ∙ ap (λ n. found (kind_in reserved_words t) n) (taken n here w.1)
 
-number_again : (here vs : List ℕ) → begins is_word_start here ≡ false → begins is_digit here ≡ true → Within here (leading is_word_part here) → is_some (number_of (take (leading is_word_part here) here)) ≡ true → begins goes_on (drop (leading is_word_part here) here) ≡ false → Again here vs (Number, leading is_word_part here)
+number_again : (here vs : List ℕ)
+    → begins is_word_start here ≡ false
+    → begins is_digit here ≡ true
+    → Within here (leading is_word_part here)
+    → is_some (number_of (take (leading is_word_part here) here)) ≡ true
+    → begins goes_on (drop (leading is_word_part here) here) ≡ false
+    → Again here vs (Number, leading is_word_part here)
 unfolding token_at
 number_again here vs s d w some ends a =
     let n = leading is_word_part here in
@@ -152,16 +180,29 @@ same_mark j k t u l m e =
     let is : Some x ≡ Some y = sym (mark_alone j t [] l tt) ∙ (ap (λ (t : List ℕ). token_at (t ++ [])) e ∙ mark_alone k u [] m tt) in
     ap (λ (z : TokenKind × ℕ). z.0) (some_same x y is)
 
-same_front : (t u here : List ℕ) → here ≡ t ++ drop (length t) here → here ≡ u ++ drop (length u) here → length t ≡ length u → t ≡ u
+same_front : (t u here : List ℕ)
+    → here ≡ t ++ drop (length t) here
+    → here ≡ u ++ drop (length u) here
+    → length t ≡ length u
+    → t ≡ u
 same_front t u here p q e = sym (take-append_seam t (drop (length t) here)) ∙ (ap (take (length t)) (sym p) ∙ (ap (λ n. take n here) e ∙ (ap (take (length u)) q ∙ take-append_seam u (drop (length u) here))))
 
-mark_by : (here vs : List ℕ) (k : TokenKind) (n : ℕ) → Firsts punctuators here (Some (k, n)) → Agree (drop n here) vs → (o : Option (TokenKind × ℕ)) → Firsts punctuators (take n here ++ vs) o → o ≡ found k n
+mark_by : (here vs : List ℕ) (k : TokenKind) (n : ℕ)
+    → Firsts punctuators here (Some (k, n))
+    → Agree (drop n here) vs
+    → (o : Option (TokenKind × ℕ))
+    → Firsts punctuators (take n here ++ vs) o
+    → o ≡ found k n
 mark_by here vs k n f a o h =
     let front : take n here ≡ f.text = ap (λ n. take n here) (sym f.len) ∙ ap (take (length f.text)) f.here ∙ take-append_seam f.text (drop (length f.text) here) in
     let begin : is_prefix_of f.text (take n here ++ vs) ≡ true = ap (λ (t : List ℕ). is_prefix_of f.text (t ++ vs)) front ∙ prefix_self f.text vs in
     by_found front begin o h
   where
-    by_found : take n here ≡ f.text → is_prefix_of f.text (take n here ++ vs) ≡ true → (o : Option (TokenKind × ℕ)) → Firsts punctuators (take n here ++ vs) o → o ≡ found k n
+    by_found : take n here ≡ f.text
+        → is_prefix_of f.text (take n here ++ vs) ≡ true
+        → (o : Option (TokenKind × ℕ))
+        → Firsts punctuators (take n here ++ vs) o
+        → o ≡ found k n
     by_found front begin None h = absurd (h.none (k, f.text) f.listed begin)
     by_found front begin (Some x) h =
         let low : length f.text ≤ x.1 = h.longest punctuators_descend (k, f.text) f.listed begin in
@@ -174,7 +215,14 @@ mark_by here vs k n f a o h =
         let kind : x.0 ≡ k = same_mark x.0 k h.text f.text h.listed f.listed text in
         rw (kind, same) refl
 
-mark_again : (here vs : List ℕ) (k : TokenKind) (n : ℕ) → begins is_word_start here ≡ false → begins is_digit here ≡ false → begins is_quote here ≡ false → opens_comment here ≡ false → Within here n → first_in punctuators here ≡ found k n → Again here vs (k, n)
+mark_again : (here vs : List ℕ) (k : TokenKind) (n : ℕ)
+    → begins is_word_start here ≡ false
+    → begins is_digit here ≡ false
+    → begins is_quote here ≡ false
+    → opens_comment here ≡ false
+    → Within here n
+    → first_in punctuators here ≡ found k n
+    → Again here vs (k, n)
 unfolding token_at
 mark_again here vs k n s d q o w e a =
     let us = take n here ++ vs in
@@ -185,11 +233,17 @@ mark_again here vs k n s d q o w e a =
     let f : Firsts punctuators here (found k n) = subst (λ (o : Option (TokenKind × ℕ)). Firsts punctuators here o) e (first_is punctuators here) in
     rw (start, digit, quote, agree_comment here us agree o) (mark_by here vs k n f a (first_in punctuators us) (first_is punctuators us))
 
-string_again : (here vs : List ℕ) (k : TokenKind) (n : ℕ) → begins is_quote here ≡ true → string_token here ≡ found k n → Again here vs (k, n)
+string_again : (here vs : List ℕ) (k : TokenKind) (n : ℕ)
+    → begins is_quote here ≡ true
+    → string_token here ≡ found k n
+    → Again here vs (k, n)
 string_again [] vs k n q e a = absurd cc
 string_again (c ∷ us) vs k n q e a = by_test (begins (λ d. eqb d c) (drop (run (character_len c) 0 us) us)) refl e
   where
-    by_test : (b : Bool) → begins (λ d. eqb d c) (drop (run (character_len c) 0 us) us) ≡ b → cond b (found String (run (character_len c) 0 us + 2)) None ≡ found k n → token_at (take n (c ∷ us) ++ vs) ≡ found k n
+    by_test : (b : Bool)
+        → begins (λ d. eqb d c) (drop (run (character_len c) 0 us) us) ≡ b
+        → cond b (found String (run (character_len c) 0 us + 2)) None ≡ found k n
+        → token_at (take n (c ∷ us) ++ vs) ≡ found k n
     by_test true b e =
         let l = literal_found c (run (character_len c) 0 us) us q refl b in
         let x : TokenKind × ℕ = (String, run (character_len c) 0 us + 2) in
@@ -199,7 +253,14 @@ string_again (c ∷ us) vs k n q e a = by_test (begins (λ d. eqb d c) (drop (ru
         subst (λ (z : TokenKind × ℕ). token_at (take z.1 (c ∷ us) ++ vs) ≡ Some z) is here
     by_test false b e = absurd cc
 
-by_number : (here vs : List ℕ) (k : TokenKind) (n : ℕ) → Within here n → begins is_word_start here ≡ false → begins is_digit here ≡ true → (b : Bool) → (is_some (number_of (take (leading is_word_part here) here)) && not (begins goes_on (drop (leading is_word_part here) here))) ≡ b → cond b (found Number (leading is_word_part here)) None ≡ found k n → Again here vs (k, n)
+by_number : (here vs : List ℕ) (k : TokenKind) (n : ℕ)
+    → Within here n
+    → begins is_word_start here ≡ false
+    → begins is_digit here ≡ true
+    → (b : Bool)
+    → (is_some (number_of (take (leading is_word_part here) here)) && not (begins goes_on (drop (leading is_word_part here) here))) ≡ b
+    → cond b (found Number (leading is_word_part here)) None ≡ found k n
+    → Again here vs (k, n)
 by_number here vs k n w s d true t e =
     let x : TokenKind × ℕ = (Number, leading is_word_part here) in
     let y : TokenKind × ℕ = (k, n) in
@@ -214,8 +275,17 @@ token_again here vs k n e =
     let f = longest_here here k n e in
     by_tests (f.1, f.0) (begins is_word_start here) refl (begins is_digit here) refl (begins is_quote here) refl (opens_comment here) refl e
   where
-    by_tests : Within here n → (a : Bool) → begins is_word_start here ≡ a → (b : Bool) → begins is_digit here ≡ b → (q : Bool) → begins is_quote here ≡ q → (c : Bool) → opens_comment here ≡ c
-        → cond a (word_token (leading is_word_part here) here) (cond b (number_token (leading is_word_part here) here) (cond q (string_token here) (cond c None (first_in punctuators here)))) ≡ found k n → Again here vs (k, n)
+    by_tests : Within here n
+        → (a : Bool)
+        → begins is_word_start here ≡ a
+        → (b : Bool)
+        → begins is_digit here ≡ b
+        → (q : Bool)
+        → begins is_quote here ≡ q
+        → (c : Bool)
+        → opens_comment here ≡ c
+        → cond a (word_token (leading is_word_part here) here) (cond b (number_token (leading is_word_part here) here) (cond q (string_token here) (cond c None (first_in punctuators here)))) ≡ found k n
+        → Again here vs (k, n)
     by_tests w true s b d q f c g e =
         let x : TokenKind × ℕ = (kind_in reserved_words (take (leading is_word_part here) here), leading is_word_part here) in
         let y : TokenKind × ℕ = (k, n) in
@@ -237,11 +307,17 @@ ends_again : (l us vs : List ℕ) → ends_line us ≡ ends_line vs → ends_lin
 ends_again [] us vs e = e
 ends_again (c ∷ l) us vs e = refl
 
-each_again : (ts : List (List ℕ)) (us vs : List ℕ) → ends_line us ≡ ends_line vs → Each (λ text more. IsGapPiece text more) ts us → Each (λ text more. IsGapPiece text more) ts vs
+each_again : (ts : List (List ℕ)) (us vs : List ℕ)
+    → ends_line us ≡ ends_line vs
+    → Each (λ text more. IsGapPiece text more) ts us
+    → Each (λ text more. IsGapPiece text more) ts vs
 each_again [] us vs e h = tt
 each_again (t ∷ ts) us vs e h = (piece_again t (concat ts ++ us) (concat ts ++ vs) (ends_again (concat ts) us vs e) h.0, each_again ts us vs e h.1)
 
-gap_again : (us vs : List ℕ) → ends_line (drop (gap_len us) us) ≡ ends_line vs → gap_piece vs ≡ 0 → gap_len (take (gap_len us) us ++ vs) ≡ length (take (gap_len us) us)
+gap_again : (us vs : List ℕ)
+    → ends_line (drop (gap_len us) us) ≡ ends_line vs
+    → gap_piece vs ≡ 0
+    → gap_len (take (gap_len us) us ++ vs) ≡ length (take (gap_len us) us)
 unfolding gap_len
 gap_again us vs e z =
     let m = (gap_is us).made in
@@ -268,13 +344,17 @@ record Cut (at : ℕ) (us : List ℕ) (before : List Lent) : Type 0 where
   parts : us ≡ front ++ rest
   -- the last of them ends here
   place : at + length front ≡ end_after at before
-  again : (more : List ℕ) → Breaks more → items (suc (length (front ++ more))) at (front ++ more) ≡ tokens_then before (items (suc (length more)) (at + length front) more)
+  again : (more : List ℕ)
+      → Breaks more
+      → items (suc (length (front ++ more))) at (front ++ more) ≡ tokens_then before (items (suc (length more)) (at + length front) more)
 
 abbrev token_here : ℕ → List ℕ → TokenKind → ℕ → Lent
 token_here at us k n = record { kind = k; text = take n (drop (gap_len us) us); start = at + gap_len us; newline_before = has_line_terminator (take (gap_len us) us) }
 
 -- one token again, with what comes behind it
-step_again : (at : ℕ) (us vs : List ℕ) (k : TokenKind) (n : ℕ) → token_at (drop (gap_len us) us) ≡ found k n → Agree (drop n (drop (gap_len us) us)) vs
+step_again : (at : ℕ) (us vs : List ℕ) (k : TokenKind) (n : ℕ)
+    → token_at (drop (gap_len us) us) ≡ found k n
+    → Agree (drop n (drop (gap_len us) us)) vs
     → items (suc (length (take (gap_len us) us ++ (take n (drop (gap_len us) us) ++ vs)))) at (take (gap_len us) us ++ (take n (drop (gap_len us) us) ++ vs)) ≡ Ok (token_here at us k n) ∷ items (suc (length vs)) (at + gap_len us + n) vs
 step_again at us vs k n e a =
     let g = gap_len us in
@@ -295,7 +375,10 @@ step_again at us vs k n e a =
     let there : token_at (drop (gap_len all) all) ≡ found k n = rw (gap, dropped) token in
     rw (gap, dropped, kept, text, left) at (one_more at all (k, n) there)
 
-cut_token : (at : ℕ) (us : List ℕ) (k : TokenKind) (n : ℕ) (bs : List Lent) → token_at (drop (gap_len us) us) ≡ found k n → Cut (at + gap_len us + n) (drop n (drop (gap_len us) us)) bs → Cut at us (token_here at us k n ∷ bs)
+cut_token : (at : ℕ) (us : List ℕ) (k : TokenKind) (n : ℕ) (bs : List Lent)
+    → token_at (drop (gap_len us) us) ≡ found k n
+    → Cut (at + gap_len us + n) (drop n (drop (gap_len us) us)) bs
+    → Cut at us (token_here at us k n ∷ bs)
 cut_token at us k n bs e c =
     let g = gap_len us in
     let here = drop g us in
@@ -319,14 +402,19 @@ cut_token at us k n bs e c =
           subst (λ (l : List ℕ). items (suc (length l)) at l ≡ tokens_then (token_here at us k n ∷ bs) left) (sym (joined more)) whole;
     }
 
-none_first : (at : ℕ) (us : List ℕ) (b : Lent) (is : List (Result Lent ℕ)) → token_at (drop (gap_len us) us) ≡ None → items (suc (length us)) at us ≡ Ok b ∷ is → ⊥
+none_first : (at : ℕ) (us : List ℕ) (b : Lent) (is : List (Result Lent ℕ))
+    → token_at (drop (gap_len us) us) ≡ None
+    → items (suc (length us)) at us ≡ Ok b ∷ is
+    → ⊥
 none_first at us b is h e = by_rest (drop (gap_len us) us) refl
   where
     by_rest : (r : List ℕ) → drop (gap_len us) us ≡ r → ⊥
     by_rest [] p = let none = no_more at us h (ap (λ (l : List ℕ). length l) p) in cc
     by_rest (u ∷ r) p = let bad = bad_one at us h (rw p (omega arith)) in cc
 
-cut_by : (at : ℕ) (us : List ℕ) (b : Lent) (bs : List Lent) (left : List (Result Lent ℕ)) → items (suc (length us)) at us ≡ Ok b ∷ tokens_then bs left → ((at : ℕ) (us : List ℕ) → items (suc (length us)) at us ≡ tokens_then bs left → Cut at us bs)
+cut_by : (at : ℕ) (us : List ℕ) (b : Lent) (bs : List Lent) (left : List (Result Lent ℕ))
+    → items (suc (length us)) at us ≡ Ok b ∷ tokens_then bs left
+    → ((at : ℕ) (us : List ℕ) → items (suc (length us)) at us ≡ tokens_then bs left → Cut at us bs)
     → (o : Option (TokenKind × ℕ)) → token_at (drop (gap_len us) us) ≡ o → Cut at us (b ∷ bs)
 cut_by at us b bs left e go None h = absurd (none_first at us b (tokens_then bs left) h e)
 cut_by at us b bs left e go (Some t) h =
@@ -336,12 +424,17 @@ cut_by at us b bs left e go (Some t) h =
     let later : items (suc (length rest)) (at + gap_len us + t.1) rest ≡ tokens_then bs left = cc in
     subst (λ (b : Lent). Cut at us (b ∷ bs)) first (cut_token at us t.0 t.1 bs h (go (at + gap_len us + t.1) rest later))
 
-cut : (before : List Lent) (at : ℕ) (us : List ℕ) (left : List (Result Lent ℕ)) → items (suc (length us)) at us ≡ tokens_then before left → Cut at us before
+cut : (before : List Lent) (at : ℕ) (us : List ℕ) (left : List (Result Lent ℕ))
+    → items (suc (length us)) at us ≡ tokens_then before left
+    → Cut at us before
 cut [] at us left e = record { front = []; rest = us; parts = refl; place = omega arith; again = λ more b. ap (λ at. items (suc (length more)) at more) (omega arith) }
 cut (b ∷ bs) at us left e = cut_by at us b bs left e (λ at us e. cut bs at us left e) (token_at (drop (gap_len us) us)) refl
 
-pub first_tokens : (source : List ℕ) (before : List Lent) (left : List (Result Lent ℕ)) → items_of source ≡ tokens_then before left
-    → (ts : List Written) → AreTokens ts → items_of (take (end_after 0 before) source ++ written ts) ≡ tokens_then before (lent (end_after 0 before) ts)
+pub first_tokens : (source : List ℕ) (before : List Lent) (left : List (Result Lent ℕ))
+    → items_of source ≡ tokens_then before left
+    → (ts : List Written)
+    → AreTokens ts
+    → items_of (take (end_after 0 before) source ++ written ts) ≡ tokens_then before (lent (end_after 0 before) ts)
 first_tokens source before left e ts h =
     let c = cut before 0 source left e in
     let place : 0 + length c.front ≡ end_after 0 before = c.place in

@@ -95,11 +95,18 @@ quote_no_mark (u ∷ us) e f = no_quote (is_word_part u) (is_quote u) e f
     no_quote false false e f = cc
 
 -- no word and no number begins with a quote
-pub quote_first : (us : List ℕ) → begins is_quote us ≡ true → (begins is_word_start us ≡ false) × (begins is_digit us ≡ false)
+pub quote_first : (us : List ℕ)
+    → begins is_quote us ≡ true
+    → (begins is_word_start us ≡ false) × (begins is_digit us ≡ false)
 quote_first [] e = absurd cc
 quote_first (u ∷ us) e = by_tests (eqb u 34) refl (eqb u 39) refl e
   where
-    by_tests : (a : Bool) → eqb u 34 ≡ a → (b : Bool) → eqb u 39 ≡ b → (a || b) ≡ true → (is_word_start u ≡ false) × (is_digit u ≡ false)
+    by_tests : (a : Bool)
+        → eqb u 34 ≡ a
+        → (b : Bool)
+        → eqb u 39 ≡ b
+        → (a || b) ≡ true
+        → (is_word_start u ≡ false) × (is_digit u ≡ false)
     by_tests true f b g e = rw (eqb-true u 34 f) (refl, refl)
     by_tests false f true g e = rw (eqb-true u 39 g) (refl, refl)
     by_tests false f false g e = absurd cc
@@ -121,7 +128,9 @@ abbrev Front : List ℕ → Option (TokenKind × ℕ) → Type 0
 Front us None = NoFront us
 Front us (Some found) = IsFront us found.0 found.1
 
-word_taken : (us : List ℕ) → begins is_word_start us ≡ true → (0 < leading is_word_part us) × (is_word (take (leading is_word_part us) us) ≡ true)
+word_taken : (us : List ℕ)
+    → begins is_word_start us ≡ true
+    → (0 < leading is_word_part us) × (is_word (take (leading is_word_part us) us) ≡ true)
 word_taken [] e = absurd cc
 word_taken (u ∷ us) e = rw (e, e) (omega arith, leading_all is_word_part us)
 
@@ -145,10 +154,19 @@ word_front us b = let w = word_taken us b in record {
 }
 
 -- a number that stands here has just the units that a word could hold
-number_len : (us t m : List ℕ) → us ≡ t ++ m → IsNumber t → begins goes_on m ≡ false → leading is_word_part us ≡ length t
+number_len : (us t m : List ℕ)
+    → us ≡ t ++ m
+    → IsNumber t
+    → begins goes_on m ≡ false
+    → leading is_word_part us ≡ length t
 number_len us t m p h f = ap (leading is_word_part) p ∙ leading_exact is_word_part t m (number_parts t h) (number_ends m f)
 
-digit_shape : (us : List ℕ) → begins is_digit us ≡ true → (t m : List ℕ) → us ≡ t ++ m → Shape t m → IsNumber t × (begins goes_on m ≡ false)
+digit_shape : (us : List ℕ)
+    → begins is_digit us ≡ true
+    → (t m : List ℕ)
+    → us ≡ t ++ m
+    → Shape t m
+    → IsNumber t × (begins goes_on m ≡ false)
 digit_shape us b t m p (a_word w) = absurd (start_no_digit us (subst (λ (l : List ℕ). begins is_word_start l ≡ true) (sym p) (begins_front is_word_start t m (word_begins t w))) b)
 digit_shape us b t m p (a_number h f) = (h, f)
 digit_shape us b t m p (a_string h) =
@@ -167,7 +185,13 @@ digit_taken (u ∷ us) e = by_start (is_word_start u)
 number_front : (us : List ℕ) → begins is_digit us ≡ true → Front us (number_token (leading is_word_part us) us)
 number_front us b = by_tests (leading is_word_part us) refl (is_some (number_of (take (leading is_word_part us) us))) refl (begins goes_on (drop (leading is_word_part us) us)) refl
   where
-    no_such : (n : ℕ) → leading is_word_part us ≡ n → (t m : List ℕ) → us ≡ t ++ m → IsNumber t × (begins goes_on m ≡ false) → (is_some (number_of (take n us)) ≡ false) ⊎ (begins goes_on (drop n us) ≡ true) → ⊥
+    no_such : (n : ℕ)
+        → leading is_word_part us ≡ n
+        → (t m : List ℕ)
+        → us ≡ t ++ m
+        → IsNumber t × (begins goes_on m ≡ false)
+        → (is_some (number_of (take n us)) ≡ false) ⊎ (begins goes_on (drop n us) ≡ true)
+        → ⊥
     no_such n l t m p h e =
         let len : n ≡ length t = sym l ∙ number_len us t m p h.0 h.1 in
         let front : take n us ≡ t = ap (λ n. take n us) len ∙ ap (take (length t)) p ∙ take-append_seam t m in
@@ -185,7 +209,13 @@ number_front us b = by_tests (leading is_word_part us) refl (is_some (number_of 
               )
         ]
 
-    by_tests : (n : ℕ) → leading is_word_part us ≡ n → (s : Bool) → is_some (number_of (take n us)) ≡ s → (g : Bool) → begins goes_on (drop n us) ≡ g → Front us (cond (s && not g) (Some (Number, n)) None)
+    by_tests : (n : ℕ)
+        → leading is_word_part us ≡ n
+        → (s : Bool)
+        → is_some (number_of (take n us)) ≡ s
+        → (g : Bool)
+        → begins goes_on (drop n us) ≡ g
+        → Front us (cond (s && not g) (Some (Number, n)) None)
     by_tests n l true e false f = record {
       within = omega (arith, leading_within is_word_part us);
       some = omega (arith, digit_taken us b);
@@ -211,7 +241,11 @@ string_front : (us : List ℕ) → begins is_quote us ≡ true → Front us (str
 string_front [] b = absurd cc
 string_front (q ∷ us) b = by_end (run (character_len q) 0 us) refl (begins (λ c. eqb c q) (drop (run (character_len q) 0 us) us)) refl
   where
-    by_end : (n : ℕ) → run (character_len q) 0 us ≡ n → (e : Bool) → begins (λ c. eqb c q) (drop n us) ≡ e → Front (q ∷ us) (cond e (Some (String, n + 2)) None)
+    by_end : (n : ℕ)
+        → run (character_len q) 0 us ≡ n
+        → (e : Bool)
+        → begins (λ c. eqb c q) (drop n us) ≡ e
+        → Front (q ∷ us) (cond e (Some (String, n + 2)) None)
     by_end n r true e =
         let f = literal_found q n us b r e in
         record {
@@ -227,7 +261,14 @@ string_front (q ∷ us) b = by_end (run (character_len q) 0 us) refl (begins (λ
           cc;
     }
 
-mark_shape : (us : List ℕ) → begins is_word_start us ≡ false → begins is_digit us ≡ false → begins is_quote us ≡ false → (t m : List ℕ) → us ≡ t ++ m → Shape t m → (k : TokenKind) × IsListed (k, t) punctuators
+mark_shape : (us : List ℕ)
+    → begins is_word_start us ≡ false
+    → begins is_digit us ≡ false
+    → begins is_quote us ≡ false
+    → (t m : List ℕ)
+    → us ≡ t ++ m
+    → Shape t m
+    → (k : TokenKind) × IsListed (k, t) punctuators
 mark_shape us a b q t m p (a_word w) =
     let x : begins is_word_start us ≡ true = subst (λ (l : List ℕ). begins is_word_start l ≡ true) (sym p) (begins_front is_word_start t m (word_begins t w)) in
     absurd cc
@@ -243,7 +284,11 @@ some_mark : (t : List ℕ) → begins is_mark t ≡ true → 0 < length t
 some_mark [] e = absurd cc
 some_mark (c ∷ t) e = omega arith
 
-punctuator_front : (us : List ℕ) → begins is_word_start us ≡ false → begins is_digit us ≡ false → begins is_quote us ≡ false → Front us (first_in punctuators us)
+punctuator_front : (us : List ℕ)
+    → begins is_word_start us ≡ false
+    → begins is_digit us ≡ false
+    → begins is_quote us ≡ false
+    → Front us (first_in punctuators us)
 punctuator_front us a b q = by_found (first_in punctuators us) (first_is punctuators us)
   where
     stands : (t m : List ℕ) → us ≡ t ++ m → is_prefix_of t us ≡ true
@@ -265,7 +310,14 @@ token_front : (us : List ℕ) → opens_comment us ≡ false → Front us (token
 unfolding token_at
 token_front us o = by_tests (begins is_word_start us) refl (begins is_digit us) refl (begins is_quote us) refl (opens_comment us) o
   where
-    by_tests : (a : Bool) → begins is_word_start us ≡ a → (b : Bool) → begins is_digit us ≡ b → (q : Bool) → begins is_quote us ≡ q → (c : Bool) → c ≡ false
+    by_tests : (a : Bool)
+        → begins is_word_start us ≡ a
+        → (b : Bool)
+        → begins is_digit us ≡ b
+        → (q : Bool)
+        → begins is_quote us ≡ q
+        → (c : Bool)
+        → c ≡ false
         → Front us (cond a (word_token (leading is_word_part us) us) (cond b (number_token (leading is_word_part us) us) (cond q (string_token us) (cond c None (first_in punctuators us)))))
     by_tests true e b f q h c g = word_front us e
     by_tests false e true f q h c g = number_front us f
@@ -278,7 +330,9 @@ slash_opens : (a x y : Bool) → ((a && x) || (a && y)) ≡ true → a ≡ true
 slash_opens true x y e = refl
 slash_opens false x y e = cc
 
-comment_first : (us : List ℕ) → opens_comment us ≡ true → (begins is_word_start us ≡ false) × (begins is_digit us ≡ false) × (begins is_quote us ≡ false)
+comment_first : (us : List ℕ)
+    → opens_comment us ≡ true
+    → (begins is_word_start us ≡ false) × (begins is_digit us ≡ false) × (begins is_quote us ≡ false)
 comment_first [] e = absurd cc
 comment_first (u ∷ us) e =
     let h : u ≡ 47 = eqb-true u 47 (slash_opens (eqb u 47) (is_prefix_of (47 ∷ []) us) (is_prefix_of (42 ∷ []) us) e) in
@@ -290,10 +344,14 @@ none_at_comment us o = let f = comment_first us o in rw (f.0, f.1, f.2, o) refl
 
 -- ---- the longest token
 
-pub longest_here : (us : List ℕ) (k : TokenKind) (n : ℕ) → token_at us ≡ Some (k, n) → (n ≤ length us) × (0 < n) × (opens_comment us ≡ false) × IsLongest k (take n us) (drop n us)
+pub longest_here : (us : List ℕ) (k : TokenKind) (n : ℕ)
+    → token_at us ≡ Some (k, n)
+    → (n ≤ length us) × (0 < n) × (opens_comment us ≡ false) × IsLongest k (take n us) (drop n us)
 longest_here us k n e = by_comment (opens_comment us) refl
   where
-    by_comment : (b : Bool) → opens_comment us ≡ b → (n ≤ length us) × (0 < n) × (opens_comment us ≡ false) × IsLongest k (take n us) (drop n us)
+    by_comment : (b : Bool)
+        → opens_comment us ≡ b
+        → (n ≤ length us) × (0 < n) × (opens_comment us ≡ false) × IsLongest k (take n us) (drop n us)
     by_comment true o = let f = none_at_comment us o in absurd cc
     by_comment false o =
         let f : IsFront us k n = subst (λ (x : Option (TokenKind × ℕ)). Front us x) e (token_front us o) in

@@ -19,11 +19,16 @@ use Rattle.js_lexer.proofs.RunLemmas.{Finds, Knows}
 -- ---- what follows /* up to */
 
 -- where the first */ stands, it stands
-pub close_at : (us : List ℕ) → before_close us < length us → drop (before_close us) us ≡ codes "*/" ++ drop (suc (suc (before_close us))) us
+pub close_at : (us : List ℕ)
+    → before_close us < length us
+    → drop (before_close us) us ≡ codes "*/" ++ drop (suc (suc (before_close us))) us
 close_at [] h = absurd (omega arith)
 close_at (u ∷ us) h = by_test (λ l. close_at us l) (is_prefix_of (codes "*/") (u ∷ us)) refl h
   where
-    by_test : (before_close us < length us → drop (before_close us) us ≡ codes "*/" ++ drop (suc (suc (before_close us))) us) → (b : Bool) → is_prefix_of (codes "*/") (u ∷ us) ≡ b → cond b 0 (suc (before_close us)) < suc (length us)
+    by_test : (before_close us < length us → drop (before_close us) us ≡ codes "*/" ++ drop (suc (suc (before_close us))) us)
+        → (b : Bool)
+        → is_prefix_of (codes "*/") (u ∷ us) ≡ b
+        → cond b 0 (suc (before_close us)) < suc (length us)
         → drop (cond b 0 (suc (before_close us))) (u ∷ us) ≡ codes "*/" ++ drop (suc (suc (cond b 0 (suc (before_close us))))) (u ∷ us)
     by_test go true e l = prefix_is (codes "*/") (u ∷ us) e
     by_test go false e l = go (omega arith)
@@ -45,7 +50,12 @@ close_first : (us before after : List ℕ) → take (before_close us) us ≡ bef
 close_first [] before after e = nothing_in before after e
 close_first (u ∷ us) before after e = by_test (λ b a f. close_first us b a f) (is_prefix_of (codes "*/") (u ∷ us)) refl before e
   where
-    by_test : ((b a : List ℕ) → take (before_close us) us ≡ b ++ (codes "*/" ++ a) → ⊥) → (c : Bool) → is_prefix_of (codes "*/") (u ∷ us) ≡ c → (before : List ℕ) → take (cond c 0 (suc (before_close us))) (u ∷ us) ≡ before ++ (codes "*/" ++ after) → ⊥
+    by_test : ((b a : List ℕ) → take (before_close us) us ≡ b ++ (codes "*/" ++ a) → ⊥)
+        → (c : Bool)
+        → is_prefix_of (codes "*/") (u ∷ us) ≡ c
+        → (before : List ℕ)
+        → take (cond c 0 (suc (before_close us))) (u ∷ us) ≡ before ++ (codes "*/" ++ after)
+        → ⊥
     by_test go true e before f = nothing_in before after f
     by_test go false e [] f =
         let h : u ≡ 42 = cc in
@@ -54,17 +64,26 @@ close_first (u ∷ us) before after e = by_test (λ b a f. close_first us b a f)
         cc
     by_test go false e (b ∷ before) f = go before after cc
 
-close_exact : (body m : List ℕ) → ((before after : List ℕ) → body ≡ before ++ (codes "*/" ++ after) → ⊥) → before_close (body ++ (codes "*/" ++ m)) ≡ length body
+close_exact : (body m : List ℕ)
+    → ((before after : List ℕ) → body ≡ before ++ (codes "*/" ++ after) → ⊥)
+    → before_close (body ++ (codes "*/" ++ m)) ≡ length body
 close_exact [] m h = refl
 close_exact (b ∷ body) m h = by_test (close_exact body m (λ before after e. h (b ∷ before) after (ap (λ l. b ∷ l) e))) (is_prefix_of (codes "*/") (b ∷ (body ++ (codes "*/" ++ m)))) refl
   where
-    second : (body : List ℕ) → ((before after : List ℕ) → b ∷ body ≡ before ++ (codes "*/" ++ after) → ⊥) → b ≡ 42 → is_prefix_of (47 ∷ []) (body ++ (codes "*/" ++ m)) ≡ true → ⊥
+    second : (body : List ℕ)
+        → ((before after : List ℕ) → b ∷ body ≡ before ++ (codes "*/" ++ after) → ⊥)
+        → b ≡ 42
+        → is_prefix_of (47 ∷ []) (body ++ (codes "*/" ++ m)) ≡ true
+        → ⊥
     second [] h e f = cc
     second (c ∷ cs) h e f =
         let g : c ≡ 47 = eqb-true c 47 (and_parts (eqb c 47) true f).0 in
         h [] cs cc
 
-    by_test : before_close (body ++ (codes "*/" ++ m)) ≡ length body → (c : Bool) → is_prefix_of (codes "*/") (b ∷ (body ++ (codes "*/" ++ m))) ≡ c → cond c 0 (suc (before_close (body ++ (codes "*/" ++ m)))) ≡ suc (length body)
+    by_test : before_close (body ++ (codes "*/" ++ m)) ≡ length body
+        → (c : Bool)
+        → is_prefix_of (codes "*/") (b ∷ (body ++ (codes "*/" ++ m))) ≡ c
+        → cond c 0 (suc (before_close (body ++ (codes "*/" ++ m)))) ≡ suc (length body)
     by_test go true e =
         let a = and_parts (eqb b 42) (is_prefix_of (47 ∷ []) (body ++ (codes "*/" ++ m))) e in
         absurd (second body h (eqb-true b 42 a.0) a.1)
@@ -79,7 +98,10 @@ none_from_all : (p : ℕ → Bool) (us : List ℕ) → list_all (λ c. not (p c)
 none_from_all p [] e = refl
 none_from_all p (u ∷ us) e = by_test (λ f. none_from_all p us f) (p u) (and_parts (not (p u)) (list_all (λ c. not (p c)) us) e)
   where
-    by_test : (list_all (λ c. not (p c)) us ≡ true → list_any p us ≡ false) → (b : Bool) → (not b ≡ true) × (list_all (λ c. not (p c)) us ≡ true) → (b || list_any p us) ≡ false
+    by_test : (list_all (λ c. not (p c)) us ≡ true → list_any p us ≡ false)
+        → (b : Bool)
+        → (not b ≡ true) × (list_all (λ c. not (p c)) us ≡ true)
+        → (b || list_any p us) ≡ false
     by_test go true a = absurd (let x = a.0 in cc)
     by_test go false a = go a.1
 
@@ -87,7 +109,10 @@ all_from_none : (p : ℕ → Bool) (us : List ℕ) → list_any p us ≡ false �
 all_from_none p [] e = refl
 all_from_none p (u ∷ us) e = by_test (λ f. all_from_none p us f) (p u) e
   where
-    by_test : (list_any p us ≡ false → list_all (λ c. not (p c)) us ≡ true) → (b : Bool) → (b || list_any p us) ≡ false → (not b && list_all (λ c. not (p c)) us) ≡ true
+    by_test : (list_any p us ≡ false → list_all (λ c. not (p c)) us ≡ true)
+        → (b : Bool)
+        → (b || list_any p us) ≡ false
+        → (not b && list_all (λ c. not (p c)) us) ≡ true
     by_test go true e = absurd cc
     by_test go false e = go e
 
@@ -128,7 +153,11 @@ blank_found : (us : List ℕ) → begins is_blank us ≡ true → Found us 1
 blank_found [] e = absurd cc
 blank_found (u ∷ us) e = (omega arith, blank u refl e)
 
-finds_by : (us : List ℕ) (n : ℕ) (a b c d : Bool) → begins is_blank us ≡ a → is_prefix_of (codes "//") us ≡ b → is_prefix_of (codes "/*") us ≡ c → ltb (before_close (drop 2 us)) (length (drop 2 us)) ≡ d
+finds_by : (us : List ℕ) (n : ℕ) (a b c d : Bool)
+    → begins is_blank us ≡ a
+    → is_prefix_of (codes "//") us ≡ b
+    → is_prefix_of (codes "/*") us ≡ c
+    → ltb (before_close (drop 2 us)) (length (drop 2 us)) ≡ d
     → cond a 1 (cond b (line_len us) (cond c (cond d (before_close (drop 2 us) + 4) 0) 0)) ≡ suc n → Found us (suc n)
 finds_by us n true b c d p q r s e = subst (λ (k : ℕ). Found us k) e (blank_found us p)
 finds_by us n false true c d p q r s e =
@@ -148,7 +177,10 @@ gap_finds us n e = finds_by us n (begins is_blank us) (is_prefix_of (codes "//")
 abbrev Known : List ℕ → List ℕ → Type 0
 Known t m = (0 < length t) × (gap_piece (t ++ m) ≡ length t)
 
-line_known : (body m : List ℕ) → list_any is_line_terminator body ≡ false → ends_line m ≡ true → Known (47 ∷ 47 ∷ body) m
+line_known : (body m : List ℕ)
+    → list_any is_line_terminator body ≡ false
+    → ends_line m ≡ true
+    → Known (47 ∷ 47 ∷ body) m
 line_known body m e f = (
   omega arith,
   omega (arith, leading_exact (λ c. not (is_line_terminator c)) body m (all_from_none is_line_terminator body e) (line_ended m f)),
@@ -157,7 +189,9 @@ line_known body m e f = (
 closed_len : (b n m t : ℕ) → n ≡ b + 2 + m → t ≡ b + 2 → cond (ltb b n) (b + 4) 0 ≡ suc (suc t)
 closed_len b n m t e f = grind (arith, nat_tests)
 
-block_known : (body m : List ℕ) → ((before after : List ℕ) → body ≡ before ++ (codes "*/" ++ after) → ⊥) → Known (47 ∷ 42 ∷ (body ++ codes "*/")) m
+block_known : (body m : List ℕ)
+    → ((before after : List ℕ) → body ≡ before ++ (codes "*/" ++ after) → ⊥)
+    → Known (47 ∷ 42 ∷ (body ++ codes "*/")) m
 block_known body m h =
     let e : before_close ((body ++ codes "*/") ++ m) ≡ length body = ap before_close (append_assoc body (codes "*/") m) ∙ close_exact body m h in
     let l : length ((body ++ codes "*/") ++ m) ≡ length body + 2 + length m = omega (arith, length-append (body ++ codes "*/") m, length-append body (codes "*/")) in (

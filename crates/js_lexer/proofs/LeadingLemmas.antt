@@ -8,7 +8,10 @@ pub leading_all : (p : ℕ → Bool) (us : List ℕ) → list_all p (take (leadi
 leading_all p [] = refl
 leading_all p (u ∷ us) = by_test (leading_all p us) (p u) refl
   where
-    by_test : list_all p (take (leading p us) us) ≡ true → (b : Bool) → p u ≡ b → list_all p (take (cond b (suc (leading p us)) 0) (u ∷ us)) ≡ true
+    by_test : list_all p (take (leading p us) us) ≡ true
+        → (b : Bool)
+        → p u ≡ b
+        → list_all p (take (cond b (suc (leading p us)) 0) (u ∷ us)) ≡ true
     by_test h true e = rw (e, h) refl
     by_test h false e = refl
 
@@ -32,12 +35,18 @@ pub leading_stops : (p : ℕ → Bool) (us : List ℕ) → begins p (drop (leadi
 leading_stops p [] = refl
 leading_stops p (u ∷ us) = by_test (leading_stops p us) (p u) refl
   where
-    by_test : begins p (drop (leading p us) us) ≡ false → (b : Bool) → p u ≡ b → begins p (drop (cond b (suc (leading p us)) 0) (u ∷ us)) ≡ false
+    by_test : begins p (drop (leading p us) us) ≡ false
+        → (b : Bool)
+        → p u ≡ b
+        → begins p (drop (cond b (suc (leading p us)) 0) (u ∷ us)) ≡ false
     by_test h true e = h
     by_test h false e = e
 
 -- units that pass, and behind them none that does
-pub leading_exact : (p : ℕ → Bool) (t m : List ℕ) → list_all p t ≡ true → begins p m ≡ false → leading p (t ++ m) ≡ length t
+pub leading_exact : (p : ℕ → Bool) (t m : List ℕ)
+    → list_all p t ≡ true
+    → begins p m ≡ false
+    → leading p (t ++ m) ≡ length t
 leading_exact p [] [] e f = refl
 leading_exact p [] (u ∷ m) e f = rw f refl
 leading_exact p (u ∷ t) m e f =

@@ -20,7 +20,10 @@ IsPart q text next = (value : Option ℕ) × IsCharacter q text value next
 parts_found : (q : ℕ) → Finds (IsPart q) (character_len q)
 parts_found q us n e = by_found (character_at q us) (good_character q us) e
   where
-    by_found : (o : Option Character) → Good q us o → found_len o ≡ suc n → (suc n ≤ length us) × IsPart q (take (suc n) us) (drop (suc n) us)
+    by_found : (o : Option Character)
+        → Good q us o
+        → found_len o ≡ suc n
+        → (suc n ≤ length us) × IsPart q (take (suc n) us) (drop (suc n) us)
     by_found None h e = absurd cc
     by_found (Some c) h e = subst (λ (k : ℕ). (k ≤ length us) × IsPart q (take k us) (drop k us)) e (h.1, (c.value, h.2))
 
@@ -33,7 +36,9 @@ same_first : (p : ℕ → Bool) (x a b : List ℕ) (c : ℕ) → begins p (x ++ 
 same_first p [] a b c = refl
 same_first p (u ∷ x) a b c = refl
 
-next_only : (q : ℕ) (t : List ℕ) (v : Option ℕ) (x a b : List ℕ) (c : ℕ) → IsCharacter q t v (x ++ (c ∷ a)) → IsCharacter q t v (x ++ (c ∷ b))
+next_only : (q : ℕ) (t : List ℕ) (v : Option ℕ) (x a b : List ℕ) (c : ℕ)
+    → IsCharacter q t v (x ++ (c ∷ a))
+    → IsCharacter q t v (x ++ (c ∷ b))
 next_only q t v x a b c (plain d e f g) = plain d e f g
 next_only q t v x a b c (continuation d e f g h) = continuation d e f g (rw (same_first (λ y. eqb y 10) x b a c) h)
 next_only q t v x a b c (both e f) = both e f
@@ -43,7 +48,9 @@ next_only q t v x a b c (hex d d' e f g) = hex d d' e f g
 next_only q t v x a b c (unit d d' d'' d3 e f g) = unit d d' d'' d3 e f g
 next_only q t v x a b c (code_point ds e f g h) = code_point ds e f g h
 
-parts_before : (q : ℕ) (ts : List (List ℕ)) (a b : List ℕ) (c : ℕ) → Each (IsPart q) ts (c ∷ a) → Each (IsPart q) ts (c ∷ b)
+parts_before : (q : ℕ) (ts : List (List ℕ)) (a b : List ℕ) (c : ℕ)
+    → Each (IsPart q) ts (c ∷ a)
+    → Each (IsPart q) ts (c ∷ b)
 parts_before q [] a b c h = tt
 parts_before q (t ∷ ts) a b c h = ((h.0.0, next_only q t h.0.0 (concat ts) a b c h.0.1), parts_before q ts a b c h.1)
 
@@ -64,7 +71,9 @@ with_values q (t ∷ ts) more h =
       each = (rw r.same h.0.1, r.each);
     }
 
-without_values : (q : ℕ) (cs : List Spelled) (more : List ℕ) → AreCharacters q cs more → Each (IsPart q) (map (λ c. c.text) cs) more
+without_values : (q : ℕ) (cs : List Spelled) (more : List ℕ)
+    → AreCharacters q cs more
+    → Each (IsPart q) (map (λ c. c.text) cs) more
 without_values q [] more h = tt
 without_values q (c ∷ cs) more h = ((c.value, h.0), without_values q cs more h.1)
 
@@ -79,13 +88,20 @@ pub decoded_stops : (q : ℕ) (us : List ℕ) → character_at q us ≡ None →
 decoded_stops q [] e = refl
 decoded_stops q (u ∷ us) e = ap (decoded_by (λ n. decoded q (n - 1) us)) e
 
-pub decoded_more : (q : ℕ) (us : List ℕ) (c : Character) → character_at q us ≡ Some c → 1 ≤ c.len → c.len ≤ length us → decoded q 0 us ≡ units_of c.value ++ decoded q 0 (drop c.len us)
+pub decoded_more : (q : ℕ) (us : List ℕ) (c : Character)
+    → character_at q us ≡ Some c
+    → 1 ≤ c.len
+    → c.len ≤ length us
+    → decoded q 0 us ≡ units_of c.value ++ decoded q 0 (drop c.len us)
 decoded_more q [] c e p l = absurd (omega arith)
 decoded_more q (u ∷ us) c e p l =
     let k : suc (c.len - 1) ≡ c.len = omega arith in
     ap (decoded_by (λ n. decoded q (n - 1) us)) e ∙ ap (λ w. units_of c.value ++ w) (decoded_skips q (c.len - 1) us (omega arith) ∙ ap (λ n. decoded q 0 (drop n (u ∷ us))) k)
 
-decoded_exact : (q : ℕ) (cs : List Spelled) (m : List ℕ) → AreCharacters q cs m → character_at q m ≡ None → decoded q 0 (spelling cs ++ m) ≡ concat (map (λ c. units_of c.value) cs)
+decoded_exact : (q : ℕ) (cs : List Spelled) (m : List ℕ)
+    → AreCharacters q cs m
+    → character_at q m ≡ None
+    → decoded q 0 (spelling cs ++ m) ≡ concat (map (λ c. units_of c.value) cs)
 decoded_exact q [] m h z = decoded_stops q m z
 decoded_exact q (c ∷ cs) m h z =
     let k = character_known q c.text c.value (spelling cs ++ m) h.0 in
@@ -114,7 +130,11 @@ literal_value text h = subst (λ (v : List ℕ). IsString text v) (sym (value_is
 -- ---- where a literal ends
 
 -- so many characters behind a quote, and then the quote, are a literal
-pub literal_found : (q n : ℕ) (us : List ℕ) → is_quote q ≡ true → run (character_len q) 0 us ≡ n → begins (λ c. eqb c q) (drop n us) ≡ true → (n + 2 ≤ length (q ∷ us)) × IsStringLiteral (take (n + 2) (q ∷ us))
+pub literal_found : (q n : ℕ) (us : List ℕ)
+    → is_quote q ≡ true
+    → run (character_len q) 0 us ≡ n
+    → begins (λ c. eqb c q) (drop n us) ≡ true
+    → (n + 2 ≤ length (q ∷ us)) × IsStringLiteral (take (n + 2) (q ∷ us))
 literal_found q n us e r f =
     let is : IsRun (IsPart q) (character_len q) us n = subst (λ (n : ℕ). IsRun (IsPart q) (character_len q) us n) r (run_is (IsPart q) (character_len q) (parts_found q) us) in
     let rest : drop n us ≡ q ∷ drop 1 (drop n us) = first_is q (drop n us) f in
@@ -138,7 +158,10 @@ literal_found q n us e r f =
     )
 
 -- its characters go up to its last quote
-literal_run : (q : ℕ) (cs : List Spelled) (m : List ℕ) → is_quote q ≡ true → AreCharacters q cs (q ∷ []) → run (character_len q) 0 (spelling cs ++ (q ∷ m)) ≡ length (spelling cs)
+literal_run : (q : ℕ) (cs : List Spelled) (m : List ℕ)
+    → is_quote q ≡ true
+    → AreCharacters q cs (q ∷ [])
+    → run (character_len q) 0 (spelling cs ++ (q ∷ m)) ≡ length (spelling cs)
 literal_run q cs m e h =
     run_exact (IsPart q) (character_len q) (parts_known q) (map (λ c. c.text) cs) (q ∷ m) (parts_before q (map (λ c. c.text) cs) [] m q (without_values q cs (q ∷ []) h)) (ap found_len (quote_ends q m e))
 
@@ -146,7 +169,10 @@ literal_run q cs m e h =
 abbrev EndsAt : ℕ → List ℕ → ℕ → Type 0
 EndsAt q us n = (n ≡ run (character_len q) 0 us + 2) × (begins (λ c. eqb c q) (drop (run (character_len q) 0 us) us) ≡ true)
 
-literal_ends : (q : ℕ) (cs : List Spelled) (m : List ℕ) → is_quote q ≡ true → AreCharacters q cs (q ∷ []) → EndsAt q (spelling cs ++ (q ∷ m)) (length (spelling cs) + 2)
+literal_ends : (q : ℕ) (cs : List Spelled) (m : List ℕ)
+    → is_quote q ≡ true
+    → AreCharacters q cs (q ∷ [])
+    → EndsAt q (spelling cs ++ (q ∷ m)) (length (spelling cs) + 2)
 literal_ends q cs m e h =
     let n = literal_run q cs m e h in
     let rest : drop (length (spelling cs)) (spelling cs ++ (q ∷ m)) ≡ q ∷ m = drop-append_seam (spelling cs) (q ∷ m) in

@@ -14,7 +14,11 @@ run_skips piece zero us h = omega arith
 run_skips piece (suc k) [] h = absurd (omega arith)
 run_skips piece (suc k) (u ∷ us) h = omega (arith, run_skips piece k us (omega arith))
 
-pub run_more : (piece : List ℕ → ℕ) (us : List ℕ) (n : ℕ) → piece us ≡ n → 0 < n → n ≤ length us → run piece 0 us ≡ n + run piece 0 (drop n us)
+pub run_more : (piece : List ℕ → ℕ) (us : List ℕ) (n : ℕ)
+    → piece us ≡ n
+    → 0 < n
+    → n ≤ length us
+    → run piece 0 us ≡ n + run piece 0 (drop n us)
 run_more piece [] n e p q = absurd (omega arith)
 run_more piece (u ∷ us) zero e p q = absurd (omega arith)
 run_more piece (u ∷ us) (suc n) e p q = ap (behind (λ n. run piece n us)) e ∙ omega (arith, run_skips piece n us (omega arith))
@@ -41,7 +45,10 @@ Finds P piece = (us : List ℕ) (n : ℕ) → piece us ≡ suc n → (suc n ≤ 
 abbrev pub Knows : (List ℕ → List ℕ → Type 0) → (List ℕ → ℕ) → Type 0
 Knows P piece = (t m : List ℕ) → P t m → (0 < length t) × (piece (t ++ m) ≡ length t)
 
-longer : (P : List ℕ → List ℕ → Type 0) (piece : List ℕ → ℕ) (us : List ℕ) (n k : ℕ) → P (take n us) (drop n us) → IsRun P piece (drop n us) k → IsRun P piece us (n + k)
+longer : (P : List ℕ → List ℕ → Type 0) (piece : List ℕ → ℕ) (us : List ℕ) (n k : ℕ)
+    → P (take n us) (drop n us)
+    → IsRun P piece (drop n us) k
+    → IsRun P piece us (n + k)
 longer P piece us n k p r =
     let e : drop k (drop n us) ≡ drop (n + k) us = drop-drop k n us in
     let whole : concat r.made.pieces ++ drop k (drop n us) ≡ drop n us = ap (λ l. l ++ drop k (drop n us)) (sym r.made.joined) ∙ take-append-drop k (drop n us) in
@@ -54,7 +61,12 @@ longer P piece us n k p r =
       ended = ap piece (sym e) ∙ r.ended;
     }
 
-run_by : (P : List ℕ → List ℕ → Type 0) (piece : List ℕ → ℕ) (us : List ℕ) → Finds P piece → ((r : List ℕ) → length r < length us → IsRun P piece r (run piece 0 r)) → (n : ℕ) → piece us ≡ n → IsRun P piece us (run piece 0 us)
+run_by : (P : List ℕ → List ℕ → Type 0) (piece : List ℕ → ℕ) (us : List ℕ)
+    → Finds P piece
+    → ((r : List ℕ) → length r < length us → IsRun P piece r (run piece 0 r))
+    → (n : ℕ)
+    → piece us ≡ n
+    → IsRun P piece us (run piece 0 us)
 run_by P piece us f h zero e =
     subst (λ (k : ℕ). IsRun P piece us k) (sym (run_stops piece us e)) (record { made = record { pieces = []; joined = refl; each = tt }; ended = e })
 run_by P piece us f h (suc n) e =
@@ -63,16 +75,28 @@ run_by P piece us f h (suc n) e =
     subst (λ (k : ℕ). IsRun P piece us k) (sym (run_more piece us (suc n) e (omega arith) l))
     (longer P piece us (suc n) (run piece 0 (drop (suc n) us)) found.1 (h (drop (suc n) us) (omega (arith, length-drop (suc n) us))))
 
-run_below : (P : List ℕ → List ℕ → Type 0) (piece : List ℕ → ℕ) → Finds P piece → (n : ℕ) (us : List ℕ) → length us < n → IsRun P piece us (run piece 0 us)
+run_below : (P : List ℕ → List ℕ → Type 0) (piece : List ℕ → ℕ)
+    → Finds P piece
+    → (n : ℕ) (us : List ℕ)
+    → length us < n
+    → IsRun P piece us (run piece 0 us)
 run_below P piece f zero us l = absurd (omega arith)
 run_below P piece f (suc n) us l = run_by P piece us f (λ r q. run_below P piece f n r (omega arith)) (piece us) refl
 
 -- the run at the front is made of pieces, and none stands behind it
-pub run_is : (P : List ℕ → List ℕ → Type 0) (piece : List ℕ → ℕ) → Finds P piece → (us : List ℕ) → IsRun P piece us (run piece 0 us)
+pub run_is : (P : List ℕ → List ℕ → Type 0) (piece : List ℕ → ℕ)
+    → Finds P piece
+    → (us : List ℕ)
+    → IsRun P piece us (run piece 0 us)
 run_is P piece f us = run_below P piece f (suc (length us)) us (omega arith)
 
 -- pieces in order, behind which none stands, are the run
-pub run_exact : (P : List ℕ → List ℕ → Type 0) (piece : List ℕ → ℕ) → Knows P piece → (ts : List (List ℕ)) (m : List ℕ) → Each P ts m → piece m ≡ 0 → run piece 0 (concat ts ++ m) ≡ length (concat ts)
+pub run_exact : (P : List ℕ → List ℕ → Type 0) (piece : List ℕ → ℕ)
+    → Knows P piece
+    → (ts : List (List ℕ)) (m : List ℕ)
+    → Each P ts m
+    → piece m ≡ 0
+    → run piece 0 (concat ts ++ m) ≡ length (concat ts)
 run_exact P piece k [] m h z = run_stops piece m z
 run_exact P piece k (t ∷ ts) m h z =
     let here = k t (concat ts ++ m) h.0 in

@@ -17,7 +17,11 @@ abbrev pub Entry : Type 0
 Entry = TokenKind × List ℕ
 
 -- what holds of each entry holds of one
-pub all_listed : (p : Entry → Bool) (table : List Entry) → list_all p table ≡ true → (e : Entry) → IsListed e table → p e ≡ true
+pub all_listed : (p : Entry → Bool) (table : List Entry)
+    → list_all p table ≡ true
+    → (e : Entry)
+    → IsListed e table
+    → p e ≡ true
 all_listed p [] h e l = absurd l
 all_listed p (x ∷ xs) h e (inl q) = ap p q ∙ (and_parts (p x) (list_all p xs) h).0
 all_listed p (x ∷ xs) h e (inr l) = all_listed p xs (and_parts (p x) (list_all p xs) h).1 e l
@@ -47,7 +51,10 @@ pub kind_is : (table : List Entry) (text : List ℕ) → IsKind table text (kind
 kind_is [] text = record { either = inr (refl, λ k h. h) }
 kind_is (e ∷ es) text = by_test (kind_is es text) (is_same e.1 text) refl
   where
-    by_test : IsKind es text (kind_in es text) → (b : Bool) → is_same e.1 text ≡ b → IsKind (e ∷ es) text (cond b e.0 (kind_in es text))
+    by_test : IsKind es text (kind_in es text)
+        → (b : Bool)
+        → is_same e.1 text ≡ b
+        → IsKind (e ∷ es) text (cond b e.0 (kind_in es text))
     by_test h true p = record { either = inl (inl (ap (λ (l : List ℕ). (e.0, l)) (same_is e.1 text p))) }
     by_test h false p = elim h.either [
       | inl l ↦ record { either = inl (inr l) }
@@ -79,7 +86,11 @@ pub record IsFirst (table : List Entry) (us : List ℕ) (found : TokenKind × �
   pub listed : IsListed (found.0, text) table
   pub here : us ≡ text ++ drop (length text) us
   pub len : length text ≡ found.1
-  pub longest : descends table ≡ true → (e : Entry) → IsListed e table → is_prefix_of e.1 us ≡ true → length e.1 ≤ found.1
+  pub longest : descends table ≡ true
+      → (e : Entry)
+      → IsListed e table
+      → is_prefix_of e.1 us ≡ true
+      → length e.1 ≤ found.1
 
 -- and where none stands here
 pub record IsNone (table : List Entry) (us : List ℕ) : Type 0 where
@@ -89,7 +100,9 @@ abbrev pub Firsts : List Entry → List ℕ → Option (TokenKind × ℕ) → Ty
 Firsts table us None = IsNone table us
 Firsts table us (Some found) = IsFirst table us found
 
-first_here : (e : Entry) (es : List Entry) (us : List ℕ) → is_prefix_of e.1 us ≡ true → IsFirst (e ∷ es) us (e.0, length e.1)
+first_here : (e : Entry) (es : List Entry) (us : List ℕ)
+    → is_prefix_of e.1 us ≡ true
+    → IsFirst (e ∷ es) us (e.0, length e.1)
 first_here e es us b = record {
   text = e.1;
   listed = inl refl;
@@ -101,7 +114,11 @@ first_here e es us b = record {
   ];
 }
 
-first_below : (e : Entry) (es : List Entry) (us : List ℕ) → is_prefix_of e.1 us ≡ false → (o : Option (TokenKind × ℕ)) → Firsts es us o → Firsts (e ∷ es) us o
+first_below : (e : Entry) (es : List Entry) (us : List ℕ)
+    → is_prefix_of e.1 us ≡ false
+    → (o : Option (TokenKind × ℕ))
+    → Firsts es us o
+    → Firsts (e ∷ es) us o
 first_below e es us b None h = record {
   none = λ f l p. elim l [
     | inl q ↦ (
@@ -129,7 +146,10 @@ pub first_is : (table : List Entry) (us : List ℕ) → Firsts table us (first_i
 first_is [] us = record { none = λ e l p. l }
 first_is (e ∷ es) us = by_test (first_is es us) (is_prefix_of e.1 us) refl
   where
-    by_test : Firsts es us (first_in es us) → (b : Bool) → is_prefix_of e.1 us ≡ b → Firsts (e ∷ es) us (cond b (Some (e.0, length e.1)) (first_in es us))
+    by_test : Firsts es us (first_in es us)
+        → (b : Bool)
+        → is_prefix_of e.1 us ≡ b
+        → Firsts (e ∷ es) us (cond b (Some (e.0, length e.1)) (first_in es us))
     by_test h true p = first_here e es us p
     by_test h false p = first_below e es us p (first_in es us) h
 

@@ -31,12 +31,18 @@ no_piece us text more z p h =
 token_some : (us : List ℕ) (t : TokenKind × ℕ) → token_at us ≡ Some t → (0 < t.1) × (t.1 ≤ length us)
 token_some us t e = let f = longest_here us t.0 t.1 e in (f.1, f.0)
 
-item_none : (go go' : ℕ → List ℕ → List (Result Lent ℕ)) (at : ℕ) (newline : Bool) (r : List ℕ) → item_by go at newline r None ≡ item_by go' at newline r None
+item_none : (go go' : ℕ → List ℕ → List (Result Lent ℕ)) (at : ℕ) (newline : Bool) (r : List ℕ)
+    → item_by go at newline r None ≡ item_by go' at newline r None
 item_none go go' at newline [] = refl
 item_none go go' at newline (u ∷ us) = refl
 
-past_by : (n m at g : ℕ) (newline : Bool) (us : List ℕ) → length us < suc n → length us < suc m → ((at : ℕ) (r : List ℕ) → length r < n → length r < m → items n at r ≡ items m at r)
-    → (o : Option (TokenKind × ℕ)) → token_at (drop g us) ≡ o → item_by (λ a r. items n a r) at newline (drop g us) o ≡ item_by (λ a r. items m a r) at newline (drop g us) o
+past_by : (n m at g : ℕ) (newline : Bool) (us : List ℕ)
+    → length us < suc n
+    → length us < suc m
+    → ((at : ℕ) (r : List ℕ) → length r < n → length r < m → items n at r ≡ items m at r)
+    → (o : Option (TokenKind × ℕ))
+    → token_at (drop g us) ≡ o
+    → item_by (λ a r. items n a r) at newline (drop g us) o ≡ item_by (λ a r. items m a r) at newline (drop g us) o
 past_by n m at g newline us p q h None e = item_none (λ a r. items n a r) (λ a r. items m a r) at newline (drop g us)
 past_by n m at g newline us p q h (Some t) e =
     let s = token_some (drop g us) t e in
@@ -48,19 +54,29 @@ items_past zero m at us p q = absurd (omega arith)
 items_past (suc n) zero at us p q = absurd (omega arith)
 items_past (suc n) (suc m) at us p q = past_by n m (at + gap_len us) (gap_len us) (has_line_terminator (take (gap_len us) us)) us p q (λ a r x y. items_past n m a r x y) (token_at (drop (gap_len us) us)) refl
 
-pub no_more : (at : ℕ) (us : List ℕ) → token_at (drop (gap_len us) us) ≡ None → length (drop (gap_len us) us) ≡ 0 → items (suc (length us)) at us ≡ []
+pub no_more : (at : ℕ) (us : List ℕ)
+    → token_at (drop (gap_len us) us) ≡ None
+    → length (drop (gap_len us) us) ≡ 0
+    → items (suc (length us)) at us ≡ []
 unfolding items
 no_more at us e z = rw e (nothing (λ a r. items (length us) a r) (at + gap_len us) (has_line_terminator (take (gap_len us) us)) (drop (gap_len us) us) z)
   where
-    nothing : (go : ℕ → List ℕ → List (Result Lent ℕ)) (at : ℕ) (newline : Bool) (r : List ℕ) → length r ≡ 0 → item_by go at newline r None ≡ []
+    nothing : (go : ℕ → List ℕ → List (Result Lent ℕ)) (at : ℕ) (newline : Bool) (r : List ℕ)
+        → length r ≡ 0
+        → item_by go at newline r None ≡ []
     nothing go at newline [] z = refl
     nothing go at newline (u ∷ us) z = absurd (omega arith)
 
-pub bad_one : (at : ℕ) (us : List ℕ) → token_at (drop (gap_len us) us) ≡ None → 0 < length (drop (gap_len us) us) → items (suc (length us)) at us ≡ Err (at + gap_len us) ∷ []
+pub bad_one : (at : ℕ) (us : List ℕ)
+    → token_at (drop (gap_len us) us) ≡ None
+    → 0 < length (drop (gap_len us) us)
+    → items (suc (length us)) at us ≡ Err (at + gap_len us) ∷ []
 unfolding items
 bad_one at us e z = rw e (bad (λ a r. items (length us) a r) (at + gap_len us) (has_line_terminator (take (gap_len us) us)) (drop (gap_len us) us) z)
   where
-    bad : (go : ℕ → List ℕ → List (Result Lent ℕ)) (at : ℕ) (newline : Bool) (r : List ℕ) → 0 < length r → item_by go at newline r None ≡ Err at ∷ []
+    bad : (go : ℕ → List ℕ → List (Result Lent ℕ)) (at : ℕ) (newline : Bool) (r : List ℕ)
+        → 0 < length r
+        → item_by go at newline r None ≡ Err at ∷ []
     bad go at newline [] z = absurd (omega arith)
     bad go at newline (u ∷ us) z = refl
 
@@ -74,8 +90,16 @@ one_more at us t e =
 
 -- ---- the tiles
 
-tile_by : (n at g : ℕ) (us : List ℕ) → length us < suc n → g ≤ length us → IsRun (λ text more. IsGapPiece text more) gap_piece us g → ((at : ℕ) (r : List ℕ) → length r < n → Tile at r (items n at r))
-    → (here : List ℕ) → drop g us ≡ here → (o : Option (TokenKind × ℕ)) → token_at here ≡ o → Tile at us (item_by (λ a r. items n a r) (at + g) (has_line_terminator (take g us)) here o)
+tile_by : (n at g : ℕ) (us : List ℕ)
+    → length us < suc n
+    → g ≤ length us
+    → IsRun (λ text more. IsGapPiece text more) gap_piece us g
+    → ((at : ℕ) (r : List ℕ) → length r < n → Tile at r (items n at r))
+    → (here : List ℕ)
+    → drop g us ≡ here
+    → (o : Option (TokenKind × ℕ))
+    → token_at here ≡ o
+    → Tile at us (item_by (λ a r. items n a r) (at + g) (has_line_terminator (take g us)) here o)
 tile_by n at g us lt w run h here p (Some t) e =
     let f = longest_here here t.0 t.1 e in
     let within : t.1 ≤ length here = f.0 in

@@ -48,7 +48,10 @@ found k n = Some (k, n)
 
 -- ---- words
 
-word_alone : (t more : List ℕ) → is_word t ≡ true → Breaks more → token_at (t ++ more) ≡ found (kind_in reserved_words t) (length t)
+word_alone : (t more : List ℕ)
+    → is_word t ≡ true
+    → Breaks more
+    → token_at (t ++ more) ≡ found (kind_in reserved_words t) (length t)
 unfolding token_at
 word_alone t more w b =
     let s : begins is_word_start (t ++ more) ≡ true = begins_front is_word_start t more (word_begins t w) in
@@ -77,11 +80,19 @@ number_alone t more h b =
     let n : leading is_word_part (t ++ more) ≡ length t = leading_exact is_word_part t more (number_parts t h) (no_part more b) in
     by_start (begins is_word_start (t ++ more)) refl d n
   where
-    by_start : (s : Bool) → begins is_word_start (t ++ more) ≡ s → begins is_digit (t ++ more) ≡ true → leading is_word_part (t ++ more) ≡ length t → token_at (t ++ more) ≡ found Number (length t)
+    by_start : (s : Bool)
+        → begins is_word_start (t ++ more) ≡ s
+        → begins is_digit (t ++ more) ≡ true
+        → leading is_word_part (t ++ more) ≡ length t
+        → token_at (t ++ more) ≡ found Number (length t)
     by_start true s d n = absurd (start_no_digit (t ++ more) s d)
     by_start false s d n = rw (s, d, n, take-append_seam t more, drop-append_seam t more, number_some t h, no_going_on more b) refl
 
-string_front : (q : ℕ) (us t m : List ℕ) → q ∷ us ≡ t ++ m → IsStringLiteral t → begins is_quote (q ∷ us) ≡ true → token_at (q ∷ us) ≡ found String (length t)
+string_front : (q : ℕ) (us t m : List ℕ)
+    → q ∷ us ≡ t ++ m
+    → IsStringLiteral t
+    → begins is_quote (q ∷ us) ≡ true
+    → token_at (q ∷ us) ≡ found String (length t)
 unfolding token_at
 string_front q us t m p h b =
     let f = quote_first (q ∷ us) b in
@@ -91,7 +102,10 @@ string_front q us t m p h b =
 pub string_alone : (t more : List ℕ) → IsStringLiteral t → token_at (t ++ more) ≡ found String (length t)
 string_alone t more h = by_first (t ++ more) refl (begins_front is_quote t more (literal_begins t h))
   where
-    by_first : (us : List ℕ) → us ≡ t ++ more → begins is_quote (t ++ more) ≡ true → token_at (t ++ more) ≡ found String (length t)
+    by_first : (us : List ℕ)
+        → us ≡ t ++ more
+        → begins is_quote (t ++ more) ≡ true
+        → token_at (t ++ more) ≡ found String (length t)
     by_first [] p b =
         let none : begins is_quote [] ≡ true = ap (begins is_quote) p ∙ b in
         absurd cc
@@ -113,12 +127,16 @@ marks_last : list_all (λ (e : Entry). is_found e (token_at (e.1 ++ []))) punctu
 unfolding token_at punctuators
 marks_last = refl
 
-marks_before : (line : Bool) (more : List ℕ) → list_all (λ (e : Entry). is_found e (token_at (e.1 ++ blank_before line ∷ more))) punctuators ≡ true
+marks_before : (line : Bool) (more : List ℕ)
+    → list_all (λ (e : Entry). is_found e (token_at (e.1 ++ blank_before line ∷ more))) punctuators ≡ true
 unfolding token_at punctuators
 marks_before true more = refl
 marks_before false more = refl
 
-pub mark_alone : (k : TokenKind) (t more : List ℕ) → IsListed (k, t) punctuators → Breaks more → token_at (t ++ more) ≡ found k (length t)
+pub mark_alone : (k : TokenKind) (t more : List ℕ)
+    → IsListed (k, t) punctuators
+    → Breaks more
+    → token_at (t ++ more) ≡ found k (length t)
 mark_alone k t [] l b = found_is (k, t) (token_at (t ++ [])) (all_listed (λ e. is_found e (token_at (e.1 ++ []))) punctuators marks_last (k, t) l)
 mark_alone k t (c ∷ more) l b =
     let line = b.0 in
@@ -145,7 +163,11 @@ digit_seen c e = grind (arith, nat_tests)
 quote_seen : (c : ℕ) → is_quote c ≡ true → is_blank c ≡ false
 quote_seen c e = grind (arith, nat_tests)
 
-seen_by : (p : ℕ → Bool) → ((c : ℕ) → p c ≡ true → is_blank c ≡ false) → (t : List ℕ) → begins p t ≡ true → begins is_blank t ≡ false
+seen_by : (p : ℕ → Bool)
+    → ((c : ℕ) → p c ≡ true → is_blank c ≡ false)
+    → (t : List ℕ)
+    → begins p t ≡ true
+    → begins is_blank t ≡ false
 seen_by p h [] e = refl
 seen_by p h (c ∷ t) e = h c e
 
@@ -171,7 +193,12 @@ seen_before (c ∷ t) more some e = e
 pub no_comment : (us : List ℕ) → opens_comment us ≡ false → begins is_blank us ≡ false → gap_piece us ≡ 0
 no_comment us o b = by_tests (is_prefix_of (codes "//") us) refl (is_prefix_of (codes "/*") us) refl o
   where
-    by_tests : (x : Bool) → is_prefix_of (codes "//") us ≡ x → (y : Bool) → is_prefix_of (codes "/*") us ≡ y → (x || y) ≡ false → gap_piece us ≡ 0
+    by_tests : (x : Bool)
+        → is_prefix_of (codes "//") us ≡ x
+        → (y : Bool)
+        → is_prefix_of (codes "/*") us ≡ y
+        → (x || y) ≡ false
+        → gap_piece us ≡ 0
     by_tests true p y q e = absurd cc
     by_tests false p true q e = absurd cc
     by_tests false p false q e = rw (b, p, q) refl
@@ -195,7 +222,9 @@ breaks (t ∷ ts) = (t.newline_before, refl)
 abbrev token_of : ℕ → Written → Result Lent ℕ
 token_of at t = Ok (record { kind = t.kind; text = t.text; start = at + 1; newline_before = t.newline_before })
 
-one_written : (at : ℕ) (t : Written) (more : List ℕ) → gap_len (blank_before t.newline_before ∷ (t.text ++ more)) ≡ 1 → token_at (t.text ++ more) ≡ found t.kind (length t.text)
+one_written : (at : ℕ) (t : Written) (more : List ℕ)
+    → gap_len (blank_before t.newline_before ∷ (t.text ++ more)) ≡ 1
+    → token_at (t.text ++ more) ≡ found t.kind (length t.text)
     → items (suc (length (blank_before t.newline_before ∷ (t.text ++ more)))) at (blank_before t.newline_before ∷ (t.text ++ more)) ≡ token_of at t ∷ items (suc (length more)) (at + 1 + length t.text) more
 one_written at t more g e =
     let us = blank_before t.newline_before ∷ (t.text ++ more) in
@@ -206,7 +235,9 @@ nothing_left : (at : ℕ) → items (suc (length (written []))) at (written []) 
 unfolding token_at gap_len punctuators
 nothing_left at = no_more at [] refl refl
 
-pub written_are : (at : ℕ) (ts : List Written) → AreTokens ts → items (suc (length (written ts))) at (written ts) ≡ lent at ts
+pub written_are : (at : ℕ) (ts : List Written)
+    → AreTokens ts
+    → items (suc (length (written ts))) at (written ts) ≡ lent at ts
 written_are at [] h = nothing_left at
 written_are at (t ∷ ts) h =
     let more = written ts in

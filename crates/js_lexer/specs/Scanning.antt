@@ -70,7 +70,12 @@ token_at us =
     else first_in punctuators us)))
 
 -- the items, of which a token so found is the first, or the last that tells a bad token
-abbrev pub item_by : (ℕ → List ℕ → List (Result Lent ℕ)) → ℕ → Bool → List ℕ → Option (TokenKind × ℕ) → List (Result Lent ℕ)
+abbrev pub item_by : (ℕ → List ℕ → List (Result Lent ℕ))
+    → ℕ
+    → Bool
+    → List ℕ
+    → Option (TokenKind × ℕ)
+    → List (Result Lent ℕ)
 item_by go at newline us (Some t) =
     Ok (record { kind = t.0; text = take t.1 us; start = at; newline_before = newline }) ∷ go (at + t.1) (drop t.1 us)
 item_by go at newline [] None = []

@@ -34,19 +34,41 @@ pub data IsCharacter (quote : ℕ) (text : List ℕ) (value : Option ℕ) (next 
   -- a unit that stands for itself, also U+2028 and U+2029
   plain : (c : ℕ) → text ≡ c ∷ [] → value ≡ Some c → is_plain quote c ≡ true → IsCharacter quote text value next
   -- LineContinuation: \ and a line terminator, of which a CR isn't before an LF
-  continuation : (c : ℕ) → text ≡ 92 ∷ c ∷ [] → value ≡ None → is_line_terminator c ≡ true → ((c == 13) && begins (λ d. d == 10) next) ≡ false → IsCharacter quote text value next
+  continuation : (c : ℕ)
+      → text ≡ 92 ∷ c ∷ []
+      → value ≡ None
+      → is_line_terminator c ≡ true
+      → ((c == 13) && begins (λ d. d == 10) next) ≡ false
+      → IsCharacter quote text value next
   -- LineContinuation: \ and CR LF
   both : text ≡ 92 ∷ 13 ∷ 10 ∷ [] → value ≡ None → IsCharacter quote text value next
   -- CharacterEscapeSequence
-  single : (c : ℕ) → text ≡ 92 ∷ c ∷ [] → value ≡ Some (single_value c) → is_single c ≡ true → IsCharacter quote text value next
+  single : (c : ℕ)
+      → text ≡ 92 ∷ c ∷ []
+      → value ≡ Some (single_value c)
+      → is_single c ≡ true
+      → IsCharacter quote text value next
   -- \0, not before a digit
   nul : text ≡ codes "\\0" → value ≡ Some 0 → begins is_digit next ≡ false → IsCharacter quote text value next
   -- HexEscapeSequence: \xHH
-  hex : (a b : ℕ) → text ≡ codes "\\x" ++ (a ∷ b ∷ []) → value ≡ Some (digits_value 16 0 (a ∷ b ∷ [])) → list_all is_hex (a ∷ b ∷ []) ≡ true → IsCharacter quote text value next
+  hex : (a b : ℕ)
+      → text ≡ codes "\\x" ++ (a ∷ b ∷ [])
+      → value ≡ Some (digits_value 16 0 (a ∷ b ∷ []))
+      → list_all is_hex (a ∷ b ∷ []) ≡ true
+      → IsCharacter quote text value next
   -- UnicodeEscapeSequence: \uHHHH
-  unit : (a b c d : ℕ) → text ≡ codes "\\u" ++ (a ∷ b ∷ c ∷ d ∷ []) → value ≡ Some (digits_value 16 0 (a ∷ b ∷ c ∷ d ∷ [])) → list_all is_hex (a ∷ b ∷ c ∷ d ∷ []) ≡ true → IsCharacter quote text value next
+  unit : (a b c d : ℕ)
+      → text ≡ codes "\\u" ++ (a ∷ b ∷ c ∷ d ∷ [])
+      → value ≡ Some (digits_value 16 0 (a ∷ b ∷ c ∷ d ∷ []))
+      → list_all is_hex (a ∷ b ∷ c ∷ d ∷ []) ≡ true
+      → IsCharacter quote text value next
   -- UnicodeEscapeSequence: \u{H...}, of a code point up to U+10FFFF
-  code_point : (digits : List ℕ) → text ≡ codes "\\u{" ++ (digits ++ codes "}") → value ≡ Some (digits_value 16 0 digits) → are_digits 16 digits ≡ true → digits_value 16 0 digits ≤ 0x10FFFF → IsCharacter quote text value next
+  code_point : (digits : List ℕ)
+      → text ≡ codes "\\u{" ++ (digits ++ codes "}")
+      → value ≡ Some (digits_value 16 0 digits)
+      → are_digits 16 digits ≡ true
+      → digits_value 16 0 digits ≤ 0x10FFFF
+      → IsCharacter quote text value next
 
 -- a character, with its text and what it stands for
 pub record Spelled : Type 0 where

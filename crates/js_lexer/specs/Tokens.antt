@@ -16,7 +16,10 @@ IsListed e (x ∷ xs) = (e ≡ x) ⊎ IsListed e xs
 
 -- a token of this kind, where `more` comes after it (ECMA-262, 12.6, CommonToken)
 pub data IsToken (kind : TokenKind) (text more : List ℕ) : Type 0 where
-  name : kind ≡ Name → is_word text ≡ true → ((k : TokenKind) → IsListed (k, text) reserved_words → ⊥) → IsToken kind text more
+  name : kind ≡ Name
+      → is_word text ≡ true
+      → ((k : TokenKind) → IsListed (k, text) reserved_words → ⊥)
+      → IsToken kind text more
   reserved : IsListed (kind, text) reserved_words → IsToken kind text more
   number : kind ≡ Number → IsNumber text → begins goes_on more ≡ false → IsToken kind text more
   string : kind ≡ String → IsStringLiteral text → IsToken kind text more

@@ -17,13 +17,19 @@ use Rattle.js_machine.specs.Machines.{StandsUntilEnd}
 
 -- ---- before a step
 
-pub stands-now : (t : NodeTable) (ws : List Wide) (p : Point) (o : Option End) → o ≡ None → StandsUntilEnd t ws p o → StandsUntilEnd t ws p None
+pub stands-now : (t : NodeTable) (ws : List Wide) (p : Point) (o : Option End)
+    → o ≡ None
+    → StandsUntilEnd t ws p o
+    → StandsUntilEnd t ws p None
 stands-now t ws p o e h = let P : Option End → Type 0 = StandsUntilEnd t ws p in subst P e h
 
 -- ---- the end
 
 -- all is reduced to a value
-pub done-over : (ts : List (List ℕ)) (table : NodeTable) (ws : List Wide) (p : Point) (v : Value) (s : State) → p ≡ points.Done v → IsAt table ws p → run_of (term_at ts table ws p) s ≡ over (finish_of (finishes.Ended v)) s
+pub done-over : (ts : List (List ℕ)) (table : NodeTable) (ws : List Wide) (p : Point) (v : Value) (s : State)
+    → p ≡ points.Done v
+    → IsAt table ws p
+    → run_of (term_at ts table ws p) s ≡ over (finish_of (finishes.Ended v)) s
 done-over ts table ws p v s e at =
     let P : Point → Type 0 = IsAt table ws in
     ap (λ x. run_of (term_at ts table ws x) s) e
@@ -33,5 +39,8 @@ done-over ts table ws p v s e at =
 -- ---- no end yet
 
 -- something is left to reduce
-pub left-running : (ts : List (List ℕ)) (table : NodeTable) (ws : List Wide) (p : Point) (s : State) → IsAt table ws p → ((v : Value) → p ≡ points.Done v → ⊥) → IsRunning (run_of (term_at ts table ws p) s)
+pub left-running : (ts : List (List ℕ)) (table : NodeTable) (ws : List Wide) (p : Point) (s : State)
+    → IsAt table ws p
+    → ((v : Value) → p ≡ points.Done v → ⊥)
+    → IsRunning (run_of (term_at ts table ws p) s)
 left-running ts table ws p s at h = open_runs (term_at ts table ws p) s (at-open ts table ws p at (going p h))

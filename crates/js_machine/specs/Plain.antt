@@ -17,5 +17,6 @@ pub record HasMadeSteps (m : Machine) (v : World) (n : Machine) (w : World) (k :
 -- within so many steps at most, it is where as many steps of the definition lead, after the steps that those take
 pub record HasRunWithin (m : Machine) (v : World) (n : Machine) (w : World) (most k : ℕ) : Type 0 where
   pub code : HasSameCode m n
-  pub reached : (taken : List (List ℕ)) → run_at n w taken ≡ steps_in most (program_of m) script_scope (run_at m v taken)
+  pub reached : (taken : List (List ℕ))
+      → run_at n w taken ≡ steps_in most (program_of m) script_scope (run_at m v taken)
   pub counted : (taken : List (List ℕ)) → k ≡ steps_taken most (program_of m) (run_at m v taken)

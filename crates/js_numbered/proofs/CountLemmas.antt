@@ -51,18 +51,25 @@ pub leaf_fits : {B : Type 0} (make : ℕ → B) (n : ℕ) → Fits (leaf make) (
 unfolding leaf
 leaf_fits make n = record { says = λ first next c. ap (λ m. counted (make m) (suc first)) (sym c.0) ∙ ap (λ m. counted (make n) m) c.1 }
 
-pub both_fits : {A B : Type 0} (f : Numbering A) (g : Numbering B) (ms ns : List ℕ) (x : A) (y : B) → Fits f ms x → Fits g ns y → Fits (both f g) (ms ++ ns) (x, y)
+pub both_fits : {A B : Type 0} (f : Numbering A) (g : Numbering B) (ms ns : List ℕ) (x : A) (y : B)
+    → Fits f ms x
+    → Fits g ns y
+    → Fits (both f g) (ms ++ ns) (x, y)
 unfolding both
 both_fits f g ms ns x y p q = record { says = λ first next c. joined first next (split first ms ns next c) }
   where
     joined : (first next : ℕ) → Split first ms ns next → both f g first ≡ counted (x, y) next
     joined first next s = ap (λ z. and_then z (g z.next)) (p.says first s.middle s.before) ∙ ap (λ z. and_then (counted x s.middle) z) (q.says s.middle next s.behind)
 
-pub of_part_fits : {A B : Type 0} (make : A → B) (f : Numbering A) (ns : List ℕ) (x : A) → Fits f ns x → Fits (of_part make f) ns (make x)
+pub of_part_fits : {A B : Type 0} (make : A → B) (f : Numbering A) (ns : List ℕ) (x : A)
+    → Fits f ns x
+    → Fits (of_part make f) ns (make x)
 unfolding of_part
 of_part_fits make f ns x p = record { says = λ first next c. ap (λ z. changed make z) (p.says first next c) }
 
-pub node_fits : {A B : Type 0} (make : ℕ → A → B) (n : ℕ) (f : Numbering A) (ns : List ℕ) (x : A) → Fits f ns x → Fits (node make f) (ns ++ n ∷ []) (make n x)
+pub node_fits : {A B : Type 0} (make : ℕ → A → B) (n : ℕ) (f : Numbering A) (ns : List ℕ) (x : A)
+    → Fits f ns x
+    → Fits (node make f) (ns ++ n ∷ []) (make n x)
 unfolding node
 node_fits make n f ns x p = record { says = λ first next c. around first next (split first ns (n ∷ []) next c) }
   where
@@ -73,7 +80,12 @@ node_fits make n f ns x p = record { says = λ first next c. around first next (
 pub end_fits : {A : Type 0} (f : Numbering A) (ns : List ℕ) (x : A) → Fits f ns x → Fits f (ns ++ []) x
 end_fits f ns x p = subst (λ ms. Fits f ms x) (sym (append-nil ns)) p
 
-pub carried : {Tree A : Type 0} (f : Tree → Numbering A) (t u : Tree) (ps qs : List Place) (x y : A) → t ≡ u → ps ≡ qs → x ≡ y → Fits (f u) (numbers_of qs) y → Fits (f t) (numbers_of ps) x
+pub carried : {Tree A : Type 0} (f : Tree → Numbering A) (t u : Tree) (ps qs : List Place) (x y : A)
+    → t ≡ u
+    → ps ≡ qs
+    → x ≡ y
+    → Fits (f u) (numbers_of qs) y
+    → Fits (f t) (numbers_of ps) x
 carried f t u ps qs x y p q r h = subst (λ v. Fits (f v) (numbers_of ps) x) (sym p) (subst (λ os. Fits (f u) (numbers_of os) x) (sym q) (subst (λ z. Fits (f u) (numbers_of qs) z) (sym r) h))
 
 -- ---- the numbers of places
@@ -115,27 +127,41 @@ numbers_commas (ps ∷ pieces) = numbers_append ps (behind_commas pieces) ∙ ap
 
 -- ---- what is made of pieces
 
-pub turn_fits : {A : Type 0} (f : Numbering A) (pieces : List (List Place)) (x : A) → Fits f (numbers_in pieces) x → Fits f (numbers_of (in_turn pieces)) x
+pub turn_fits : {A : Type 0} (f : Numbering A) (pieces : List (List Place)) (x : A)
+    → Fits f (numbers_in pieces) x
+    → Fits f (numbers_of (in_turn pieces)) x
 turn_fits f pieces x p = subst (λ ns. Fits f ns x) (sym (numbers_turn pieces)) p
 
-pub commas_fit : {A : Type 0} (f : Numbering A) (pieces : List (List Place)) (x : A) → Fits f (numbers_in pieces) x → Fits f (numbers_of (with_commas pieces)) x
+pub commas_fit : {A : Type 0} (f : Numbering A) (pieces : List (List Place)) (x : A)
+    → Fits f (numbers_in pieces) x
+    → Fits f (numbers_of (with_commas pieces)) x
 commas_fit f pieces x p = subst (λ ns. Fits f ns x) (sym (numbers_commas pieces)) p
 
-pub form_fits : {A B : Type 0} (make : ℕ → A → B) (n : NodeId) (f : Numbering A) (pieces : List (List Place)) (x : A) → Fits f (numbers_in pieces) x → Fits (node make f) (numbers_of (node_of n pieces)) (make n.0 x)
+pub form_fits : {A B : Type 0} (make : ℕ → A → B) (n : NodeId) (f : Numbering A) (pieces : List (List Place)) (x : A)
+    → Fits f (numbers_in pieces) x
+    → Fits (node make f) (numbers_of (node_of n pieces)) (make n.0 x)
 form_fits make n f pieces x p = subst (λ ns. Fits (node make f) ns (make n.0 x)) (sym (numbers_node n pieces)) (node_fits make n.0 f (numbers_in pieces) x p)
 
-pub lone_fits : {B : Type 0} (make : ℕ → B) (n : NodeId) (pieces : List (List Place)) → numbers_in pieces ≡ [] → Fits (leaf make) (numbers_of (node_of n pieces)) (make n.0)
+pub lone_fits : {B : Type 0} (make : ℕ → B) (n : NodeId) (pieces : List (List Place))
+    → numbers_in pieces ≡ []
+    → Fits (leaf make) (numbers_of (node_of n pieces)) (make n.0)
 lone_fits make n pieces e = subst (λ ns. Fits (leaf make) ns (make n.0)) (sym (numbers_node n pieces ∙ ap (λ ns. ns ++ n.0 ∷ []) e)) (leaf_fits make n.0)
 
 -- tokens alone
-pub quiet_fits : {A : Type 0} (ms : List Mark) (f : Numbering A) (ns : List ℕ) (x : A) → Fits f ns x → Fits f (numbers_of (plain ms) ++ ns) x
+pub quiet_fits : {A : Type 0} (ms : List Mark) (f : Numbering A) (ns : List ℕ) (x : A)
+    → Fits f ns x
+    → Fits f (numbers_of (plain ms) ++ ns) x
 quiet_fits ms f ns x p = subst (λ os. Fits f (os ++ ns) x) (sym (quiet ms)) p
 
 pub quiet_end : (ms : List Mark) → numbers_of (plain ms) ++ [] ≡ []
 quiet_end ms = append-nil (numbers_of (plain ms)) ∙ quiet ms
 
-pub braces_fit : {A : Type 0} (f : Numbering A) (ps : List Place) (x : A) → Fits f (numbers_of ps) x → Fits f (numbers_of (in_braces ps)) x
+pub braces_fit : {A : Type 0} (f : Numbering A) (ps : List Place) (x : A)
+    → Fits f (numbers_of ps) x
+    → Fits f (numbers_of (in_braces ps)) x
 braces_fit f ps x p = subst (λ ns. Fits f ns x) (sym (numbers_turn (plain (a kinds.LeftBrace) ∷ ps ∷ plain (a kinds.RightBrace) ∷ []))) (end_fits f (numbers_of ps) x p)
 
-pub parentheses_fit : {A : Type 0} (f : Numbering A) (ps : List Place) (x : A) → Fits f (numbers_of ps) x → Fits f (numbers_of (in_parentheses ps)) x
+pub parentheses_fit : {A : Type 0} (f : Numbering A) (ps : List Place) (x : A)
+    → Fits f (numbers_of ps) x
+    → Fits f (numbers_of (in_parentheses ps)) x
 parentheses_fit f ps x p = subst (λ ns. Fits f ns x) (sym (numbers_turn (plain (a kinds.LeftParenthesis) ∷ ps ∷ plain (a kinds.RightParenthesis) ∷ []))) (end_fits f (numbers_of ps) x p)

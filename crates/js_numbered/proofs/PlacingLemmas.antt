@@ -50,11 +50,17 @@ alone : (is : Bool) → (if is then true else false) ≡ true → is ≡ true
 alone true e = refl
 alone false e = e
 
-first_step : (is one all : Bool) → (one ≡ true → all ≡ true) → (if is then true else one) ≡ true → (if is then true else all) ≡ true
+first_step : (is one all : Bool)
+    → (one ≡ true → all ≡ true)
+    → (if is then true else one) ≡ true
+    → (if is then true else all) ≡ true
 first_step true one all on e = refl
 first_step false one all on e = on e
 
-either_step : (is one all other : Bool) → (all ≡ true → (one ≡ true) ⊎ (other ≡ true)) → (if is then true else all) ≡ true → ((if is then true else one) ≡ true) ⊎ (other ≡ true)
+either_step : (is one all other : Bool)
+    → (all ≡ true → (one ≡ true) ⊎ (other ≡ true))
+    → (if is then true else all) ≡ true
+    → ((if is then true else one) ≡ true) ⊎ (other ≡ true)
 either_step true one all other on e = inl refl
 either_step false one all other on e = on e
 
@@ -66,20 +72,29 @@ among_last : (n : ℕ) (ms ns : List ℕ) → is_number n ns ≡ true → is_num
 among_last n [] ns e = e
 among_last n (m ∷ ms) ns e = later (nat_eq n m) (is_number n (ms ++ ns)) (among_last n ms ns e)
 
-among_either : (n : ℕ) (ms ns : List ℕ) → is_number n (ms ++ ns) ≡ true → (is_number n ms ≡ true) ⊎ (is_number n ns ≡ true)
+among_either : (n : ℕ) (ms ns : List ℕ)
+    → is_number n (ms ++ ns) ≡ true
+    → (is_number n ms ≡ true) ⊎ (is_number n ns ≡ true)
 among_either n [] ns e = inr e
 among_either n (m ∷ ms) ns e = either_step (nat_eq n m) (is_number n ms) (is_number n (ms ++ ns)) (is_number n ns) (λ h. among_either n ms ns h) e
 
 -- ---- nodes that have begun
 
-opened_either : (n : ℕ) (ps qs : List Place) → AreOpened ps → AreOpened qs → (is_number n (numbers_of ps) ≡ true) ⊎ (is_number n (numbers_of qs) ≡ true) → is_number n (openings_of (ps ++ qs)) ≡ true
+opened_either : (n : ℕ) (ps qs : List Place)
+    → AreOpened ps
+    → AreOpened qs
+    → (is_number n (numbers_of ps) ≡ true) ⊎ (is_number n (numbers_of qs) ≡ true)
+    → is_number n (openings_of (ps ++ qs)) ≡ true
 opened_either n ps qs p q (inl e) = subst (λ ns. is_number n ns ≡ true) (sym (openings_append ps qs)) (among_first n (openings_of ps) (openings_of qs) (p n e))
 opened_either n ps qs p q (inr e) = subst (λ ns. is_number n ns ≡ true) (sym (openings_append ps qs)) (among_last n (openings_of ps) (openings_of qs) (q n e))
 
 opened_append : (ps qs : List Place) → AreOpened ps → AreOpened qs → AreOpened (ps ++ qs)
 opened_append ps qs p q n e = opened_either n ps qs p q (among_either n (numbers_of ps) (numbers_of qs) (subst (λ ns. is_number n ns ≡ true) (numbers_append ps qs) e))
 
-opened_in : (n m : ℕ) (ps : List Place) → AreOpened ps → (is_number m (numbers_of ps) ≡ true) ⊎ (is_number m (n ∷ []) ≡ true) → is_number m (openings_of (enclosed n ps)) ≡ true
+opened_in : (n m : ℕ) (ps : List Place)
+    → AreOpened ps
+    → (is_number m (numbers_of ps) ≡ true) ⊎ (is_number m (n ∷ []) ≡ true)
+    → is_number m (openings_of (enclosed n ps)) ≡ true
 opened_in n m ps p (inl e) = later (nat_eq m n) (is_number m (openings_of (ps ++ (closes n ∷ [])))) (subst (λ ns. is_number m ns ≡ true) (sym (openings_append ps (closes n ∷ []))) (among_first m (openings_of ps) [] (p m e)))
 opened_in n m ps p (inr e) = here (nat_eq m n) (is_number m (openings_of (ps ++ (closes n ∷ [])))) (alone (nat_eq m n) e)
 
@@ -123,20 +138,26 @@ before-stands f g ps qs p q =
     let fits : Fits (before f g) (numbers_of ps ++ numbers_of qs) (ps ++ qs) = of_part_fits (λ x. x.0 ++ x.1) (both f g) (numbers_of ps ++ numbers_of qs) (ps, qs) (both_fits f g (numbers_of ps) (numbers_of qs) ps qs p.fits q.fits) in
     record { fits = subst (λ ns. Fits (before f g) ns (ps ++ qs)) (sym (numbers_append ps qs)) fits; opened = opened_append ps qs p.opened q.opened }
 
-pub row-stands : (fs : List Placing) (pieces : List (List Place)) → AllStand fs pieces → Stand (in_row fs) (in_turn pieces)
+pub row-stands : (fs : List Placing) (pieces : List (List Place))
+    → AllStand fs pieces
+    → Stand (in_row fs) (in_turn pieces)
 unfolding in_row
 row-stands [] [] all = nothing-stands
 row-stands (f ∷ fs) (ps ∷ pieces) all = before-stands f (in_row fs) ps (in_turn pieces) all.0 (row-stands fs pieces all.1)
 row-stands [] (ps ∷ pieces) all = absurd all
 row-stands (f ∷ fs) [] all = absurd all
 
-node_around : (n : ℕ) (fs : List Placing) (ps : List Place) → Stand (in_row fs) ps → Stand (node_placed fs) (enclosed n ps)
+node_around : (n : ℕ) (fs : List Placing) (ps : List Place)
+    → Stand (in_row fs) ps
+    → Stand (node_placed fs) (enclosed n ps)
 unfolding node_placed
 node_around n fs ps p =
     let fits : Fits (node_placed fs) (numbers_of ps ++ n ∷ []) (enclosed n ps) = node_fits (λ n ps. enclosed n ps) n (in_row fs) (numbers_of ps) ps p.fits in
     record { fits = subst (λ ns. Fits (node_placed fs) ns (enclosed n ps)) (sym (numbers_append ps (closes n ∷ []))) fits; opened = opened_node n ps p.opened }
 
-pub node-stands : (n : NodeId) (fs : List Placing) (pieces : List (List Place)) → AllStand fs pieces → Stand (node_placed fs) (node_of n pieces)
+pub node-stands : (n : NodeId) (fs : List Placing) (pieces : List (List Place))
+    → AllStand fs pieces
+    → Stand (node_placed fs) (node_of n pieces)
 node-stands n fs pieces all = node_around n.0 fs (in_turn pieces) (row-stands fs pieces all)
 
 pub braces-stand : (f : Placing) (ps : List Place) → Stand f ps → Stand (braced f) (in_braces ps)
@@ -145,14 +166,18 @@ braces-stand f ps p = row-stands (tokens (a kinds.LeftBrace) ∷ f ∷ tokens (a
 pub parentheses-stand : (f : Placing) (ps : List Place) → Stand f ps → Stand (parenthesized f) (in_parentheses ps)
 parentheses-stand f ps p = row-stands (tokens (a kinds.LeftParenthesis) ∷ f ∷ tokens (a kinds.RightParenthesis) ∷ []) (plain (a kinds.LeftParenthesis) ∷ ps ∷ plain (a kinds.RightParenthesis) ∷ []) (tokens-stand (a kinds.LeftParenthesis), (p, (tokens-stand (a kinds.RightParenthesis), tt)))
 
-behind-stand : (fs : List Placing) (pieces : List (List Place)) → AllStand fs pieces → Stand (each_behind_comma fs) (behind_commas pieces)
+behind-stand : (fs : List Placing) (pieces : List (List Place))
+    → AllStand fs pieces
+    → Stand (each_behind_comma fs) (behind_commas pieces)
 unfolding each_behind_comma in_row
 behind-stand [] [] all = nothing-stands
 behind-stand (f ∷ fs) (ps ∷ pieces) all = row-stands (tokens (a kinds.Comma) ∷ f ∷ each_behind_comma fs ∷ []) (plain (a kinds.Comma) ∷ ps ∷ behind_commas pieces ∷ []) (tokens-stand (a kinds.Comma), (all.0, (behind-stand fs pieces all.1, tt)))
 behind-stand [] (ps ∷ pieces) all = absurd all
 behind-stand (f ∷ fs) [] all = absurd all
 
-pub commas-stand : (fs : List Placing) (pieces : List (List Place)) → AllStand fs pieces → Stand (comma_separated fs) (with_commas pieces)
+pub commas-stand : (fs : List Placing) (pieces : List (List Place))
+    → AllStand fs pieces
+    → Stand (comma_separated fs) (with_commas pieces)
 unfolding comma_separated in_row
 commas-stand [] [] all = nothing-stands
 commas-stand (f ∷ fs) (ps ∷ pieces) all = before-stands f (each_behind_comma fs) ps (behind_commas pieces) all.0 (behind-stand fs pieces all.1)
@@ -160,5 +185,9 @@ commas-stand [] (ps ∷ pieces) all = absurd all
 commas-stand (f ∷ fs) [] all = absurd all
 
 -- the same of a tree that is made of its parts
-pub carried : {Tree : Type 0} (f : Tree → Placing) (t u : Tree) (ps qs : List Place) → t ≡ u → ps ≡ qs → Stand (f u) qs → Stand (f t) ps
+pub carried : {Tree : Type 0} (f : Tree → Placing) (t u : Tree) (ps qs : List Place)
+    → t ≡ u
+    → ps ≡ qs
+    → Stand (f u) qs
+    → Stand (f t) ps
 carried f t u ps qs p q h = subst (λ v. Stand (f v) ps) (sym p) (subst (λ os. Stand (f u) os) (sym q) h)

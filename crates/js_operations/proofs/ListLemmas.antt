@@ -37,15 +37,20 @@ pub parts-all : (ts : List (List ℕ)) → with_parts ts (Some []) ≡ Some ts
 parts-all [] = refl
 parts-all (t ∷ ts) = ap (λ r. with_part (Some t) r) (parts-all ts)
 
-pub parts-more : (ts : List (List ℕ)) (t : List ℕ) (r : Option (List (List ℕ))) → with_parts (ts ++ t ∷ []) r ≡ with_parts ts (with_part (Some t) r)
+pub parts-more : (ts : List (List ℕ)) (t : List ℕ) (r : Option (List (List ℕ)))
+    → with_parts (ts ++ t ∷ []) r ≡ with_parts ts (with_part (Some t) r)
 parts-more [] t r = refl
 parts-more (u ∷ ts) t r = ap (λ x. with_part (Some u) x) (parts-more ts t r)
 
 -- the parts so far, with the parts of the elements that are left
-pub part-none : (w : World) (ts : List (List ℕ)) (v : Value) (vs : List Value) → None ≡ joined_part w v → with_parts ts (joined_parts w (v ∷ vs)) ≡ None
+pub part-none : (w : World) (ts : List (List ℕ)) (v : Value) (vs : List Value)
+    → None ≡ joined_part w v
+    → with_parts ts (joined_parts w (v ∷ vs)) ≡ None
 part-none w ts v vs h = ap (λ o. with_parts ts (with_part o (joined_parts w vs))) (sym h) ∙ parts-none ts
 
-pub part-some : (w : World) (ts : List (List ℕ)) (t : List ℕ) (v : Value) (vs : List Value) → Some t ≡ joined_part w v → with_parts (ts ++ t ∷ []) (joined_parts w vs) ≡ with_parts ts (joined_parts w (v ∷ vs))
+pub part-some : (w : World) (ts : List (List ℕ)) (t : List ℕ) (v : Value) (vs : List Value)
+    → Some t ≡ joined_part w v
+    → with_parts (ts ++ t ∷ []) (joined_parts w vs) ≡ with_parts ts (joined_parts w (v ∷ vs))
 part-some w ts t v vs h = parts-more ts t (joined_parts w vs) ∙ ap (λ o. with_parts ts (with_part o (joined_parts w vs))) h
 
 pub ruleset part_rules = (part-none, part-some, parts-all)
@@ -62,12 +67,19 @@ pub ruleset begin_rules = (begins-short)
 
 -- ---- occurrences
 
-occurs_cons : (i u : ℕ) (xs r vs : List ℕ) → xs ≡ u ∷ r → begins_with xs vs ≡ false → first_occurrence i xs vs ≡ first_occurrence (i + 1) r vs
+occurs_cons : (i u : ℕ) (xs r vs : List ℕ)
+    → xs ≡ u ∷ r
+    → begins_with xs vs ≡ false
+    → first_occurrence i xs vs ≡ first_occurrence (i + 1) r vs
 occurs_cons i u xs r vs e h =
     let P : List ℕ → Type 0 = λ ys. begins_with ys vs ≡ false → first_occurrence i ys vs ≡ first_occurrence (i + 1) r vs in
     subst P (sym e) (λ g. rw g refl) h
 
-pub occurs-step : (us vs : List ℕ) (i : ℕ) (b : Bool) → i < length us → b ≡ begins_with (take (length us - i) (drop i us)) vs → b ≡ false → first_occurrence i (drop i us) vs ≡ first_occurrence (i + 1) (drop (i + 1) us) vs
+pub occurs-step : (us vs : List ℕ) (i : ℕ) (b : Bool)
+    → i < length us
+    → b ≡ begins_with (take (length us - i) (drop i us)) vs
+    → b ≡ false
+    → first_occurrence i (drop i us) vs ≡ first_occurrence (i + 1) (drop (i + 1) us) vs
 occurs-step us vs i b h f g =
     let l : length (drop i us) ≤ length us - i = omega (arith, length-drop i us) in
     let t : take (length us - i) (drop i us) ≡ drop i us = take_all (length us - i) (drop i us) l in
@@ -79,7 +91,11 @@ not_begun : (vs : List ℕ) (b : Bool) → b ≡ (length vs == 0) → b ≡ fals
 not_begun [] b e f = cc
 not_begun (v ∷ vs) b e f = refl
 
-pub occurs-end : (us vs : List ℕ) (i : ℕ) (b : Bool) → length us ≤ i → b ≡ (length vs == 0) → b ≡ false → first_occurrence i (drop i us) vs ≡ negsuc 0
+pub occurs-end : (us vs : List ℕ) (i : ℕ) (b : Bool)
+    → length us ≤ i
+    → b ≡ (length vs == 0)
+    → b ≡ false
+    → first_occurrence i (drop i us) vs ≡ negsuc 0
 occurs-end us vs i b h e f = rw (drop_all i us h) (rw (not_begun vs b e f) refl)
 
 -- ---- indices
@@ -87,7 +103,12 @@ occurs-end us vs i b h e f = rw (drop_all i us h) (rw (not_begun vs b e f) refl)
 pub cons_at : {A : Type 0} (xs : List A) (i : ℕ) (d : A) → i < length xs → drop i xs ≡ get_or xs i d ∷ drop (i + 1) xs
 cons_at xs i d h = rw add-one (drop-cons xs i d h)
 
-pub indices-step : (ks ns : List (List ℕ)) (vs : List Value) (i : ℕ) (t : List ℕ) → ns ≡ ks ++ t ∷ [] → t ≡ decimal i → i < length vs → ks ++ indices_from i (drop i vs) ≡ indices_from 0 vs → ns ++ indices_from (i + 1) (drop (i + 1) vs) ≡ indices_from 0 vs
+pub indices-step : (ks ns : List (List ℕ)) (vs : List Value) (i : ℕ) (t : List ℕ)
+    → ns ≡ ks ++ t ∷ []
+    → t ≡ decimal i
+    → i < length vs
+    → ks ++ indices_from i (drop i vs) ≡ indices_from 0 vs
+    → ns ++ indices_from (i + 1) (drop (i + 1) vs) ≡ indices_from 0 vs
 indices-step ks ns vs i t e f h k =
     let m : ns ≡ ks ++ decimal i ∷ [] = e ∙ ap (λ x. ks ++ x ∷ []) f in
     let d : drop i vs ≡ get_or vs i values.Undefined ∷ drop (i + 1) vs = cons_at vs i values.Undefined h in
@@ -101,29 +122,51 @@ none_of : (o p : Option (List ℕ)) → ((t : List ℕ) → o ≡ Some t → ⊥
 none_of None p h e = e
 none_of (Some t) p h e = absurd (h t refl)
 
-pub part-fails : (w : World) (ts : List (List ℕ)) (vs : List Value) (i : ℕ) (o : Option (List ℕ)) (all : Option (List (List ℕ))) → with_parts ts (joined_parts w (drop i vs)) ≡ all → i < length vs → o ≡ joined_part w (get_or vs i values.Undefined) → ((t : List ℕ) → o ≡ Some t → ⊥) → None ≡ all
+pub part-fails : (w : World) (ts : List (List ℕ)) (vs : List Value) (i : ℕ) (o : Option (List ℕ)) (all : Option (List (List ℕ)))
+    → with_parts ts (joined_parts w (drop i vs)) ≡ all
+    → i < length vs
+    → o ≡ joined_part w (get_or vs i values.Undefined)
+    → ((t : List ℕ) → o ≡ Some t → ⊥)
+    → None ≡ all
 part-fails w ts vs i o all h l e n =
     sym (part-none w ts (get_or vs i values.Undefined) (drop (i + 1) vs) (none_of o (joined_part w (get_or vs i values.Undefined)) n e)) ∙ ap (λ xs. with_parts ts (joined_parts w xs)) (sym (cons_at vs i values.Undefined l)) ∙ h
 
-pub part-goes : (w : World) (ts ns : List (List ℕ)) (t : List ℕ) (vs : List Value) (i : ℕ) (o : Option (List ℕ)) (all : Option (List (List ℕ))) → with_parts ts (joined_parts w (drop i vs)) ≡ all → i < length vs → o ≡ joined_part w (get_or vs i values.Undefined) → o ≡ Some t → ns ≡ ts ++ t ∷ [] → with_parts ns (joined_parts w (drop (i + 1) vs)) ≡ all
+pub part-goes : (w : World) (ts ns : List (List ℕ)) (t : List ℕ) (vs : List Value) (i : ℕ) (o : Option (List ℕ)) (all : Option (List (List ℕ)))
+    → with_parts ts (joined_parts w (drop i vs)) ≡ all
+    → i < length vs
+    → o ≡ joined_part w (get_or vs i values.Undefined)
+    → o ≡ Some t
+    → ns ≡ ts ++ t ∷ []
+    → with_parts ns (joined_parts w (drop (i + 1) vs)) ≡ all
 part-goes w ts ns t vs i o all h l e n f =
     ap (λ xs. with_parts xs (joined_parts w (drop (i + 1) vs))) f ∙ part-some w ts t (get_or vs i values.Undefined) (drop (i + 1) vs) (sym n ∙ e) ∙ ap (λ xs. with_parts ts (joined_parts w xs)) (sym (cons_at vs i values.Undefined l)) ∙ h
 
-pub part-ends : (w : World) (ts : List (List ℕ)) (vs : List Value) (i : ℕ) (all : Option (List (List ℕ))) → with_parts ts (joined_parts w (drop i vs)) ≡ all → length vs ≤ i → Some ts ≡ all
+pub part-ends : (w : World) (ts : List (List ℕ)) (vs : List Value) (i : ℕ) (all : Option (List (List ℕ)))
+    → with_parts ts (joined_parts w (drop i vs)) ≡ all
+    → length vs ≤ i
+    → Some ts ≡ all
 part-ends w ts vs i all h l = sym (parts-all ts) ∙ ap (λ xs. with_parts ts (joined_parts w xs)) (sym (drop_all i vs l)) ∙ h
 
 -- ---- keys
 
-keys_if : (b : Bool) (key : List ℕ) (ks : List (List ℕ)) → (if b then key ∷ ks else ks) ≡ (if b then key ∷ [] else []) ++ ks
+keys_if : (b : Bool) (key : List ℕ) (ks : List (List ℕ))
+    → (if b then key ∷ ks else ks) ≡ (if b then key ∷ [] else []) ++ ks
 keys_if true key ks = refl
 keys_if false key ks = refl
 
-keys_from : (ps : List Property) (i : ℕ) → i < length ps → enumerable_keys (drop i ps) ≡ key_if (slice_get ps i) ++ enumerable_keys (drop (suc i) ps)
+keys_from : (ps : List Property) (i : ℕ)
+    → i < length ps
+    → enumerable_keys (drop i ps) ≡ key_if (slice_get ps i) ++ enumerable_keys (drop (suc i) ps)
 keys_from [] i h = absurd (omega arith)
 keys_from (p ∷ ps) zero h = keys_if p.enumerable p.key (enumerable_keys ps)
 keys_from (p ∷ ps) (suc i) h = keys_from ps i (omega arith)
 
-pub keys-step : (ks ns : List (List ℕ)) (ps : List Property) (i : ℕ) (o : Option Property) → ns ≡ ks ++ key_if o → o ≡ slice_get ps i → i < length ps → ks ++ enumerable_keys (drop i ps) ≡ enumerable_keys ps → ns ++ enumerable_keys (drop (i + 1) ps) ≡ enumerable_keys ps
+pub keys-step : (ks ns : List (List ℕ)) (ps : List Property) (i : ℕ) (o : Option Property)
+    → ns ≡ ks ++ key_if o
+    → o ≡ slice_get ps i
+    → i < length ps
+    → ks ++ enumerable_keys (drop i ps) ≡ enumerable_keys ps
+    → ns ++ enumerable_keys (drop (i + 1) ps) ≡ enumerable_keys ps
 keys-step ks ns ps i o e f h k =
     let n : ns ≡ ks ++ key_if (slice_get ps i) = e ∙ ap (λ x. ks ++ key_if x) f in
     let s : suc i ≡ i + 1 = omega arith in

@@ -21,7 +21,8 @@ length_property a vs (values.Number (pos l)) = if_property (nat_le l (length vs)
 length_property a vs (values.Number (negsuc l)) = tt
 length_property a vs _ = tt
 
-array_property : (a : Addr) (vs : List Value) (key : List ℕ) (i : Option ℕ) (v : Value) → IsOfProperty (array_change a vs key i v)
+array_property : (a : Addr) (vs : List Value) (key : List ℕ) (i : Option ℕ) (v : Value)
+    → IsOfProperty (array_change a vs key i v)
 array_property a vs key (Some i) v = if_property (nat_le i (length vs)) _ _ tt tt
 array_property a vs key None v = if_property (same_units key (codes "length")) _ _ (length_property a vs v) tt
 
@@ -47,8 +48,12 @@ deleted_property w (values.Object a) key = removed_property a (read_cell w a) ke
 deleted_property w _ key = tt
 
 -- writing and deleting a property change no scope
-pub written-property : (w : World) (o : Value) (key : List ℕ) (v : Value) (r : Written) → r ≡ property_written w o key v → IsOfProperty r
+pub written-property : (w : World) (o : Value) (key : List ℕ) (v : Value) (r : Written)
+    → r ≡ property_written w o key v
+    → IsOfProperty r
 written-property w o key v r e = let P : Written → Type 0 = λ x. IsOfProperty x in subst P (sym e) (written_property w o key v)
 
-pub deleted-property : (w : World) (o : Value) (key : List ℕ) (r : Written) → r ≡ property_deleted w o key → IsOfProperty r
+pub deleted-property : (w : World) (o : Value) (key : List ℕ) (r : Written)
+    → r ≡ property_deleted w o key
+    → IsOfProperty r
 deleted-property w o key r e = let P : Written → Type 0 = λ x. IsOfProperty x in subst P (sym e) (deleted_property w o key)

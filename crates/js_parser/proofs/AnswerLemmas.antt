@@ -42,7 +42,10 @@ fails f = Err f
 too_long : {A : Type 0} (f : ParseFault) (n : ℕ) → f ≡ faults.TooLong n → fails {A = A} f ≡ fails (faults.TooLong n)
 too_long f n e = ap (λ (f : ParseFault). fails f) e
 
-long_of : {Tree : Type 0} (Is : List Token → Tree → Type 0) (height_of : Tree → ℕ) (source : List ℕ) (f : ParseFault) → Stands Is height_of source f → MOST_UNITS < length source → f ≡ faults.TooLong (length source)
+long_of : {Tree : Type 0} (Is : List Token → Tree → Type 0) (height_of : Tree → ℕ) (source : List ℕ) (f : ParseFault)
+    → Stands Is height_of source f
+    → MOST_UNITS < length source
+    → f ≡ faults.TooLong (length source)
 long_of Is height_of source (faults.TooLong units) s l = ap (λ (n : ℕ). faults.TooLong n) s.1
 long_of Is height_of source (faults.Token at) s l = absurd (omega (arith, s.0))
 long_of Is height_of source (faults.Syntax at) s l = absurd (omega (arith, s.0))
@@ -50,7 +53,9 @@ long_of Is height_of source (faults.TooMany at) s l = absurd (omega (arith, s.0)
 long_of Is height_of source faults.TooDeep s l = absurd (omega (arith, s.1.0.short))
 long_of Is height_of source faults.Memory s l = absurd s
 
-caused_of : {Tree : Type 0} (Is : List Token → Tree → Type 0) (height_of : Tree → ℕ) (source : List ℕ) (f : ParseFault) → Stands Is height_of source f → Caused Is height_of source f
+caused_of : {Tree : Type 0} (Is : List Token → Tree → Type 0) (height_of : Tree → ℕ) (source : List ℕ) (f : ParseFault)
+    → Stands Is height_of source f
+    → Caused Is height_of source f
 caused_of Is height_of source (faults.TooLong units) s = s
 caused_of Is height_of source (faults.Token at) s = s
 caused_of Is height_of source (faults.Syntax at) s = s
@@ -67,7 +72,10 @@ fails_by A f faults.TooDeep e = tt
 fails_by A f faults.Memory e = tt
 
 -- a fault that stands in the source, which has no tree within the limits
-fault_answers : {A Tree : Type 0} (Is : List Token → Tree → Type 0) (height_of : Tree → ℕ) (source : List ℕ) (look : A → Tree) (f : ParseFault) → Stands Is height_of source f → (HasTree Is height_of source → ⊥) → Answers Is height_of source look (Err f)
+fault_answers : {A Tree : Type 0} (Is : List Token → Tree → Type 0) (height_of : Tree → ℕ) (source : List ℕ) (look : A → Tree) (f : ParseFault)
+    → Stands Is height_of source f
+    → (HasTree Is height_of source → ⊥)
+    → Answers Is height_of source look (Err f)
 fault_answers {A} Is height_of source look f s none = record {
   found = tt;
   only = λ t h. absurd (none (t, h));
@@ -77,14 +85,23 @@ fault_answers {A} Is height_of source look f s none = record {
   first = λ g c. comes_first Is height_of source f g s c;
 }
 
-placed_answers : {A Tree : Type 0} (Is : List Token → Tree → Type 0) (height_of : Tree → ℕ) (source : List ℕ) (look : A → Tree) (f : ParseFault) → IsPlaced f → Stands Is height_of source f → Answers Is height_of source look (Err f)
+placed_answers : {A Tree : Type 0} (Is : List Token → Tree → Type 0) (height_of : Tree → ℕ) (source : List ℕ) (look : A → Tree) (f : ParseFault)
+    → IsPlaced f
+    → Stands Is height_of source f
+    → Answers Is height_of source look (Err f)
 placed_answers Is height_of source look f p s = fault_answers Is height_of source look f s (λ h. no_tree Is height_of source f p s h.0 h.1.0)
 
-memory_answers : {A Tree : Type 0} (Is : List Token → Tree → Type 0) (height_of : Tree → ℕ) (source : List ℕ) (look : A → Tree) → length source ≤ MOST_UNITS → Answers Is height_of source look (Err faults.Memory)
+memory_answers : {A Tree : Type 0} (Is : List Token → Tree → Type 0) (height_of : Tree → ℕ) (source : List ℕ) (look : A → Tree)
+    → length source ≤ MOST_UNITS
+    → Answers Is height_of source look (Err faults.Memory)
 memory_answers Is height_of source look short = record { found = tt; only = λ t h. refl; long = λ l. absurd (omega arith); caused = tt; exact = λ g p. tt; first = λ g c. tt }
 
 -- what is read begins only trees that are too deep, and so does the source
-begins_too_deep : {Tree : Type 0} (Is : List Token → Tree → Type 0) (height_of : Tree → ℕ) (source : List ℕ) (ts : List Token) (stop : Option Stop) → length source ≤ MOST_UNITS → IsReadOf source ts stop → TooDeepFrom Is height_of ts MOST_HEIGHT → BeginsTooDeep Is height_of source
+begins_too_deep : {Tree : Type 0} (Is : List Token → Tree → Type 0) (height_of : Tree → ℕ) (source : List ℕ) (ts : List Token) (stop : Option Stop)
+    → length source ≤ MOST_UNITS
+    → IsReadOf source ts stop
+    → TooDeepFrom Is height_of ts MOST_HEIGHT
+    → BeginsTooDeep Is height_of source
 begins_too_deep Is height_of source ts stop short r d =
     let a : AreFirst MOST_TOKENS (tokens_of source) ts = are_first MOST_TOKENS (tokens_of source) (bad_place source) ts stop r in
     let t : TooDeepFrom Is height_of (tokens_of source) MOST_HEIGHT = record {
@@ -97,11 +114,20 @@ begins_too_deep Is height_of source ts stop short r d =
     (short, t)
 
 -- reading met a place that is too deep
-deep_answers : {A Tree : Type 0} (Is : List Token → Tree → Type 0) (height_of : Tree → ℕ) (source : List ℕ) (look : A → Tree) → length source ≤ MOST_UNITS → (HasTree Is height_of source → ⊥) → BeginsTooDeep Is height_of source → Answers Is height_of source look (Err faults.TooDeep)
+deep_answers : {A Tree : Type 0} (Is : List Token → Tree → Type 0) (height_of : Tree → ℕ) (source : List ℕ) (look : A → Tree)
+    → length source ≤ MOST_UNITS
+    → (HasTree Is height_of source → ⊥)
+    → BeginsTooDeep Is height_of source
+    → Answers Is height_of source look (Err faults.TooDeep)
 deep_answers Is height_of source look short none d = record { found = tt; only = λ t h. absurd (none (t, h)); long = λ l. absurd (omega arith); caused = inr d; exact = λ g p. tt; first = λ g c. tt }
 
 -- where the source has a tree, only its depth may stand in the way
-only_deep : {A Tree : Type 0} (Is : List Token → Tree → Type 0) (height_of : Tree → ℕ) (source : List ℕ) (answer : A) (t : Tree) → IsSource Is height_of source t → ((u : Tree) → IsTreeOf Is source u → t ≡ u) → (g : ParseFault) → Stands Is height_of source g → FailsBy g (Ok answer)
+only_deep : {A Tree : Type 0} (Is : List Token → Tree → Type 0) (height_of : Tree → ℕ) (source : List ℕ) (answer : A) (t : Tree)
+    → IsSource Is height_of source t
+    → ((u : Tree) → IsTreeOf Is source u → t ≡ u)
+    → (g : ParseFault)
+    → Stands Is height_of source g
+    → FailsBy g (Ok answer)
 only_deep Is height_of source answer t i one (faults.TooLong units) s = no_tree Is height_of source (faults.TooLong units) tt s t i.0
 only_deep Is height_of source answer t i one (faults.Token at) s = no_tree Is height_of source (faults.Token at) tt s t i.0
 only_deep Is height_of source answer t i one (faults.Syntax at) s = no_tree Is height_of source (faults.Syntax at) tt s t i.0
@@ -109,18 +135,31 @@ only_deep Is height_of source answer t i one (faults.TooMany at) s = no_tree Is 
 only_deep Is height_of source answer t i one faults.TooDeep s = let e : height_of t ≡ height_of s.0 = ap height_of (one s.0 s.1.0) in omega (arith, e, i.1, s.1.1)
 only_deep Is height_of source answer t i one faults.Memory s = absurd s
 
-tree_answers : {A Tree : Type 0} (Is : List Token → Tree → Type 0) (height_of : Tree → ℕ) (source : List ℕ) (look : A → Tree) (x : A) → IsSource Is height_of source (look x) → ((t : Tree) → IsTreeOf Is source t → look x ≡ t) → Answers Is height_of source look (Ok x)
+tree_answers : {A Tree : Type 0} (Is : List Token → Tree → Type 0) (height_of : Tree → ℕ) (source : List ℕ) (look : A → Tree) (x : A)
+    → IsSource Is height_of source (look x)
+    → ((t : Tree) → IsTreeOf Is source t → look x ≡ t)
+    → Answers Is height_of source look (Ok x)
 tree_answers Is height_of source look x i one = record { found = i; only = λ t h. one t h.0; long = λ l. absurd (omega (arith, i.0.short)); caused = tt; exact = only_deep Is height_of source x (look x) i one; first = λ g c. tt }
 
 -- ---- where reading stopped
 
 -- no further tokens were read, and those that were begin the language
-stop_stands : {Tree : Type 0} (Is : List Token → Tree → Type 0) (height_of : Tree → ℕ) (source : List ℕ) (end : ℕ) (ts : List Token) (s : Stop) → length source ≤ MOST_UNITS → IsReadOf source ts (Some s) → Begins Is ts → Stands Is height_of source (stop_fault end (Some s))
+stop_stands : {Tree : Type 0} (Is : List Token → Tree → Type 0) (height_of : Tree → ℕ) (source : List ℕ) (end : ℕ) (ts : List Token) (s : Stop)
+    → length source ≤ MOST_UNITS
+    → IsReadOf source ts (Some s)
+    → Begins Is ts
+    → Stands Is height_of source (stop_fault end (Some s))
 stop_stands Is height_of source end ts (bad at) short r b = (short, (r.1, r.2, subst (λ (ts : List Token). Begins Is ts) r.0 b))
 stop_stands Is height_of source end ts (many at) short r b = (short, (record { before = r.before; next = r.next; left = r.left; parts = r.parts; place = r.place; counted = r.counted }, subst (λ (ts : List Token). Begins Is ts) r.taken b))
 
 -- reading is stuck at the end of what was read
-end_stands : {Tree : Type 0} (Is : List Token → Tree → Type 0) (height_of : Tree → ℕ) (source : List ℕ) (end : ℕ) (ts : List Token) (stop : Option Stop) → length source ≤ MOST_UNITS → end ≡ length source → IsReadOf source ts stop → Begins Is ts → (InLanguage Is ts → ⊥) → Stands Is height_of source (stop_fault end stop)
+end_stands : {Tree : Type 0} (Is : List Token → Tree → Type 0) (height_of : Tree → ℕ) (source : List ℕ) (end : ℕ) (ts : List Token) (stop : Option Stop)
+    → length source ≤ MOST_UNITS
+    → end ≡ length source
+    → IsReadOf source ts stop
+    → Begins Is ts
+    → (InLanguage Is ts → ⊥)
+    → Stands Is height_of source (stop_fault end stop)
 end_stands Is height_of source end ts None short e r b none =
     let left : LeavesLanguage Is source end = record {
       before = tokens_of source;
@@ -133,24 +172,45 @@ end_stands Is height_of source end ts None short e r b none =
     (short, (left, r.2))
 end_stands Is height_of source end ts (Some s) short e r b none = stop_stands Is height_of source end ts s short r b
 
-whole_left : {Tree : Type 0} (Is : List Token → Tree → Type 0) (height_of : Tree → ℕ) (source : List ℕ) (end : ℕ) (ts : List Token) (stop : Option Stop) → length source ≤ MOST_UNITS → end ≡ length source → IsReadOf source ts stop → (before left : List Token) → ts ≡ before ++ left → length left ≡ 0 → Begins Is before → Leaves Is before left → Stands Is height_of source (stop_fault end stop)
+whole_left : {Tree : Type 0} (Is : List Token → Tree → Type 0) (height_of : Tree → ℕ) (source : List ℕ) (end : ℕ) (ts : List Token) (stop : Option Stop)
+    → length source ≤ MOST_UNITS
+    → end ≡ length source
+    → IsReadOf source ts stop
+    → (before left : List Token)
+    → ts ≡ before ++ left
+    → length left ≡ 0
+    → Begins Is before
+    → Leaves Is before left
+    → Stands Is height_of source (stop_fault end stop)
 whole_left Is height_of source end ts stop short e r before [] p c b l =
     let q : before ≡ ts = sym (p ∙ append-nil before) in
     end_stands Is height_of source end ts stop short e r (subst (λ (ts : List Token). Begins Is ts) q b) (subst (λ (ts : List Token). InLanguage Is ts → ⊥) q l)
 whole_left Is height_of source end ts stop short e r before (t ∷ left) p c b l = absurd (omega arith)
 
-at_seam : (before : List Token) (t : Token) (left : List Token) → slice_get (before ++ t ∷ left) (length before) ≡ Some t
+at_seam : (before : List Token) (t : Token) (left : List Token)
+    → slice_get (before ++ t ∷ left) (length before) ≡ Some t
 at_seam [] t left = refl
 at_seam (x ∷ before) t left = at_seam before t left
 
 -- the place of the token from which so many are left
-seam_start : (end : ℕ) (ts before : List Token) (t : Token) (left : List Token) (k : ℕ) → ts ≡ before ++ t ∷ left → length (t ∷ left) ≡ suc k → start_or end (slice_get ts (length ts - suc k)) ≡ t.start
+seam_start : (end : ℕ) (ts before : List Token) (t : Token) (left : List Token) (k : ℕ)
+    → ts ≡ before ++ t ∷ left
+    → length (t ∷ left) ≡ suc k
+    → start_or end (slice_get ts (length ts - suc k)) ≡ t.start
 seam_start end ts before t left k p c =
     let n : length ts - suc k ≡ length before = omega (arith, ap (λ (ts : List Token). length ts) p, length-append before (t ∷ left)) in
     ap (λ (i : ℕ). start_or end (slice_get ts i)) n ∙ ap (λ (ts : List Token). start_or end (slice_get ts (length before))) p ∙ ap (λ (o : Option Token). start_or end o) (at_seam before t left)
 
 -- reading is stuck at one of the tokens that were read
-token_stands : {Tree : Type 0} (Is : List Token → Tree → Type 0) (height_of : Tree → ℕ) (source : List ℕ) (end : ℕ) (ts : List Token) (stop : Option Stop) → length source ≤ MOST_UNITS → IsReadOf source ts stop → (k : ℕ) (before left : List Token) → ts ≡ before ++ left → length left ≡ suc k → Begins Is before → Leaves Is before left → Stands Is height_of source (faults.Syntax (start_or end (slice_get ts (length ts - suc k))))
+token_stands : {Tree : Type 0} (Is : List Token → Tree → Type 0) (height_of : Tree → ℕ) (source : List ℕ) (end : ℕ) (ts : List Token) (stop : Option Stop)
+    → length source ≤ MOST_UNITS
+    → IsReadOf source ts stop
+    → (k : ℕ) (before left : List Token)
+    → ts ≡ before ++ left
+    → length left ≡ suc k
+    → Begins Is before
+    → Leaves Is before left
+    → Stands Is height_of source (faults.Syntax (start_or end (slice_get ts (length ts - suc k))))
 token_stands Is height_of source end ts stop short r k before [] p c b l = absurd (omega arith)
 token_stands Is height_of source end ts stop short r k before (t ∷ left) p c b l =
     let f : AreFirst MOST_TOKENS (tokens_of source) ts = are_first MOST_TOKENS (tokens_of source) (bad_place source) ts stop r in
@@ -164,7 +224,13 @@ token_stands Is height_of source end ts stop short r k before (t ∷ left) p c b
     } in
     (short, (here, omega (arith, f.few, ap (λ (ts : List Token). length ts) p, length-append before (t ∷ left))))
 
-fault_stands : {Tree : Type 0} (Is : List Token → Tree → Type 0) (height_of : Tree → ℕ) (source : List ℕ) (end : ℕ) (ts : List Token) (stop : Option Stop) → length source ≤ MOST_UNITS → end ≡ length source → IsReadOf source ts stop → (left : ℕ) → LeavesAt Is ts left → Stands Is height_of source (fault_of (record { tokens = ts; stop = stop }) end (errors.Syntax left))
+fault_stands : {Tree : Type 0} (Is : List Token → Tree → Type 0) (height_of : Tree → ℕ) (source : List ℕ) (end : ℕ) (ts : List Token) (stop : Option Stop)
+    → length source ≤ MOST_UNITS
+    → end ≡ length source
+    → IsReadOf source ts stop
+    → (left : ℕ)
+    → LeavesAt Is ts left
+    → Stands Is height_of source (fault_of (record { tokens = ts; stop = stop }) end (errors.Syntax left))
 fault_stands Is height_of source end ts stop short e r zero l = whole_left Is height_of source end ts stop short e r l.before l.left l.parts l.counted l.begins l.leaves
 fault_stands Is height_of source end ts stop short e r (suc k) l = token_stands Is height_of source end ts stop short r k l.before l.left l.parts l.counted l.begins l.leaves
 
@@ -172,7 +238,8 @@ stop_placed : (end : ℕ) (s : Stop) → IsPlaced (stop_fault end (Some s))
 stop_placed end (bad at) = tt
 stop_placed end (many at) = tt
 
-fault_placed : (ts : List Token) (stop : Option Stop) (end left : ℕ) → IsPlaced (fault_of (record { tokens = ts; stop = stop }) end (errors.Syntax left))
+fault_placed : (ts : List Token) (stop : Option Stop) (end left : ℕ)
+    → IsPlaced (fault_of (record { tokens = ts; stop = stop }) end (errors.Syntax left))
 fault_placed ts None end zero = tt
 fault_placed ts (Some s) end zero = stop_placed end s
 fault_placed ts stop end (suc left) = tt
@@ -180,13 +247,23 @@ fault_placed ts stop end (suc left) = tt
 -- ---- what is told
 
 -- a tree was read from all tokens of the source
-high_answers : {A Tree : Type 0} (Is : List Token → Tree → Type 0) (height_of : Tree → ℕ) (source : List ℕ) (look : A → Tree) (x : A) (high : Bool) (height : ℕ) → nat_lt MOST_HEIGHT height ≡ high → height ≡ height_of (look x) → IsTreeOf Is source (look x) → ((t : Tree) → IsTreeOf Is source t → look x ≡ t) → Answers Is height_of source look (unless_deep high x)
+high_answers : {A Tree : Type 0} (Is : List Token → Tree → Type 0) (height_of : Tree → ℕ) (source : List ℕ) (look : A → Tree) (x : A) (high : Bool) (height : ℕ)
+    → nat_lt MOST_HEIGHT height ≡ high
+    → height ≡ height_of (look x)
+    → IsTreeOf Is source (look x)
+    → ((t : Tree) → IsTreeOf Is source t → look x ≡ t)
+    → Answers Is height_of source look (unless_deep high x)
 high_answers Is height_of source look x false height b h i one = tree_answers Is height_of source look x (i, omega (arith, h, ltb-false)) one
 high_answers {A} {Tree} Is height_of source look x true height b h i one =
     fault_answers Is height_of source look faults.TooDeep (look x, (i, omega (arith, h, ltb-true))) (λ t. let e : height_of (look x) ≡ height_of t.0 = ap height_of (one t.0 t.1.0) in omega (arith, e, h, ltb-true, t.1.1))
 
 complete_answers : {A Tree : Type 0} (Is : List Token → Tree → Type 0) (height_of : Tree → ℕ) (source : List ℕ) (look : A → Tree) (room : ℕ) (read : Result Tree Fault) (end : ℕ) (ts : List Token) (stop : Option Stop) (x : A) (height : ℕ)
-    → ReadsExactly Is height_of room ts read → length source ≤ MOST_UNITS → IsReadOf source ts stop → read ≡ Ok (look x) → height ≡ height_of (look x) → Answers Is height_of source look (complete end stop x height)
+    → ReadsExactly Is height_of room ts read
+    → length source ≤ MOST_UNITS
+    → IsReadOf source ts stop
+    → read ≡ Ok (look x)
+    → height ≡ height_of (look x)
+    → Answers Is height_of source look (complete end stop x height)
 complete_answers Is height_of source look room read end ts None x height exact short r e h =
     let i : Is ts (look x) = (exact.sound (look x) e).0 in
     high_answers Is height_of source look x (nat_lt MOST_HEIGHT height) height refl h
@@ -197,7 +274,14 @@ complete_answers Is height_of source look room read end ts (Some s) x height exa
     placed_answers Is height_of source look (stop_fault end (Some s)) (stop_placed end s) st
 
 -- a source with a tree is read
-reads_tree : {Tree : Type 0} (Is : List Token → Tree → Type 0) (height_of : Tree → ℕ) (source : List ℕ) (room : ℕ) (read : Result Tree Fault) (ts : List Token) (stop : Option Stop) → MOST_HEIGHT ≤ room → ReadsExactly Is height_of room ts read → IsReadOf source ts stop → (f : Fault) → read ≡ Err f → HasTree Is height_of source → ⊥
+reads_tree : {Tree : Type 0} (Is : List Token → Tree → Type 0) (height_of : Tree → ℕ) (source : List ℕ) (room : ℕ) (read : Result Tree Fault) (ts : List Token) (stop : Option Stop)
+    → MOST_HEIGHT ≤ room
+    → ReadsExactly Is height_of room ts read
+    → IsReadOf source ts stop
+    → (f : Fault)
+    → read ≡ Err f
+    → HasTree Is height_of source
+    → ⊥
 reads_tree Is height_of source room read ts stop le exact r f e h =
     let all = reads_all MOST_TOKENS (tokens_of source) (bad_place source) ts stop r h.1.0.all_good h.1.0.few in
     let k : read ≡ Ok h.0 = exact.complete h.0 (subst (λ (ts : List Token). Is ts h.0) (sym all.1) h.1.0.is) (omega (arith, le, h.1.1)) in
@@ -208,7 +292,14 @@ abbrev IsHigh : {A Tree : Type 0} → (Tree → ℕ) → (A → Tree) → Result
 IsHigh height_of look given = IfOk given (λ x. x.1 ≡ height_of (look x.0))
 
 told_by : {A Tree : Type 0} (Is : List Token → Tree → Type 0) (height_of : Tree → ℕ) (source : List ℕ) (look : A → Tree) (room : ℕ) (read : Result Tree Fault) (end : ℕ) (ts : List Token) (stop : Option Stop) (given : Result (A × ℕ) ParseError)
-    → MOST_HEIGHT ≤ room → ReadsExactly Is height_of room ts read → length source ≤ MOST_UNITS → end ≡ length source → IsReadOf source ts stop → Gives (λ x. look x.0) given read → IsHigh height_of look given → Answers Is height_of source look (told (record { tokens = ts; stop = stop }) end given)
+    → MOST_HEIGHT ≤ room
+    → ReadsExactly Is height_of room ts read
+    → length source ≤ MOST_UNITS
+    → end ≡ length source
+    → IsReadOf source ts stop
+    → Gives (λ x. look x.0) given read
+    → IsHigh height_of look given
+    → Answers Is height_of source look (told (record { tokens = ts; stop = stop }) end given)
 told_by Is height_of source look room read end ts stop (Ok x) le exact short e r g h = complete_answers Is height_of source look room read end ts stop x.0 x.1 exact short r g h
 told_by Is height_of source look room read end ts stop (Err errors.Memory) le exact short e r g h = memory_answers Is height_of source look short
 told_by Is height_of source look room read end ts stop (Err (errors.TooDeep left)) le exact short e r g h = deep_answers Is height_of source look short (reads_tree Is height_of source room read ts stop le exact r (deep left) g) (begins_too_deep Is height_of source ts stop short r (exact.deepens left g))
@@ -218,12 +309,27 @@ told_by Is height_of source look room read end ts stop (Err (errors.Syntax left)
 
 -- What is told of a source whose tokens were read so far.
 told_answers : {A Tree : Type 0} (Is : List Token → Tree → Type 0) (height_of : Tree → ℕ) (source : List ℕ) (look : A → Tree) (room : ℕ) (read : Result Tree Fault) (end : ℕ) (given : Result (A × ℕ) ParseError)
-    → MOST_HEIGHT ≤ room → ReadsExactly Is height_of room (lexed_of source).tokens read → length source ≤ MOST_UNITS → end ≡ length source → Gives (λ x. look x.0) given read → IsHigh height_of look given → Answers Is height_of source look (told (lexed_of source) end given)
+    → MOST_HEIGHT ≤ room
+    → ReadsExactly Is height_of room (lexed_of source).tokens read
+    → length source ≤ MOST_UNITS
+    → end ≡ length source
+    → Gives (λ x. look x.0) given read
+    → IsHigh height_of look given
+    → Answers Is height_of source look (told (lexed_of source) end given)
 told_answers Is height_of source look room read end given le exact short e g h = told_by Is height_of source look room read end (lexed_of source).tokens (lexed_of source).stop given le exact short e (is_read_of source) g h
 
 -- The same as the one before, of the code's values.
 pub told_as : {A Tree : Type 0} (Is : List Token → Tree → Type 0) (height_of : Tree → ℕ) (source : List ℕ) (look : A → Tree) (room : ℕ) (read : List Token → Result Tree Fault) (l : Lexed) (ts : List Token) (end : ℕ) (given : Result (A × ℕ) ParseError) (answer : Result A ParseFault)
-    → MOST_HEIGHT ≤ room → ((ts : List Token) → ReadsExactly Is height_of room ts (read ts)) → l ≡ lexed_of source → ts ≡ l.tokens → length source ≤ MOST_UNITS → end ≡ length source → Gives (λ x. look x.0) given (read ts) → IsHigh height_of look given → answer ≡ told l end given → Answers Is height_of source look answer
+    → MOST_HEIGHT ≤ room
+    → ((ts : List Token) → ReadsExactly Is height_of room ts (read ts))
+    → l ≡ lexed_of source
+    → ts ≡ l.tokens
+    → length source ≤ MOST_UNITS
+    → end ≡ length source
+    → Gives (λ x. look x.0) given (read ts)
+    → IsHigh height_of look given
+    → answer ≡ told l end given
+    → Answers Is height_of source look answer
 told_as {A} Is height_of source look room read l ts end given answer le exact p q short e g h a =
     let t : ts ≡ (lexed_of source).tokens = q ∙ ap (λ (l : Lexed). l.tokens) p in
     let same : answer ≡ told (lexed_of source) end given = a ∙ ap (λ (l : Lexed). told l end given) p in

@@ -13,10 +13,14 @@ use Rattle.js_parser.specs.Sources.{tokens_of, bad_place, IsTreeOf}
 -- ---- first tokens
 
 -- what begins the language begins it with fewer tokens
-pub begins_before : {Tree : Type 0} (Is : List Token → Tree → Type 0) (a b : List Token) → Begins Is (a ++ b) → Begins Is a
+pub begins_before : {Tree : Type 0} (Is : List Token → Tree → Type 0) (a b : List Token)
+    → Begins Is (a ++ b)
+    → Begins Is a
 begins_before Is a b h = (b ++ h.0, (h.1.0, subst (λ (ts : List Token). Is ts h.1.0) (append_assoc a b h.0) h.1.1))
 
-pub begins_whole : {Tree : Type 0} (Is : List Token → Tree → Type 0) (ts : List Token) (t : Tree) → Is ts t → Begins Is ts
+pub begins_whole : {Tree : Type 0} (Is : List Token → Tree → Type 0) (ts : List Token) (t : Tree)
+    → Is ts t
+    → Begins Is ts
 begins_whole Is ts t h = ([], (t, subst (λ (ts : List Token). Is ts t) (sym (append-nil ts)) h))
 
 -- a first part that is no longer than another begins it
@@ -35,13 +39,23 @@ goes_on (x ∷ a) b (y ∷ c) d p le =
     record { middle = g.middle; front = ap (λ (c : List Token). y ∷ c) g.front ∙ ap (λ (z : Token). z ∷ (a ++ g.middle)) (sym heads); back = g.back }
 
 -- past the place where the language is left no tokens begin it
-left_by : {Tree : Type 0} (Is : List Token → Tree → Type 0) (before left middle d : List Token) → left ≡ middle ++ d → 0 < length middle → Leaves Is before left → Begins Is (before ++ middle) → ⊥
+left_by : {Tree : Type 0} (Is : List Token → Tree → Type 0) (before left middle d : List Token)
+    → left ≡ middle ++ d
+    → 0 < length middle
+    → Leaves Is before left
+    → Begins Is (before ++ middle)
+    → ⊥
 left_by Is before left [] d p some leaves b = absurd (omega arith)
 left_by Is before left (t ∷ middle) d p some leaves b =
     let l : Begins Is (before ++ t ∷ []) → ⊥ = subst (λ (left : List Token). Leaves Is before left) p leaves in
     l (begins_before Is (before ++ t ∷ []) middle (subst (λ (ts : List Token). Begins Is ts) (sym (append_assoc before (t ∷ []) middle)) b))
 
-pub past : {Tree : Type 0} (Is : List Token → Tree → Type 0) (before left c d : List Token) → before ++ left ≡ c ++ d → length before < length c → Leaves Is before left → Begins Is c → ⊥
+pub past : {Tree : Type 0} (Is : List Token → Tree → Type 0) (before left c d : List Token)
+    → before ++ left ≡ c ++ d
+    → length before < length c
+    → Leaves Is before left
+    → Begins Is c
+    → ⊥
 past Is before left c d p less leaves b =
     let g : GoesOn before left c d = goes_on before left c d p (omega arith) in
     left_by Is before left g.middle d g.back (omega (arith, ap (λ (ts : List Token). length ts) g.front, length-append before g.middle)) leaves (subst (λ (ts : List Token). Begins Is ts) g.front b)
@@ -58,7 +72,10 @@ same_parts [] b (y ∷ c) d p e = absurd (omega arith)
 same_parts (x ∷ a) b [] d p e = absurd (omega arith)
 same_parts (x ∷ a) b (y ∷ c) d p e = let tails : a ++ b ≡ c ++ d = cc in same_parts a b c d tails (omega arith)
 
-pub syntax_once : {Tree : Type 0} (Is : List Token → Tree → Type 0) (source : List ℕ) (a b : ℕ) → LeavesLanguage Is source a → LeavesLanguage Is source b → a ≡ b
+pub syntax_once : {Tree : Type 0} (Is : List Token → Tree → Type 0) (source : List ℕ) (a b : ℕ)
+    → LeavesLanguage Is source a
+    → LeavesLanguage Is source b
+    → a ≡ b
 syntax_once Is source a b f g =
     let p : f.before ++ f.left ≡ g.before ++ g.left = sym f.parts ∙ g.parts in
     elim (cases_lt (length f.before) (length g.before)) [
@@ -77,18 +94,32 @@ many_once source a b f g =
     let n : f.next ≡ g.next = cc in
     f.place ∙ ap (λ (t : Token). t.start) n ∙ sym g.place
 
-bad_syntax_by : {Tree : Type 0} (Is : List Token → Tree → Type 0) (source : List ℕ) (a b : ℕ) (before left : List Token) → tokens_of source ≡ before ++ left → IsPlace source left b → Leaves Is before left → HasBadToken Is source a → ⊥
+bad_syntax_by : {Tree : Type 0} (Is : List Token → Tree → Type 0) (source : List ℕ) (a b : ℕ) (before left : List Token)
+    → tokens_of source ≡ before ++ left
+    → IsPlace source left b
+    → Leaves Is before left
+    → HasBadToken Is source a
+    → ⊥
 bad_syntax_by Is source a b before [] p place leaves f = let e : bad_place source ≡ None = place.0 in let s : bad_place source ≡ Some a = f.0 in absurd cc
 bad_syntax_by Is source a b before (t ∷ left) p place leaves f =
     past Is before (t ∷ left) (tokens_of source) [] (sym p ∙ sym (append-nil (tokens_of source))) (omega (arith, ap (λ (ts : List Token). length ts) p, length-append before (t ∷ left))) leaves f.2
 
-pub bad_syntax : {Tree : Type 0} (Is : List Token → Tree → Type 0) (source : List ℕ) (a b : ℕ) → HasBadToken Is source a → LeavesLanguage Is source b → ⊥
+pub bad_syntax : {Tree : Type 0} (Is : List Token → Tree → Type 0) (source : List ℕ) (a b : ℕ)
+    → HasBadToken Is source a
+    → LeavesLanguage Is source b
+    → ⊥
 bad_syntax Is source a b f g = bad_syntax_by Is source a b g.before g.left g.parts g.place g.leaves f
 
-pub bad_many : {Tree : Type 0} (Is : List Token → Tree → Type 0) (source : List ℕ) (a b : ℕ) → HasBadToken Is source a → PassesLimit source b → ⊥
+pub bad_many : {Tree : Type 0} (Is : List Token → Tree → Type 0) (source : List ℕ) (a b : ℕ)
+    → HasBadToken Is source a
+    → PassesLimit source b
+    → ⊥
 bad_many Is source a b f g = omega (arith, f.1, ap (λ (ts : List Token). length ts) g.parts, length-append g.before (g.next ∷ g.left), g.counted)
 
-syntax_many : {Tree : Type 0} (Is : List Token → Tree → Type 0) (source : List ℕ) (a b : ℕ) → HasSyntaxFault Is source a → HasTooMany Is source b → ⊥
+syntax_many : {Tree : Type 0} (Is : List Token → Tree → Type 0) (source : List ℕ) (a b : ℕ)
+    → HasSyntaxFault Is source a
+    → HasTooMany Is source b
+    → ⊥
 syntax_many Is source a b f g =
     past Is f.0.before f.0.left (g.0.before ++ g.0.next ∷ []) g.0.left (sym f.0.parts ∙ g.0.parts ∙ sym (append_assoc g.0.before (g.0.next ∷ []) g.0.left)) (omega (arith, f.1, g.0.counted, length-append g.0.before (g.0.next ∷ []))) f.0.leaves g.1
 
@@ -97,7 +128,10 @@ some_is a b o p q = cc
 
 -- ---- a fault and a tree
 
-not_in : {Tree : Type 0} (Is : List Token → Tree → Type 0) (before left : List Token) (t : Tree) → Leaves Is before left → Is (before ++ left) t → ⊥
+not_in : {Tree : Type 0} (Is : List Token → Tree → Type 0) (before left : List Token) (t : Tree)
+    → Leaves Is before left
+    → Is (before ++ left) t
+    → ⊥
 not_in Is before [] t leaves i = leaves (t, subst (λ (ts : List Token). Is ts t) (append-nil before) i)
 not_in Is before (x ∷ left) t leaves i = leaves (left, (t, subst (λ (ts : List Token). Is ts t) (sym (append_assoc before (x ∷ []) left)) i))
 
@@ -107,7 +141,12 @@ IsPlaced faults.TooDeep = ⊥
 IsPlaced faults.Memory = ⊥
 IsPlaced f = Unit {0}
 
-pub no_tree : {Tree : Type 0} (Is : List Token → Tree → Type 0) (height_of : Tree → ℕ) (source : List ℕ) (f : ParseFault) → IsPlaced f → Stands Is height_of source f → (t : Tree) → IsTreeOf Is source t → ⊥
+pub no_tree : {Tree : Type 0} (Is : List Token → Tree → Type 0) (height_of : Tree → ℕ) (source : List ℕ) (f : ParseFault)
+    → IsPlaced f
+    → Stands Is height_of source f
+    → (t : Tree)
+    → IsTreeOf Is source t
+    → ⊥
 no_tree Is height_of source (faults.TooLong units) p s t h = omega (arith, s.0, h.short)
 no_tree Is height_of source (faults.Token at) p s t h = let e : bad_place source ≡ Some at = s.1.0 in let n : bad_place source ≡ None = h.all_good in absurd cc
 no_tree Is height_of source (faults.Syntax at) p s t h = not_in Is s.1.0.before s.1.0.left t s.1.0.leaves (subst (λ (ts : List Token). Is ts t) s.1.0.parts h.is)
@@ -116,7 +155,10 @@ no_tree Is height_of source faults.TooDeep p s t h = absurd p
 no_tree Is height_of source faults.Memory p s t h = absurd p
 
 -- At most one fault stands in a source.
-pub one_fault : {Tree : Type 0} (Is : List Token → Tree → Type 0) (height_of : Tree → ℕ) (source : List ℕ) (f g : ParseFault) → Stands Is height_of source f → Stands Is height_of source g → f ≡ g
+pub one_fault : {Tree : Type 0} (Is : List Token → Tree → Type 0) (height_of : Tree → ℕ) (source : List ℕ) (f g : ParseFault)
+    → Stands Is height_of source f
+    → Stands Is height_of source g
+    → f ≡ g
 one_fault Is height_of source (faults.TooLong a) (faults.TooLong b) p q = ap (λ (n : ℕ). faults.TooLong n) (p.1 ∙ sym q.1)
 one_fault Is height_of source (faults.TooLong a) (faults.Token b) p q = absurd (omega (arith, p.0, q.0))
 one_fault Is height_of source (faults.TooLong a) (faults.Syntax b) p q = absurd (omega (arith, p.0, q.0))

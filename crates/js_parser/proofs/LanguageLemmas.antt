@@ -30,7 +30,8 @@ reads_function ts = record {
   deepens = λ left e. function_too_deep MOST_HEIGHT ts left e;
 }
 
-pub reads_script : (earlier : List Identifier) (ts : List Token) → ReadsExactly (IsScript earlier) height_of_statements MOST_ROOM ts (parse_script MOST_ROOM earlier ts)
+pub reads_script : (earlier : List Identifier) (ts : List Token)
+    → ReadsExactly (IsScript earlier) height_of_statements MOST_ROOM ts (parse_script MOST_ROOM earlier ts)
 reads_script earlier ts = record {
   sound = λ t e. script_read MOST_ROOM earlier ts t e;
   complete = λ t i l. script_again_whole MOST_ROOM earlier ts t i l;

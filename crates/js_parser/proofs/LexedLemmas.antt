@@ -27,17 +27,26 @@ begins all = record { room = MOST_TOKENS; fits = refl; same = front_nil (lexed M
 abbrev pub lent : lexer.Token → Lent
 lent t = record { kind = t.kind; text = t.text.now; start = t.start; newline_before = t.newline_before }
 
-regroup : (ts : List lexer.Token) (t : lexer.Token) (l : Lexed) → with_front (tokens_view ts) (record { tokens = lent_view (lent t) ∷ l.tokens; stop = l.stop }) ≡ with_front (tokens_view (ts ++ t ∷ [])) l
+regroup : (ts : List lexer.Token) (t : lexer.Token) (l : Lexed)
+    → with_front (tokens_view ts) (record { tokens = lent_view (lent t) ∷ l.tokens; stop = l.stop }) ≡ with_front (tokens_view (ts ++ t ∷ [])) l
 regroup ts t l = ap (λ (us : List Token). record { tokens = us; stop = l.stop }) (moves ts)
   where
-    moves : (ts : List lexer.Token) → tokens_view ts ++ (lent_view (lent t) ∷ l.tokens) ≡ tokens_view (ts ++ t ∷ []) ++ l.tokens
+    moves : (ts : List lexer.Token)
+        → tokens_view ts ++ (lent_view (lent t) ∷ l.tokens) ≡ tokens_view (ts ++ t ∷ []) ++ l.tokens
     moves [] = refl
     moves (x ∷ ts) = ap (λ (us : List Token). token_view x ∷ us) (moves ts)
 
-pub one_more : (all : List (Result Lent ℕ)) (ts : List lexer.Token) (t : lexer.Token) (left rest : List (Result Lent ℕ)) → Reads all ts left → left ≡ Ok (lent t) ∷ rest → (length ts ≡ MOST_TOKENS → ⊥) → Reads all (ts ++ t ∷ []) rest
+pub one_more : (all : List (Result Lent ℕ)) (ts : List lexer.Token) (t : lexer.Token) (left rest : List (Result Lent ℕ))
+    → Reads all ts left
+    → left ≡ Ok (lent t) ∷ rest
+    → (length ts ≡ MOST_TOKENS → ⊥)
+    → Reads all (ts ++ t ∷ []) rest
 one_more all ts t left rest r e n = by_room r.room r.fits r.same
   where
-    by_room : (room : ℕ) → length ts + room ≡ MOST_TOKENS → lexed MOST_TOKENS all ≡ with_front (tokens_view ts) (lexed room left) → Reads all (ts ++ t ∷ []) rest
+    by_room : (room : ℕ)
+        → length ts + room ≡ MOST_TOKENS
+        → lexed MOST_TOKENS all ≡ with_front (tokens_view ts) (lexed room left)
+        → Reads all (ts ++ t ∷ []) rest
     by_room zero f s = absurd (n (omega arith))
     by_room (suc k) f s = record {
       room = k;

@@ -22,7 +22,11 @@ use Rattle.js_parser.specs.Spans.{AreSpansIn}
 use Rattle.js_parser.proofs.ExpressionLemmas.{expression_some, expression_none, function_is}
 
 -- of a source with a tree
-pub text_found : (source : List ℕ) (e : Expr) (spans : List Span) (node : ℕ) → IsSource IsExpression height source (expression_view e) → AreSpansIn source spans (expression_places e) → numbers_of (expression_places e) ≡ range_with_len 0 (length spans) → units_in (span_of spans node) source ≡ node_text source node
+pub text_found : (source : List ℕ) (e : Expr) (spans : List Span) (node : ℕ)
+    → IsSource IsExpression height source (expression_view e)
+    → AreSpansIn source spans (expression_places e)
+    → numbers_of (expression_places e) ≡ range_with_len 0 (length spans)
+    → units_in (span_of spans node) source ≡ node_text source node
 unfolding node_text
 text_found source e spans node is stand numbered =
     ap (λ (s : Span). units_in s source) (span_found spans e (tokens_of source) stand numbered node)
@@ -43,12 +47,17 @@ unless_lacking P (faults.TooLong units) says some = says
 unless_lacking P faults.TooDeep says some = says
 
 -- of a source with a fault
-pub text_refused : {A : Type 0} (source : List ℕ) (node : ℕ) (look : A → Expression) (f : ParseFault) → ((e : Expression) → IsSource IsExpression height source e → OkOrMemory {A = A} (λ x. look x ≡ e) (Err f)) → lacks_memory f ≡ false → [] ≡ node_text source node
+pub text_refused : {A : Type 0} (source : List ℕ) (node : ℕ) (look : A → Expression) (f : ParseFault)
+    → ((e : Expression) → IsSource IsExpression height source e → OkOrMemory {A = A} (λ x. look x ≡ e) (Err f))
+    → lacks_memory f ≡ false
+    → [] ≡ node_text source node
 text_refused {A} source node look f only some = text_none source node (unless_lacking (expression_of source ≡ None) f (expression_none {A = A} source look (Err f) only) some)
 
 -- ---- functions are expressions
 
-function_source : (source : List ℕ) (e : Expression) → IsSource IsFunction height source e → IsSource IsExpression height source e
+function_source : (source : List ℕ) (e : Expression)
+    → IsSource IsFunction height source e
+    → IsSource IsExpression height source e
 function_source source e i =
     let t : IsTreeOf IsExpression source e = record { short = i.0.short; all_good = i.0.all_good; few = i.0.few; is = record { well = i.0.is.well; spelled = i.0.is.spelled } } in
     (t, i.1)

@@ -12,7 +12,10 @@ no_lower first next (stands_maybe k ∷ ps) h = no_lower first next ps h
 no_lower first next (opens n ∷ ps) h = no_lower first next ps h
 no_lower first next (closes n ∷ ps) h = omega (arith, no_lower (suc first) next ps h.1)
 
-one_by_one : (first next k : ℕ) (ps : List Place) → AreNumbered first ps next → first + k ≡ next → numbers_of ps ≡ range_with_len first k
+one_by_one : (first next k : ℕ) (ps : List Place)
+    → AreNumbered first ps next
+    → first + k ≡ next
+    → numbers_of ps ≡ range_with_len first k
 one_by_one first next zero [] h e = refl
 one_by_one first next (suc k) [] h e = absurd (omega (arith, h, e))
 one_by_one first next k (stands s ∷ ps) h e = one_by_one first next k ps h e
@@ -24,5 +27,9 @@ one_by_one first next (suc k) (closes n ∷ ps) h e =
     rw h.0 (ap (λ (ns : List ℕ). first ∷ ns) (subst (λ m. numbers_of ps ≡ range_with_len m k) on (one_by_one (suc first) next k ps h.1 (omega (arith, e)))))
 
 -- where there was no node before
-pub from_zero : (old new : List Span) (ps : List Place) (count : ℕ) → old ≡ [] → AreNumbered (length old) ps (length new) → count ≡ length new → numbers_of ps ≡ range_with_len 0 count
+pub from_zero : (old new : List Span) (ps : List Place) (count : ℕ)
+    → old ≡ []
+    → AreNumbered (length old) ps (length new)
+    → count ≡ length new
+    → numbers_of ps ≡ range_with_len 0 count
 from_zero old new ps count none h e = one_by_one 0 count count ps (rw e (rw none at h)) (omega arith)

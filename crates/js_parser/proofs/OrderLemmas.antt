@@ -11,12 +11,21 @@ use Rattle.js_parser.proofs.PlaceLemmas.{token_in, token_before, token_before_ba
 
 -- ---- the language is left
 
-syntax_bad_by : (source : List ℕ) (a b : ℕ) (before left : List Token) → tokens_of source ≡ before ++ left → IsPlace source left a → bad_place source ≡ Some b → a < b
+syntax_bad_by : (source : List ℕ) (a b : ℕ) (before left : List Token)
+    → tokens_of source ≡ before ++ left
+    → IsPlace source left a
+    → bad_place source ≡ Some b
+    → a < b
 syntax_bad_by source a b before [] p place q = let e : bad_place source ≡ None = place.0 in absurd cc
 syntax_bad_by source a b before (t ∷ left) p place q = let l = token_before_bad source before t left p b q in omega (arith, place, l)
 
 -- between the place where the language is left and the token that is one too many
-syntax_many_by : (source : List ℕ) (a b : ℕ) (before left middle : List Token) (next : Token) (after : List Token) → tokens_of source ≡ before ++ left → left ≡ middle ++ next ∷ after → IsPlace source left a → b ≡ next.start → IsNoLater a 1 b 2
+syntax_many_by : (source : List ℕ) (a b : ℕ) (before left middle : List Token) (next : Token) (after : List Token)
+    → tokens_of source ≡ before ++ left
+    → left ≡ middle ++ next ∷ after
+    → IsPlace source left a
+    → b ≡ next.start
+    → IsNoLater a 1 b 2
 syntax_many_by source a b before left [] next after p q place e =
     let at : a ≡ next.start = subst (λ (left : List Token). IsPlace source left a) q place in
     inr (at ∙ sym e, omega arith)
@@ -25,18 +34,28 @@ syntax_many_by source a b before left (t ∷ middle) next after p q place e =
     let l = token_before source before t middle next after (p ∙ ap (λ (left : List Token). before ++ left) q) in
     inl (omega (arith, at, e, l))
 
-syntax_many_first : {Tree : Type 0} (Is : List Token → Tree → Type 0) (source : List ℕ) (a b : ℕ) → HasSyntaxFault Is source a → PassesLimit source b → IsNoLater a 1 b 2
+syntax_many_first : {Tree : Type 0} (Is : List Token → Tree → Type 0) (source : List ℕ) (a b : ℕ)
+    → HasSyntaxFault Is source a
+    → PassesLimit source b
+    → IsNoLater a 1 b 2
 syntax_many_first Is source a b f g =
     let m : GoesOn f.0.before f.0.left g.before (g.next ∷ g.left) = goes_on f.0.before f.0.left g.before (g.next ∷ g.left) (sym f.0.parts ∙ g.parts) (omega (arith, f.1, g.counted)) in
     syntax_many_by source a b f.0.before f.0.left m.middle g.next g.left f.0.parts m.back f.0.place g.place
 
 -- ---- one token is too many
 
-many_syntax_by : (source : List ℕ) (a b : ℕ) (before : List Token) (next : Token) (middle left : List Token) → tokens_of source ≡ before ++ next ∷ (middle ++ left) → a ≡ next.start → IsPlace source left b → a < b
+many_syntax_by : (source : List ℕ) (a b : ℕ) (before : List Token) (next : Token) (middle left : List Token)
+    → tokens_of source ≡ before ++ next ∷ (middle ++ left)
+    → a ≡ next.start
+    → IsPlace source left b
+    → a < b
 many_syntax_by source a b before next middle [] p e place = let l = token_in source before next (middle ++ []) p in omega (arith, e, place.1, l)
 many_syntax_by source a b before next middle (u ∷ left) p e place = let l = token_before source before next middle u left p in omega (arith, e, place, l)
 
-many_syntax_first : {Tree : Type 0} (Is : List Token → Tree → Type 0) (source : List ℕ) (a b : ℕ) → HasTooMany Is source a → LeavesLanguage Is source b → a < b
+many_syntax_first : {Tree : Type 0} (Is : List Token → Tree → Type 0) (source : List ℕ) (a b : ℕ)
+    → HasTooMany Is source a
+    → LeavesLanguage Is source b
+    → a < b
 many_syntax_first Is source a b f g =
     let through : List Token = f.0.before ++ f.0.next ∷ [] in
     let same : through ++ f.0.left ≡ g.before ++ g.left = append_assoc f.0.before (f.0.next ∷ []) f.0.left ∙ sym f.0.parts ∙ g.parts in
@@ -49,7 +68,10 @@ many_syntax_first Is source a b f g =
 
 -- ---- any two
 
-pub comes_first : {Tree : Type 0} (Is : List Token → Tree → Type 0) (height_of : Tree → ℕ) (source : List ℕ) (f g : ParseFault) → Stands Is height_of source f → IsCause Is source g → ComesFirst f g
+pub comes_first : {Tree : Type 0} (Is : List Token → Tree → Type 0) (height_of : Tree → ℕ) (source : List ℕ) (f g : ParseFault)
+    → Stands Is height_of source f
+    → IsCause Is source g
+    → ComesFirst f g
 comes_first Is height_of source f (faults.TooLong units) s c = absurd c
 comes_first Is height_of source f faults.TooDeep s c = absurd c
 comes_first Is height_of source f faults.Memory s c = absurd c

@@ -21,7 +21,11 @@ lower low less end [] le r = tt
 lower low less end (Ok t ∷ is) le r = (omega (arith, r.0), r.1, r.2)
 lower low less end (Err at ∷ is) le r = (omega (arith, r.0), r.1)
 
-by_token : (n at end : ℕ) (here : List ℕ) (newline : Bool) (o : Option (TokenKind × ℕ)) → token_at here ≡ o → end ≡ at + length here → ((a : ℕ) (us : List ℕ) → end ≡ a + length us → Rise a end (items n a us)) → Rise at end (item_by (λ a r. items n a r) at newline here o)
+by_token : (n at end : ℕ) (here : List ℕ) (newline : Bool) (o : Option (TokenKind × ℕ))
+    → token_at here ≡ o
+    → end ≡ at + length here
+    → ((a : ℕ) (us : List ℕ) → end ≡ a + length us → Rise a end (items n a us))
+    → Rise at end (item_by (λ a r. items n a r) at newline here o)
 by_token n at end here newline (Some t) e h go =
     let l = longest_here here t.0 t.1 e in
     (omega arith, omega (arith, h, l.0, l.1), lower (at + t.1) (suc at) end (items n (at + t.1) (drop t.1 here)) (omega (arith, l.1)) (go (at + t.1) (drop t.1 here) (omega (arith, h, l.0, length-drop t.1 here))))
@@ -44,7 +48,11 @@ pub record Between (low at end : ℕ) : Type 0 where
   pub above : low ≤ at
   pub below : at < end
 
-between : (low end : ℕ) (is : List (Result Lent ℕ)) → Rise low end is → (before : List Token) (t : Token) (left : List Token) → tokens_in is ≡ before ++ t ∷ left → Between low t.start end
+between : (low end : ℕ) (is : List (Result Lent ℕ))
+    → Rise low end is
+    → (before : List Token) (t : Token) (left : List Token)
+    → tokens_in is ≡ before ++ t ∷ left
+    → Between low t.start end
 between low end [] r [] t left p = absurd cc
 between low end [] r (x ∷ before) t left p = absurd cc
 between low end (Err at ∷ is) r [] t left p = absurd cc
@@ -58,13 +66,21 @@ between low end (Ok s ∷ is) r (x ∷ before) t left p =
     let b = between (suc s.start) end is r.2 before t left e in
     record { above = omega (arith, r.0, b.above); below = b.below }
 
-bad_between : (low end : ℕ) (is : List (Result Lent ℕ)) → Rise low end is → (at : ℕ) → bad_in is ≡ Some at → Between low at end
+bad_between : (low end : ℕ) (is : List (Result Lent ℕ))
+    → Rise low end is
+    → (at : ℕ)
+    → bad_in is ≡ Some at
+    → Between low at end
 bad_between low end [] r at p = absurd cc
 bad_between low end (Err b ∷ is) r at p = let e : b ≡ at = cc in record { above = omega (arith, r.0, e); below = omega (arith, r.1, e) }
 bad_between low end (Ok s ∷ is) r at p = let b = bad_between (suc s.start) end is r.2 at p in record { above = omega (arith, r.0, b.above); below = b.below }
 
 -- a token begins before those behind it
-rise_on : (low end : ℕ) (is : List (Result Lent ℕ)) → Rise low end is → (before : List Token) (t : Token) (middle : List Token) (u : Token) (left : List Token) → tokens_in is ≡ before ++ t ∷ (middle ++ u ∷ left) → t.start < u.start
+rise_on : (low end : ℕ) (is : List (Result Lent ℕ))
+    → Rise low end is
+    → (before : List Token) (t : Token) (middle : List Token) (u : Token) (left : List Token)
+    → tokens_in is ≡ before ++ t ∷ (middle ++ u ∷ left)
+    → t.start < u.start
 rise_on low end [] r [] t middle u left p = absurd cc
 rise_on low end [] r (x ∷ before) t middle u left p = absurd cc
 rise_on low end (Err at ∷ is) r [] t middle u left p = absurd cc
@@ -79,7 +95,13 @@ rise_on low end (Ok s ∷ is) r (x ∷ before) t middle u left p =
     rise_on (suc s.start) end is r.2 before t middle u left e
 
 -- and before a bad one
-bad_on : (low end : ℕ) (is : List (Result Lent ℕ)) → Rise low end is → (before : List Token) (t : Token) (left : List Token) → tokens_in is ≡ before ++ t ∷ left → (at : ℕ) → bad_in is ≡ Some at → t.start < at
+bad_on : (low end : ℕ) (is : List (Result Lent ℕ))
+    → Rise low end is
+    → (before : List Token) (t : Token) (left : List Token)
+    → tokens_in is ≡ before ++ t ∷ left
+    → (at : ℕ)
+    → bad_in is ≡ Some at
+    → t.start < at
 bad_on low end [] r [] t left p at q = absurd cc
 bad_on low end [] r (x ∷ before) t left p at q = absurd cc
 bad_on low end (Err b ∷ is) r [] t left p at q = absurd cc
@@ -94,13 +116,21 @@ bad_on low end (Ok s ∷ is) r (x ∷ before) t left p at q =
 
 -- ---- of a source
 
-pub token_in : (source : List ℕ) (before : List Token) (t : Token) (left : List Token) → tokens_of source ≡ before ++ t ∷ left → t.start < length source
+pub token_in : (source : List ℕ) (before : List Token) (t : Token) (left : List Token)
+    → tokens_of source ≡ before ++ t ∷ left
+    → t.start < length source
 token_in source before t left p = (between 0 (length source) (items_of source) (rises source) before t left p).below
 
-pub token_before : (source : List ℕ) (before : List Token) (t : Token) (middle : List Token) (u : Token) (left : List Token) → tokens_of source ≡ before ++ t ∷ (middle ++ u ∷ left) → t.start < u.start
+pub token_before : (source : List ℕ) (before : List Token) (t : Token) (middle : List Token) (u : Token) (left : List Token)
+    → tokens_of source ≡ before ++ t ∷ (middle ++ u ∷ left)
+    → t.start < u.start
 token_before source before t middle u left p = rise_on 0 (length source) (items_of source) (rises source) before t middle u left p
 
-pub token_before_bad : (source : List ℕ) (before : List Token) (t : Token) (left : List Token) → tokens_of source ≡ before ++ t ∷ left → (at : ℕ) → bad_place source ≡ Some at → t.start < at
+pub token_before_bad : (source : List ℕ) (before : List Token) (t : Token) (left : List Token)
+    → tokens_of source ≡ before ++ t ∷ left
+    → (at : ℕ)
+    → bad_place source ≡ Some at
+    → t.start < at
 token_before_bad source before t left p at q = bad_on 0 (length source) (items_of source) (rises source) before t left p at q
 
 pub bad_within : (source : List ℕ) (at : ℕ) → bad_place source ≡ Some at → at < length source

@@ -24,7 +24,9 @@ IsRead n all place read None = (read ≡ all) × (place ≡ None) × (length all
 IsRead n all place read (Some (bad at)) = (read ≡ all) × (place ≡ Some at) × (length all ≤ n)
 IsRead n all place read (Some (many at)) = IsCut n all read at
 
-with_one : (x : Token) (n : ℕ) (all : List Token) (place : Option ℕ) (read : List Token) (stop : Option Stop) → IsRead n all place read stop → IsRead (suc n) (x ∷ all) place (x ∷ read) stop
+with_one : (x : Token) (n : ℕ) (all : List Token) (place : Option ℕ) (read : List Token) (stop : Option Stop)
+    → IsRead n all place read stop
+    → IsRead (suc n) (x ∷ all) place (x ∷ read) stop
 with_one x n all place read None r = (ap (λ (ts : List Token). x ∷ ts) r.0, r.1, omega (arith, r.2))
 with_one x n all place read (Some (bad at)) r = (ap (λ (ts : List Token). x ∷ ts) r.0, r.1, omega (arith, r.2))
 with_one x n all place read (Some (many at)) r = record {
@@ -37,7 +39,8 @@ with_one x n all place read (Some (many at)) r = record {
   counted = omega (arith, r.counted);
 }
 
-pub is_read : (n : ℕ) (is : List (Result Lent ℕ)) → IsRead n (tokens_in is) (bad_in is) (lexed n is).tokens (lexed n is).stop
+pub is_read : (n : ℕ) (is : List (Result Lent ℕ))
+    → IsRead n (tokens_in is) (bad_in is) (lexed n is).tokens (lexed n is).stop
 is_read n [] = (refl, refl, omega arith)
 is_read n (Err at ∷ is) = (refl, refl, omega arith)
 is_read zero (Ok t ∷ is) = record { before = []; next = lent_view t; left = tokens_in is; parts = refl; taken = refl; place = refl; counted = refl }
@@ -56,7 +59,9 @@ pub record AreFirst (n : ℕ) (all read : List Token) : Type 0 where
   pub parts : all ≡ read ++ left
   pub few : length read ≤ suc n
 
-pub are_first : (n : ℕ) (all : List Token) (place : Option ℕ) (read : List Token) (stop : Option Stop) → IsRead n all place read stop → AreFirst n all read
+pub are_first : (n : ℕ) (all : List Token) (place : Option ℕ) (read : List Token) (stop : Option Stop)
+    → IsRead n all place read stop
+    → AreFirst n all read
 are_first n all place read None r = record { left = []; parts = sym r.0 ∙ sym (append-nil read); few = omega (arith, r.2, ap (λ (ts : List Token). length ts) r.0) }
 are_first n all place read (Some (bad at)) r = record { left = []; parts = sym r.0 ∙ sym (append-nil read); few = omega (arith, r.2, ap (λ (ts : List Token). length ts) r.0) }
 are_first n all place read (Some (many at)) r = record {
@@ -66,7 +71,11 @@ are_first n all place read (Some (many at)) r = record {
 }
 
 -- where no token is bad and none is too many, all are read
-pub reads_all : (n : ℕ) (all : List Token) (place : Option ℕ) (read : List Token) (stop : Option Stop) → IsRead n all place read stop → place ≡ None → length all ≤ n → (stop ≡ None) × (read ≡ all)
+pub reads_all : (n : ℕ) (all : List Token) (place : Option ℕ) (read : List Token) (stop : Option Stop)
+    → IsRead n all place read stop
+    → place ≡ None
+    → length all ≤ n
+    → (stop ≡ None) × (read ≡ all)
 reads_all n all place read None r e le = (refl, r.0)
 reads_all n all place read (Some (bad at)) r e le = let s : place ≡ Some at = r.1 in absurd cc
 reads_all n all place read (Some (many at)) r e le = absurd (omega (arith, le, ap (λ (ts : List Token). length ts) r.parts, length-append r.before (r.next ∷ r.left), r.counted))

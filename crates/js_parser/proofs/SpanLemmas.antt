@@ -36,7 +36,11 @@ lower low less end [] le r = tt
 lower low less end (t ∷ ts) le r = (omega (arith, le, r.0), r.1, r.2, r.3)
 
 -- a token that is found here, and those behind it
-tile_found : (n at end : ℕ) (here : List ℕ) (newline : Bool) (o : Option (TokenKind × ℕ)) → token_at here ≡ o → end ≡ at + length here → ((a : ℕ) (us : List ℕ) → end ≡ a + length us → Tile a end (tokens_in (items n a us))) → Tile at end (tokens_in (item_by (λ a r. items n a r) at newline here o))
+tile_found : (n at end : ℕ) (here : List ℕ) (newline : Bool) (o : Option (TokenKind × ℕ))
+    → token_at here ≡ o
+    → end ≡ at + length here
+    → ((a : ℕ) (us : List ℕ) → end ≡ a + length us → Tile a end (tokens_in (items n a us)))
+    → Tile at end (tokens_in (item_by (λ a r. items n a r) at newline here o))
 tile_found n at end here newline (Some t) e h go =
     let l = longest_here here t.0 t.1 e in
     let width : length (take t.1 here) ≡ t.1 = length-take-le t.1 here l.0 in
@@ -69,12 +73,14 @@ are_in_order source = in_order 0 (length source) (tokens_of source) (tiles sourc
 
 -- ---- spans that are cut off
 
-cut_start : (end : ℕ) (spans : List Span) (n : ℕ) → (span_of (map (cut_at end) spans) n).start ≡ min (span_of spans n).start (min end (span_of spans n).end)
+cut_start : (end : ℕ) (spans : List Span) (n : ℕ)
+    → (span_of (map (cut_at end) spans) n).start ≡ min (span_of spans n).start (min end (span_of spans n).end)
 cut_start end [] n = omega arith
 cut_start end (s ∷ spans) zero = refl
 cut_start end (s ∷ spans) (suc n) = cut_start end spans n
 
-cut_end : (end : ℕ) (spans : List Span) (n : ℕ) → (span_of (map (cut_at end) spans) n).end ≡ min end (span_of spans n).end
+cut_end : (end : ℕ) (spans : List Span) (n : ℕ)
+    → (span_of (map (cut_at end) spans) n).end ≡ min end (span_of spans n).end
 cut_end end [] n = omega arith
 cut_end end (s ∷ spans) zero = refl
 cut_end end (s ∷ spans) (suc n) = cut_end end spans n
@@ -98,7 +104,13 @@ next_tile low end [] r = tt
 next_tile low end (t ∷ ts) r = lower t.end 0 end ts (omega arith) r.3
 
 -- what lies beyond the end of the source is nothing
-cut_nothing : (end : ℕ) (spans : List Span) → All IsForward spans → (places : List Place) (before : ℕ) (ts left : List Token) → before ≤ end → Tile 0 end ts → AreSpans spans places before ts left → AreSpans (map (cut_at end) spans) places before ts left
+cut_nothing : (end : ℕ) (spans : List Span)
+    → All IsForward spans
+    → (places : List Place) (before : ℕ) (ts left : List Token)
+    → before ≤ end
+    → Tile 0 end ts
+    → AreSpans spans places before ts left
+    → AreSpans (map (cut_at end) spans) places before ts left
 cut_nothing end spans f [] before ts left b r p = p
 cut_nothing end spans f (opens n ∷ places) before ts left b r p =
     (omega (arith, cut_start end spans n, forward_at spans n f, p.0, next_start 0 end ts r), cut_nothing end spans f places before ts left b r p.1)
@@ -112,7 +124,10 @@ cut_nothing end spans f (stands_maybe kind ∷ places) before ts left b r (inr p
     inr (p.0, cut_nothing end spans f places before ts left b r p.1)
 
 -- the spans of a source's nodes lie in it
-pub all_within : (source : List ℕ) (spans : List Span) (places : List Place) → AreSpansIn source spans places → All IsForward spans → AreSpansIn source (map (cut_at (length source)) spans) places
+pub all_within : (source : List ℕ) (spans : List Span) (places : List Place)
+    → AreSpansIn source spans places
+    → All IsForward spans
+    → AreSpansIn source (map (cut_at (length source)) spans) places
 all_within source spans places p f = cut_nothing (length source) spans f places 0 (tokens_of source) [] (omega arith) (tiles source) p
 
 -- ---- what is told of a source
@@ -128,16 +143,30 @@ unless_stands : {A : Type 0} (Holds : A → Type 0) (b : Bool) (x : A) → Holds
 unless_stands Holds true x h = tt
 unless_stands Holds false x h = h
 
-complete_stands : {A : Type 0} (Holds : A → Type 0) (end : ℕ) (stop : Option Stop) (x : A) (height : ℕ) → (stop ≡ None → Holds x) → IfOk (complete end stop x height) Holds
+complete_stands : {A : Type 0} (Holds : A → Type 0) (end : ℕ) (stop : Option Stop) (x : A) (height : ℕ)
+    → (stop ≡ None → Holds x)
+    → IfOk (complete end stop x height) Holds
 complete_stands Holds end None x height h = unless_stands Holds (nat_lt MOST_HEIGHT height) x (h refl)
 complete_stands Holds end (Some s) x height h = tt
 
-told_stands : {A : Type 0} (places : A → List Place) (source : List ℕ) (old new : List Span) (l : Lexed) (end : ℕ) (given : Result (A × ℕ) ParseError) → (l.stop ≡ None → l.tokens ≡ tokens_of source) → IfOk given (λ x. AreSpans new (places x.0) 0 l.tokens []) → IfOk given (λ x. AreInOrder l.tokens → All IsForward old → All IsForward new) → IfOk given (λ x. AreNumbered (length old) (places x.0) (length new)) → IfOk (told l end given) (λ x. PlacedIn source old new (places x))
+told_stands : {A : Type 0} (places : A → List Place) (source : List ℕ) (old new : List Span) (l : Lexed) (end : ℕ) (given : Result (A × ℕ) ParseError)
+    → (l.stop ≡ None → l.tokens ≡ tokens_of source)
+    → IfOk given (λ x. AreSpans new (places x.0) 0 l.tokens [])
+    → IfOk given (λ x. AreInOrder l.tokens → All IsForward old → All IsForward new)
+    → IfOk given (λ x. AreNumbered (length old) (places x.0) (length new))
+    → IfOk (told l end given) (λ x. PlacedIn source old new (places x))
 told_stands places source old new l end (Err e) all p f n = tt
 told_stands places source old new l end (Ok x) all p f n =
     complete_stands (λ x. PlacedIn source old new (places x)) end l.stop x.0 x.1 (λ none. record { exact = rw (all none) at p; forward = f (rw (all none) (are_in_order source)); numbers = n })
 
 -- the spans of a tree that is told
-pub told_placed : {A : Type 0} (places : A → List Place) (source : List ℕ) (old new : List Span) (l : Lexed) (ts : List Token) (end : ℕ) (given : Result (A × ℕ) ParseError) (answer : Result A ParseFault) → l ≡ lexed_of source → ts ≡ l.tokens → IfOk given (λ x. AreSpans new (places x.0) 0 ts []) → IfOk given (λ x. AreInOrder ts → All IsForward old → All IsForward new) → IfOk given (λ x. AreNumbered (length old) (places x.0) (length new)) → answer ≡ told l end given → IfOk answer (λ x. PlacedIn source old new (places x))
+pub told_placed : {A : Type 0} (places : A → List Place) (source : List ℕ) (old new : List Span) (l : Lexed) (ts : List Token) (end : ℕ) (given : Result (A × ℕ) ParseError) (answer : Result A ParseFault)
+    → l ≡ lexed_of source
+    → ts ≡ l.tokens
+    → IfOk given (λ x. AreSpans new (places x.0) 0 ts [])
+    → IfOk given (λ x. AreInOrder ts → All IsForward old → All IsForward new)
+    → IfOk given (λ x. AreNumbered (length old) (places x.0) (length new))
+    → answer ≡ told l end given
+    → IfOk answer (λ x. PlacedIn source old new (places x))
 told_placed places source old new l ts end given answer e t p f n is =
     rw is (told_stands places source old new l end given (λ none. rw e (all_read MOST_TOKENS (items_of source) (rw e at none))) (rw t at p) (rw t at f) n)

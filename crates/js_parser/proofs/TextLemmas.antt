@@ -22,7 +22,10 @@ record Fronts (is : List (Result Lent ℕ)) (before : List Token) : Type 0 where
   items : is ≡ tokens_then lents left
   seen : map lent_view lents ≡ before
 
-more_fronts : (x : Lent) (t : Token) (is : List (Result Lent ℕ)) (before : List Token) → lent_view x ≡ t → Fronts is before → Fronts (Ok x ∷ is) (t ∷ before)
+more_fronts : (x : Lent) (t : Token) (is : List (Result Lent ℕ)) (before : List Token)
+    → lent_view x ≡ t
+    → Fronts is before
+    → Fronts (Ok x ∷ is) (t ∷ before)
 more_fronts x t is before heads f = record {
   lents = x ∷ f.lents;
   left = f.left;
@@ -39,7 +42,8 @@ fronts (Ok x ∷ is) (t ∷ before) left e =
     let tails : tokens_in is ≡ before ++ left = cc in
     more_fronts x t is before heads (fronts is before left tails)
 
-tokens_first : (ls : List Lent) (is : List (Result Lent ℕ)) → tokens_in (tokens_then ls is) ≡ map lent_view ls ++ tokens_in is
+tokens_first : (ls : List Lent) (is : List (Result Lent ℕ))
+    → tokens_in (tokens_then ls is) ≡ map lent_view ls ++ tokens_in is
 tokens_first [] is = refl
 tokens_first (l ∷ ls) is = ap (λ (us : List Token). lent_view l ∷ us) (tokens_first ls is)
 
@@ -67,8 +71,13 @@ alike_behind (t ∷ front) us vs a = (refl, refl, refl, refl, alike_behind front
 
 -- ---- a text
 
-begins_text : {Tree : Type 0} (Is : List Token → Tree → Type 0) → ((ts : List Token) → Begins Is ts → BeginsWritten Is ts) → ((ts us : List Token) (t : Tree) → AreAlike ts us → Is ts t → Is us t)
-    → (source : List ℕ) (before left : List Token) → tokens_of source ≡ before ++ left → Begins Is before → BeginsText Is source before
+begins_text : {Tree : Type 0} (Is : List Token → Tree → Type 0)
+    → ((ts : List Token) → Begins Is ts → BeginsWritten Is ts)
+    → ((ts us : List Token) (t : Tree) → AreAlike ts us → Is ts t → Is us t)
+    → (source : List ℕ) (before left : List Token)
+    → tokens_of source ≡ before ++ left
+    → Begins Is before
+    → BeginsText Is source before
 begins_text Is writes alike source before left e b =
     let f = fronts (items_of source) before left e in
     let w = writes before b in
@@ -84,11 +93,20 @@ begins_text Is writes alike source before left e b =
       language = (w.language.0, subst (λ (us : List Token). Is us w.language.0) (sym tokens) (alike (before ++ map written_view w.rest) (before ++ tokens_in behind) w.language.0 (alike_behind before (map written_view w.rest) (tokens_in behind) (written_alike (end_after 0 f.lents) w.rest)) w.language.1));
     }
 
-pub expression_texts : (source : List ℕ) (before left : List Token) → tokens_of source ≡ before ++ left → Begins IsExpression before → BeginsText IsExpression source before
+pub expression_texts : (source : List ℕ) (before left : List Token)
+    → tokens_of source ≡ before ++ left
+    → Begins IsExpression before
+    → BeginsText IsExpression source before
 expression_texts source before left e b = begins_text IsExpression expression_written expression_alike source before left e b
 
-pub function_texts : (source : List ℕ) (before left : List Token) → tokens_of source ≡ before ++ left → Begins IsFunction before → BeginsText IsFunction source before
+pub function_texts : (source : List ℕ) (before left : List Token)
+    → tokens_of source ≡ before ++ left
+    → Begins IsFunction before
+    → BeginsText IsFunction source before
 function_texts source before left e b = begins_text IsFunction function_written function_alike source before left e b
 
-pub script_texts : (earlier : List Identifier) (source : List ℕ) (before left : List Token) → tokens_of source ≡ before ++ left → Begins (IsScript earlier) before → BeginsText (IsScript earlier) source before
+pub script_texts : (earlier : List Identifier) (source : List ℕ) (before left : List Token)
+    → tokens_of source ≡ before ++ left
+    → Begins (IsScript earlier) before
+    → BeginsText (IsScript earlier) source before
 script_texts earlier source before left e b = begins_text (IsScript earlier) (script_written earlier) (script_alike earlier) source before left e b

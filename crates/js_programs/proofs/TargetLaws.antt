@@ -36,7 +36,8 @@ abbrev updated_by : Option ReadTerm → UpdateOperator → Bool → Term → Ter
 updated_by (Some x) o prefix t = semantics.part (forms.Update o prefix x.reference) x.now semantics.end
 updated_by None o prefix t = t
 
-updated_is : (o : UpdateOperator) (prefix : Bool) (t : Term) → makers.updated o prefix t ≡ updated_by (read_of t) o prefix t
+updated_is : (o : UpdateOperator) (prefix : Bool) (t : Term)
+    → makers.updated o prefix t ≡ updated_by (read_of t) o prefix t
 updated_is o prefix (semantics.part (forms.Read r) now later) = refl
 updated_is o prefix _ = refl
 
@@ -52,7 +53,8 @@ abbrev call_by : Option ReadTerm → Mark → ℕ → Term → Terms → Term
 call_by (Some x) place node t args = semantics.part (forms.CallOf x.reference place node) x.now args
 call_by None place node t args = semantics.part (forms.Call place node) (semantics.more (semantics.done values.Undefined) (semantics.more t args)) semantics.end
 
-call_is : (place : Mark) (node : ℕ) (t : Term) (args : Terms) → makers.call_term place node t args ≡ call_by (read_of t) place node t args
+call_is : (place : Mark) (node : ℕ) (t : Term) (args : Terms)
+    → makers.call_term place node t args ≡ call_by (read_of t) place node t args
 call_is place node (semantics.part (forms.Read r) now later) args = refl
 call_is place node _ args = refl
 
@@ -66,22 +68,34 @@ type_is _ = refl
 
 -- ---- of a term that is read
 
-pub assigned_read : (t e : Term) (r : Reference) (now later : Terms) → read_of t ≡ Some (record { reference = r; now = now; later = later }) → makers.assigned_to t e ≡ semantics.part (forms.Assign r) (semantics.joined now (semantics.one e)) semantics.end
+pub assigned_read : (t e : Term) (r : Reference) (now later : Terms)
+    → read_of t ≡ Some (record { reference = r; now = now; later = later })
+    → makers.assigned_to t e ≡ semantics.part (forms.Assign r) (semantics.joined now (semantics.one e)) semantics.end
 assigned_read t e r now later h = assigned_is t e ∙ ap (λ o. assigned_by o t e) h
 
-pub compounded_read : (o : BinaryOperator) (t e : Term) (r : Reference) (now later : Terms) → read_of t ≡ Some (record { reference = r; now = now; later = later }) → makers.compounded o t e ≡ semantics.part (forms.Compound o r) now (semantics.one e)
+pub compounded_read : (o : BinaryOperator) (t e : Term) (r : Reference) (now later : Terms)
+    → read_of t ≡ Some (record { reference = r; now = now; later = later })
+    → makers.compounded o t e ≡ semantics.part (forms.Compound o r) now (semantics.one e)
 compounded_read o t e r now later h = compounded_is o t e ∙ ap (λ x. compounded_by x o t e) h
 
-pub updated_read : (o : UpdateOperator) (prefix : Bool) (t : Term) (r : Reference) (now later : Terms) → read_of t ≡ Some (record { reference = r; now = now; later = later }) → makers.updated o prefix t ≡ semantics.part (forms.Update o prefix r) now semantics.end
+pub updated_read : (o : UpdateOperator) (prefix : Bool) (t : Term) (r : Reference) (now later : Terms)
+    → read_of t ≡ Some (record { reference = r; now = now; later = later })
+    → makers.updated o prefix t ≡ semantics.part (forms.Update o prefix r) now semantics.end
 updated_read o prefix t r now later h = updated_is o prefix t ∙ ap (λ x. updated_by x o prefix t) h
 
-pub deleted_read : (t : Term) (r : Reference) (now later : Terms) → read_of t ≡ Some (record { reference = r; now = now; later = later }) → makers.deleted t ≡ semantics.part (forms.Delete r) now semantics.end
+pub deleted_read : (t : Term) (r : Reference) (now later : Terms)
+    → read_of t ≡ Some (record { reference = r; now = now; later = later })
+    → makers.deleted t ≡ semantics.part (forms.Delete r) now semantics.end
 deleted_read t r now later h = deleted_is t ∙ ap (λ x. deleted_by x t) h
 
-pub call_read : (place : Mark) (node : ℕ) (t : Term) (args : Terms) (r : Reference) (now later : Terms) → read_of t ≡ Some (record { reference = r; now = now; later = later }) → makers.call_term place node t args ≡ semantics.part (forms.CallOf r place node) now args
+pub call_read : (place : Mark) (node : ℕ) (t : Term) (args : Terms) (r : Reference) (now later : Terms)
+    → read_of t ≡ Some (record { reference = r; now = now; later = later })
+    → makers.call_term place node t args ≡ semantics.part (forms.CallOf r place node) now args
 call_read place node t args r now later h = call_is place node t args ∙ ap (λ x. call_by x place node t args) h
 
-pub type_read : (t : Term) (r : Reference) (now later : Terms) → read_of t ≡ Some (record { reference = r; now = now; later = later }) → makers.type_of t ≡ makers.type_of (semantics.part (forms.Read r) now later)
+pub type_read : (t : Term) (r : Reference) (now later : Terms)
+    → read_of t ≡ Some (record { reference = r; now = now; later = later })
+    → makers.type_of t ≡ makers.type_of (semantics.part (forms.Read r) now later)
 type_read t r now later h = type_is t ∙ ap (λ x. type_by x t) h
 
 -- ---- of every other
@@ -98,10 +112,14 @@ updated_other o prefix t h = updated_is o prefix t ∙ ap (λ x. updated_by x o 
 pub deleted_other : (t : Term) → read_of t ≡ None → makers.deleted t ≡ t
 deleted_other t h = deleted_is t ∙ ap (λ x. deleted_by x t) h
 
-pub call_other : (place : Mark) (node : ℕ) (t : Term) (args : Terms) → read_of t ≡ None → makers.call_term place node t args ≡ semantics.part (forms.Call place node) (semantics.more (semantics.done values.Undefined) (semantics.more t args)) semantics.end
+pub call_other : (place : Mark) (node : ℕ) (t : Term) (args : Terms)
+    → read_of t ≡ None
+    → makers.call_term place node t args ≡ semantics.part (forms.Call place node) (semantics.more (semantics.done values.Undefined) (semantics.more t args)) semantics.end
 call_other place node t args h = call_is place node t args ∙ ap (λ x. call_by x place node t args) h
 
-pub type_other : (t : Term) → read_of t ≡ None → makers.type_of t ≡ semantics.part (forms.Unary unaries.Typeof) (semantics.one t) semantics.end
+pub type_other : (t : Term)
+    → read_of t ≡ None
+    → makers.type_of t ≡ semantics.part (forms.Unary unaries.Typeof) (semantics.one t) semantics.end
 type_other t h = type_is t ∙ ap (λ x. type_by x t) h
 
 -- ---- operators
@@ -115,16 +133,24 @@ binary_is binaries.LogicalAnd l r = refl
 binary_is binaries.LogicalOr l r = refl
 binary_is _ l r = refl
 
-pub binary_deciding : (o : BinaryOperator) (f : Form) (l r : Term) → Some f ≡ deciding_form o → makers.binary_term o l r ≡ semantics.part f (semantics.one l) (semantics.one r)
+pub binary_deciding : (o : BinaryOperator) (f : Form) (l r : Term)
+    → Some f ≡ deciding_form o
+    → makers.binary_term o l r ≡ semantics.part f (semantics.one l) (semantics.one r)
 binary_deciding o f l r h = binary_is o l r ∙ ap (λ d. binary_by d o l r) (sym h)
 
-pub binary_plain : (o : BinaryOperator) (l r : Term) → None ≡ deciding_form o → makers.binary_term o l r ≡ semantics.part (forms.Binary o) (semantics.more l (semantics.one r)) semantics.end
+pub binary_plain : (o : BinaryOperator) (l r : Term)
+    → None ≡ deciding_form o
+    → makers.binary_term o l r ≡ semantics.part (forms.Binary o) (semantics.more l (semantics.one r)) semantics.end
 binary_plain o l r h = binary_is o l r ∙ ap (λ d. binary_by d o l r) (sym h)
 
-pub assignment_plain : (o : Option BinaryOperator) (t e : Term) → None ≡ o → makers.assignment o t e ≡ makers.assigned_to t e
+pub assignment_plain : (o : Option BinaryOperator) (t e : Term)
+    → None ≡ o
+    → makers.assignment o t e ≡ makers.assigned_to t e
 assignment_plain o t e h = ap (λ p. makers.assignment p t e) (sym h)
 
-pub assignment_with : (o : Option BinaryOperator) (p : BinaryOperator) (t e : Term) → Some p ≡ o → makers.assignment o t e ≡ makers.compounded p t e
+pub assignment_with : (o : Option BinaryOperator) (p : BinaryOperator) (t e : Term)
+    → Some p ≡ o
+    → makers.assignment o t e ≡ makers.compounded p t e
 assignment_with o p t e h = ap (λ q. makers.assignment q t e) (sym h)
 
 pub ruleset binary_laws = (binary_deciding, binary_plain)

@@ -16,7 +16,8 @@ use Rattle.js_rows.proofs.OverLemmas.{first-kept}
 
 -- ---- the code of a node
 
-pub node-placed : (ts : List (List ℕ)) (t : NodeTable) (node : Node) (number k : ℕ) (o : Option FunctionEntry) → Some k ≡ slice_get (kids_between t node.mid node.end) 0 →
+pub node-placed : (ts : List (List ℕ)) (t : NodeTable) (node : Node) (number k : ℕ) (o : Option FunctionEntry)
+    → Some k ≡ slice_get (kids_between t node.mid node.end) 0 →
     placed_code ts t (record { number = number; body = k; first = node.mid + 1; end = node.end }) o ≡ code_placed ts t node o
 node-placed ts t node number k None h = refl
 node-placed ts t node number k (Some f) h = ap (λ xs. code_of_parts (function_of ts f) xs) (sym (first-kept ts t node.mid node.end k h))
@@ -31,10 +32,19 @@ get_some [] i d h = absurd (omega arith)
 get_some (x ∷ xs) zero d h = refl
 get_some (x ∷ xs) (suc i) d h = get_some xs i d (omega arith)
 
-first_is : (ts : List (List ℕ)) (t : NodeTable) (source : Source) (node : ℕ) (es rest : List SourceEntry) (e : SourceEntry) → es ≡ e ∷ rest → same_source e.source source ≡ true → function_at (source_trees ts t es) source node ≡ function_in node (tree ts t e.root)
+first_is : (ts : List (List ℕ)) (t : NodeTable) (source : Source) (node : ℕ) (es rest : List SourceEntry) (e : SourceEntry)
+    → es ≡ e ∷ rest
+    → same_source e.source source ≡ true
+    → function_at (source_trees ts t es) source node ≡ function_in node (tree ts t e.root)
 first_is ts t source node es rest e h g = ap (λ xs. function_at (source_trees ts t xs) source node) h ∙ (rw g refl)
 
-pub sources-found : (t : NodeTable) (source : Source) (node i : ℕ) (e : SourceEntry) (ts : List (List ℕ)) → HasFunctions t → SourcesLeft t source node i → i < length t.sources.items → e ≡ get_or t.sources.items i e → same_source e.source source ≡ true → indexed_code ts t e node ≡ function_at (program_of ts t) source node
+pub sources-found : (t : NodeTable) (source : Source) (node i : ℕ) (e : SourceEntry) (ts : List (List ℕ))
+    → HasFunctions t
+    → SourcesLeft t source node i
+    → i < length t.sources.items
+    → e ≡ get_or t.sources.items i e
+    → same_source e.source source ≡ true
+    → indexed_code ts t e node ≡ function_at (program_of ts t) source node
 sources-found t source node i e ts has inv l h g =
     let c : drop i t.sources.items ≡ e ∷ drop (i + 1) t.sources.items = cons_at t.sources.items i e l ∙ ap (λ x. x ∷ drop (i + 1) t.sources.items) (sym h) in
     let s : slice_get t.sources.items i ≡ Some e = get_some t.sources.items i e l ∙ ap (λ x. Some x) (sym h) in

@@ -37,52 +37,65 @@ use Rattle.js_rows.specs.Declaring.{is_function_op, declared_if}
 
 -- ---- parts that are no functions
 
-script_form_skips : (ts : List (List ℕ)) (o : Option ScriptEntry) (now later us : Terms) (scope : Addr) (k : Action) → with_functions scope (more (part (script_form ts o) now later) us) k ≡ with_functions scope us k
+script_form_skips : (ts : List (List ℕ)) (o : Option ScriptEntry) (now later us : Terms) (scope : Addr) (k : Action)
+    → with_functions scope (more (part (script_form ts o) now later) us) k ≡ with_functions scope us k
 script_form_skips ts None now later us scope k = refl
 script_form_skips ts (Some e) now later us scope k = refl
 
-for_form_skips : (ts : List (List ℕ)) (o : Option ForEntry) (now later us : Terms) (scope : Addr) (k : Action) → with_functions scope (more (part (for_form ts o) now later) us) k ≡ with_functions scope us k
+for_form_skips : (ts : List (List ℕ)) (o : Option ForEntry) (now later us : Terms) (scope : Addr) (k : Action)
+    → with_functions scope (more (part (for_form ts o) now later) us) k ≡ with_functions scope us k
 for_form_skips ts None now later us scope k = refl
 for_form_skips ts (Some e) now later us scope k = refl
 
-for_of_form_skips : (ts : List (List ℕ)) (o : Option ForOfEntry) (now later us : Terms) (scope : Addr) (k : Action) → with_functions scope (more (part (for_of_form ts o) now later) us) k ≡ with_functions scope us k
+for_of_form_skips : (ts : List (List ℕ)) (o : Option ForOfEntry) (now later us : Terms) (scope : Addr) (k : Action)
+    → with_functions scope (more (part (for_of_form ts o) now later) us) k ≡ with_functions scope us k
 for_of_form_skips ts None now later us scope k = refl
 for_of_form_skips ts (Some e) now later us scope k = refl
 
-block_form_skips : (ts : List (List ℕ)) (o : Option (List Slot)) (now later us : Terms) (scope : Addr) (k : Action) → with_functions scope (more (part (block_form ts o) now later) us) k ≡ with_functions scope us k
+block_form_skips : (ts : List (List ℕ)) (o : Option (List Slot)) (now later us : Terms) (scope : Addr) (k : Action)
+    → with_functions scope (more (part (block_form ts o) now later) us) k ≡ with_functions scope us k
 block_form_skips ts None now later us scope k = refl
 block_form_skips ts (Some e) now later us scope k = refl
 
-list_form_skips : (ts : List (List ℕ)) (o : Option ForOfEntry) (now later us : Terms) (scope : Addr) (k : Action) → with_functions scope (more (part (list_form ts o) now later) us) k ≡ with_functions scope us k
+list_form_skips : (ts : List (List ℕ)) (o : Option ForOfEntry) (now later us : Terms) (scope : Addr) (k : Action)
+    → with_functions scope (more (part (list_form ts o) now later) us) k ≡ with_functions scope us k
 list_form_skips ts None now later us scope k = refl
 list_form_skips ts (Some e) now later us scope k = refl
 
-method_form_skips : (ts : List (List ℕ)) (o : Option FunctionEntry) (now later us : Terms) (scope : Addr) (k : Action) → with_functions scope (more (part (method_form ts o) now later) us) k ≡ with_functions scope us k
+method_form_skips : (ts : List (List ℕ)) (o : Option FunctionEntry) (now later us : Terms) (scope : Addr) (k : Action)
+    → with_functions scope (more (part (method_form ts o) now later) us) k ≡ with_functions scope us k
 method_form_skips ts None now later us scope k = refl
 method_form_skips ts (Some e) now later us scope k = refl
 
-object_form_skips : (ts : List (List ℕ)) (o : Option (List MemberEntry)) (now later us : Terms) (scope : Addr) (k : Action) → with_functions scope (more (part (object_form ts o) now later) us) k ≡ with_functions scope us k
+object_form_skips : (ts : List (List ℕ)) (o : Option (List MemberEntry)) (now later us : Terms) (scope : Addr) (k : Action)
+    → with_functions scope (more (part (object_form ts o) now later) us) k ≡ with_functions scope us k
 object_form_skips ts None now later us scope k = refl
 object_form_skips ts (Some e) now later us scope k = refl
 
-call_form_skips : (o : Option CallEntry) (now later us : Terms) (scope : Addr) (k : Action) → with_functions scope (more (part (call_form o) now later) us) k ≡ with_functions scope us k
+call_form_skips : (o : Option CallEntry) (now later us : Terms) (scope : Addr) (k : Action)
+    → with_functions scope (more (part (call_form o) now later) us) k ≡ with_functions scope us k
 call_form_skips None now later us scope k = refl
 call_form_skips (Some e) now later us scope k = refl
 
-name_call_form_skips : (ts : List (List ℕ)) (o : Option CallEntry) (now later us : Terms) (scope : Addr) (k : Action) → with_functions scope (more (part (name_call_form ts o) now later) us) k ≡ with_functions scope us k
+name_call_form_skips : (ts : List (List ℕ)) (o : Option CallEntry) (now later us : Terms) (scope : Addr) (k : Action)
+    → with_functions scope (more (part (name_call_form ts o) now later) us) k ≡ with_functions scope us k
 name_call_form_skips ts None now later us scope k = refl
 name_call_form_skips ts (Some e) now later us scope k = refl
 
-member_call_form_skips : (ts : List (List ℕ)) (o : Option CallEntry) (now later us : Terms) (scope : Addr) (k : Action) → with_functions scope (more (part (member_call_form ts o) now later) us) k ≡ with_functions scope us k
+member_call_form_skips : (ts : List (List ℕ)) (o : Option CallEntry) (now later us : Terms) (scope : Addr) (k : Action)
+    → with_functions scope (more (part (member_call_form ts o) now later) us) k ≡ with_functions scope us k
 member_call_form_skips ts None now later us scope k = refl
 member_call_form_skips ts (Some e) now later us scope k = refl
 
-index_call_form_skips : (o : Option CallEntry) (now later us : Terms) (scope : Addr) (k : Action) → with_functions scope (more (part (index_call_form o) now later) us) k ≡ with_functions scope us k
+index_call_form_skips : (o : Option CallEntry) (now later us : Terms) (scope : Addr) (k : Action)
+    → with_functions scope (more (part (index_call_form o) now later) us) k ≡ with_functions scope us k
 index_call_form_skips None now later us scope k = refl
 index_call_form_skips (Some e) now later us scope k = refl
 
 -- a part that is no function declares none
-others_skip : (ts : List (List ℕ)) (t : NodeTable) (o : Op) (info : ℕ) (now later us : Terms) (scope : Addr) (k : Action) → is_function_op o ≡ false → with_functions scope (more (part (form_of ts t o info) now later) us) k ≡ with_functions scope us k
+others_skip : (ts : List (List ℕ)) (t : NodeTable) (o : Op) (info : ℕ) (now later us : Terms) (scope : Addr) (k : Action)
+    → is_function_op o ≡ false
+    → with_functions scope (more (part (form_of ts t o info) now later) us) k ≡ with_functions scope us k
 unfolding form_of
 others_skip ts t ops.Literal info now later us scope k h = refl
 others_skip ts t ops.Scripts info now later us scope k h = refl
@@ -145,7 +158,9 @@ others_skip ts t ops.CallOfName info now later us scope k h = name_call_form_ski
 others_skip ts t ops.CallOfMember info now later us scope k h = member_call_form_skips ts (slice_get t.calls.items info) now later us scope k
 others_skip ts t ops.CallOfIndex info now later us scope k h = index_call_form_skips (slice_get t.calls.items info) now later us scope k
 
-if_skips : (b : Bool) (v : Value) (t : Term) (us : Terms) (scope : Addr) (k : Action) → with_functions scope (more t us) k ≡ with_functions scope us k → with_functions scope (more (if b then done v else t) us) k ≡ with_functions scope us k
+if_skips : (b : Bool) (v : Value) (t : Term) (us : Terms) (scope : Addr) (k : Action)
+    → with_functions scope (more t us) k ≡ with_functions scope us k
+    → with_functions scope (more (if b then done v else t) us) k ≡ with_functions scope us k
 if_skips true v t us scope k h = refl
 if_skips false v t us scope k h = h
 
@@ -155,7 +170,8 @@ pub texts_length : (ts : List (List ℕ)) (ns : List NameId) → length (texts_o
 texts_length ts [] = refl
 texts_length ts (n ∷ ns) = ap (λ m. suc m) (texts_length ts ns)
 
-function_makes : (ts : List (List ℕ)) (o : Option FunctionEntry) (now later us : Terms) (scope : Addr) (k : Action) → with_functions scope (more (part (function_form ts o) now later) us) k ≡ declared_if ts scope o (with_functions scope us k)
+function_makes : (ts : List (List ℕ)) (o : Option FunctionEntry) (now later us : Terms) (scope : Addr) (k : Action)
+    → with_functions scope (more (part (function_form ts o) now later) us) k ≡ declared_if ts scope o (with_functions scope us k)
 function_makes ts None now later us scope k = refl
 function_makes ts (Some f) now later us scope k =
     ap (λ n. make (cells.Function f.code (name_of ts f.name.number) n (Some scope) values.Undefined) (λ a. write scope (changes.Bind (name_of ts f.name.number) (values.Object a)) (with_functions scope us k))) (texts_length ts f.parameters.items)
@@ -166,23 +182,33 @@ function_is o h = cc
 
 -- ---- parts
 
-pub none-declares : (ts : List (List ℕ)) (t : NodeTable) (n : ℕ) (scope : Addr) (k : Action) → None ≡ slice_get t.nodes.items n → with_functions scope (one (tree ts t n)) k ≡ k
+pub none-declares : (ts : List (List ℕ)) (t : NodeTable) (n : ℕ) (scope : Addr) (k : Action)
+    → None ≡ slice_get t.nodes.items n
+    → with_functions scope (one (tree ts t n)) k ≡ k
 unfolding tree
 none-declares ts t n scope k h = rw (← h) refl
 
-pub other-declares : (ts : List (List ℕ)) (t : NodeTable) (n : ℕ) (node : Node) (scope : Addr) (k : Action) → Some node ≡ slice_get t.nodes.items n → is_function_op node.op ≡ false → with_functions scope (one (tree ts t n)) k ≡ k
+pub other-declares : (ts : List (List ℕ)) (t : NodeTable) (n : ℕ) (node : Node) (scope : Addr) (k : Action)
+    → Some node ≡ slice_get t.nodes.items n
+    → is_function_op node.op ≡ false
+    → with_functions scope (one (tree ts t n)) k ≡ k
 unfolding tree
 other-declares ts t n node scope k h g =
     rw (← h) (if_skips (is_literal node.op) _ _ end scope k (others_skip ts t node.op node.info _ _ end scope k g))
 
-pub function-declares : (ts : List (List ℕ)) (t : NodeTable) (n : ℕ) (node : Node) (o : Option FunctionEntry) (scope : Addr) (k : Action) → Some node ≡ slice_get t.nodes.items n → is_function_op node.op ≡ true → o ≡ slice_get t.functions.items node.info → with_functions scope (one (tree ts t n)) k ≡ declared_if ts scope o k
+pub function-declares : (ts : List (List ℕ)) (t : NodeTable) (n : ℕ) (node : Node) (o : Option FunctionEntry) (scope : Addr) (k : Action)
+    → Some node ≡ slice_get t.nodes.items n
+    → is_function_op node.op ≡ true
+    → o ≡ slice_get t.functions.items node.info
+    → with_functions scope (one (tree ts t n)) k ≡ declared_if ts scope o k
 unfolding tree form_of
 function-declares ts t n node o scope k h g f =
     rw (← h, function_is node.op g, f) (function_makes ts (slice_get t.functions.items node.info) _ _ end scope k)
 
 -- ---- the parts from a place on
 
-with_first : (scope : Addr) (t : Term) (us : Terms) (k : Action) → with_functions scope (more t us) k ≡ with_functions scope (one t) (with_functions scope us k)
+with_first : (scope : Addr) (t : Term) (us : Terms) (k : Action)
+    → with_functions scope (more t us) k ≡ with_functions scope (one t) (with_functions scope us k)
 with_first scope (done v) us k = refl
 with_first scope (standing v s) us k = refl
 with_first scope (part (function f) now later) us k = refl
@@ -192,16 +218,25 @@ with_first scope (part f now later) us k = refl
 abbrev pub FunctionsLeft : List (List ℕ) → NodeTable → Addr → List ℕ → World → ℕ → World → Type 0
 FunctionsLeft ts t a ks v i w = (s : State) (k : Action) → performed (with_functions a (terms (tree ts t) ks) k) (with_world s v) ≡ performed (with_functions a (terms (tree ts t) (drop i ks)) k) (with_world s w)
 
-functions_at : (ts : List (List ℕ)) (t : NodeTable) (a : Addr) (ks : List ℕ) (i d : ℕ) (v w : World) (s : State) (k : Action) → i < length ks → FunctionsLeft ts t a ks v i w →
+functions_at : (ts : List (List ℕ)) (t : NodeTable) (a : Addr) (ks : List ℕ) (i d : ℕ) (v w : World) (s : State) (k : Action)
+    → i < length ks
+    → FunctionsLeft ts t a ks v i w →
     performed (with_functions a (terms (tree ts t) ks) k) (with_world s v) ≡ performed (with_functions a (one (tree ts t (get_or ks i d))) (with_functions a (terms (tree ts t) (drop (i + 1) ks)) k)) (with_world s w)
 functions_at ts t a ks i d v w s k l h =
     h s k ∙ ap (λ xs. performed (with_functions a (terms (tree ts t) xs) k) (with_world s w)) (cons_at ks i d l) ∙ ap (λ x. performed x (with_world s w)) (with_first a (tree ts t (get_or ks i d)) (terms (tree ts t) (drop (i + 1) ks)) k)
 
-pub functions-step : (ts : List (List ℕ)) (t : NodeTable) (a : Addr) (ks : List ℕ) (i d : ℕ) (v w u : World) → i < length ks → FunctionsLeft ts t a ks v i w →
-    ((s : State) (k : Action) → performed (with_functions a (one (tree ts t (get_or ks i d))) k) (with_world s w) ≡ performed k (with_world s u)) → FunctionsLeft ts t a ks v (i + 1) u
+pub functions-step : (ts : List (List ℕ)) (t : NodeTable) (a : Addr) (ks : List ℕ) (i d : ℕ) (v w u : World)
+    → i < length ks
+    → FunctionsLeft ts t a ks v i w →
+    ((s : State) (k : Action) → performed (with_functions a (one (tree ts t (get_or ks i d))) k) (with_world s w) ≡ performed k (with_world s u))
+    → FunctionsLeft ts t a ks v (i + 1) u
 functions-step ts t a ks i d v w u l h g = λ s k. functions_at ts t a ks i d v w s k l h ∙ g s (with_functions a (terms (tree ts t) (drop (i + 1) ks)) k)
 
-pub functions-stop : (ts : List (List ℕ)) (t : NodeTable) (a : Addr) (ks : List ℕ) (i d : ℕ) (v w u : World) (r : Result (Unit {0}) ActionEnd) (e : ActionEnd) → i < length ks → FunctionsLeft ts t a ks v i w →
-    ((s : State) (k : Action) → Stops (with_functions a (one (tree ts t (get_or ks i d))) k) (with_world s w) e (with_world s u)) → IsErrAnd r (λ e'. e' ≡ e) → Passes (with_functions a (terms (tree ts t) ks)) v r u
+pub functions-stop : (ts : List (List ℕ)) (t : NodeTable) (a : Addr) (ks : List ℕ) (i d : ℕ) (v w u : World) (r : Result (Unit {0}) ActionEnd) (e : ActionEnd)
+    → i < length ks
+    → FunctionsLeft ts t a ks v i w →
+    ((s : State) (k : Action) → Stops (with_functions a (one (tree ts t (get_or ks i d))) k) (with_world s w) e (with_world s u))
+    → IsErrAnd r (λ e'. e' ≡ e)
+    → Passes (with_functions a (terms (tree ts t) ks)) v r u
 functions-stop ts t a ks i d v w u r e l h g q =
     passes-err (with_functions a (terms (tree ts t) ks)) v u r e q (λ s k said. functions_at ts t a ks i d v w s k l h ∙ g s (with_functions a (terms (tree ts t) (drop (i + 1) ks)) k) said)

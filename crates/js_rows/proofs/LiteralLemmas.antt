@@ -44,20 +44,27 @@ use Rattle.js_rows.proofs.DeclaredLemmas.{texts_length}
 
 -- ---- functions
 
-pub cell-yields : (ts : List (List ℕ)) (f : FunctionEntry) (name : List ℕ) (scope : Addr) (receiver : Value) (n : ℕ) (v : World) (r : Result Addr ActionEnd) (w : World) → n ≡ length f.parameters.items →
-    Yields (make (cells.Function f.code name n (Some scope) receiver)) v r w → Yields (make (function_cell (function_of ts f) name scope receiver)) v r w
+pub cell-yields : (ts : List (List ℕ)) (f : FunctionEntry) (name : List ℕ) (scope : Addr) (receiver : Value) (n : ℕ) (v : World) (r : Result Addr ActionEnd) (w : World)
+    → n ≡ length f.parameters.items →
+    Yields (make (cells.Function f.code name n (Some scope) receiver)) v r w
+    → Yields (make (function_cell (function_of ts f) name scope receiver)) v r w
 cell-yields ts f name scope receiver n v r w h y =
     let P : ℕ → Type 0 = λ m. Yields (make (cells.Function f.code name m (Some scope) receiver)) v r w in
     subst P (h ∙ sym (texts_length ts f.parameters.items)) y
 
-pub keyed-yields : (ts : List (List ℕ)) (f : FunctionEntry) (name key : List ℕ) (scope : Addr) (receiver : Value) (n : ℕ) (v : World) (r : Result Addr ActionEnd) (w : World) → n ≡ length f.parameters.items → name ≡ key →
-    Yields (make (cells.Function f.code name n (Some scope) receiver)) v r w → Yields (make (function_cell (function_of ts f) key scope receiver)) v r w
+pub keyed-yields : (ts : List (List ℕ)) (f : FunctionEntry) (name key : List ℕ) (scope : Addr) (receiver : Value) (n : ℕ) (v : World) (r : Result Addr ActionEnd) (w : World)
+    → n ≡ length f.parameters.items
+    → name ≡ key →
+    Yields (make (cells.Function f.code name n (Some scope) receiver)) v r w
+    → Yields (make (function_cell (function_of ts f) key scope receiver)) v r w
 keyed-yields ts f name key scope receiver n v r w h i y =
     let P : List ℕ → Type 0 = λ x. Yields (make (function_cell (function_of ts f) x scope receiver)) v r w in
     subst P i (cell-yields ts f name scope receiver n v r w h y)
 
-pub named-gives : (ts : List (List ℕ)) (f : FunctionEntry) (scope : Addr) (n : ℕ) (v : World) (r : Result Value ActionEnd) (w : World) → n ≡ length f.parameters.items →
-    Gives (named_of f.code n (name_of ts f.name.number) scope) v r w → Gives (named_function (function_of ts f) scope) v r w
+pub named-gives : (ts : List (List ℕ)) (f : FunctionEntry) (scope : Addr) (n : ℕ) (v : World) (r : Result Value ActionEnd) (w : World)
+    → n ≡ length f.parameters.items →
+    Gives (named_of f.code n (name_of ts f.name.number) scope) v r w
+    → Gives (named_function (function_of ts f) scope) v r w
 named-gives ts f scope n v r w h y =
     let P : ℕ → Type 0 = λ m. Gives (named_of f.code m (name_of ts f.name.number) scope) v r w in
     subst P (h ∙ sym (texts_length ts f.parameters.items)) y
@@ -66,27 +73,38 @@ made_else : (b : Bool) (x y : Action) → b ≡ false → (if b then x else y) �
 made_else true x y h = cc
 made_else false x y h = refl
 
-pub made-plain : (f : FunctionForm) (scope : Addr) (this u : Value) (v : World) (r : Result Value ActionEnd) (w : World) → f.is_named ≡ false → u ≡ receiver_of f this →
-    Gives (make (function_cell f f.name scope u) (λ a. give (values.Object a))) v r w → Gives (function_made f scope this) v r w
+pub made-plain : (f : FunctionForm) (scope : Addr) (this u : Value) (v : World) (r : Result Value ActionEnd) (w : World)
+    → f.is_named ≡ false
+    → u ≡ receiver_of f this →
+    Gives (make (function_cell f f.name scope u) (λ a. give (values.Object a))) v r w
+    → Gives (function_made f scope this) v r w
 made-plain f scope this u v r w h i g =
     let x : Action = make (function_cell f f.name scope (receiver_of f this)) (λ a. give (values.Object a)) in
     let P : Value → Type 0 = λ z. Gives (make (function_cell f f.name scope z) (λ a. give (values.Object a))) v r w in
     let Q : Action → Type 0 = λ z. Gives z v r w in
     subst Q (sym (made_else f.is_named (named_function f scope) x h)) (subst P i g)
 
-pub function-reply : (ts : List (List ℕ)) (f : FunctionForm) (scope : Addr) (u : Value) (c : Context) (v : World) (r : Result Value ActionEnd) (w : World) (q : Reduced) → u ≡ top_this c.frames c.outer_this →
-    Gives (function_made f scope u) v r w → q ≡ replied r → RepliesWith ts (function_row (state_of v c []) scope f) v c q w c
+pub function-reply : (ts : List (List ℕ)) (f : FunctionForm) (scope : Addr) (u : Value) (c : Context) (v : World) (r : Result Value ActionEnd) (w : World) (q : Reduced)
+    → u ≡ top_this c.frames c.outer_this →
+    Gives (function_made f scope u) v r w
+    → q ≡ replied r
+    → RepliesWith ts (function_row (state_of v c []) scope f) v c q w c
 function-reply ts f scope u c v r w q h g j =
     let P : Value → Type 0 = λ z. Gives (function_made f scope z) v r w in
     λ t e. in-context ts t e (function_row (state_of v c []) scope f) v q w c (replies-by ts (function_row (state_of v c []) scope f) v r w q (subst P h g) j t e)
 
 -- ---- object literals
 
-pub no-key : (o : Option (List Property)) (v w : World) (x : ActionEnd) → o ≡ None → Ends (fail classes.TypeError (codes "Property key must be a string or a number")) v x w → (s : State) → Stops (object_or_fail o) (with_world s v) x (with_world s w)
+pub no-key : (o : Option (List Property)) (v w : World) (x : ActionEnd)
+    → o ≡ None
+    → Ends (fail classes.TypeError (codes "Property key must be a string or a number")) v x w
+    → (s : State)
+    → Stops (object_or_fail o) (with_world s v) x (with_world s w)
 no-key None v w x h g s = g s
 no-key (Some ps) v w x h g s = cc
 
-adds_does : (ts : List (List ℕ)) (t : NodeTable) (e : Wide) (ms : List Member) (vs : List Value) (now rest : Terms) (u : Value) (s : State) → AddsTo ts t e ms vs now rest →
+adds_does : (ts : List (List ℕ)) (t : NodeTable) (e : Wide) (ms : List Member) (vs : List Value) (now rest : Terms) (u : Value) (s : State)
+    → AddsTo ts t e ms vs now rest →
     Does ts t e (go (part (object ms) (joined (dones vs) (more (done u) now)) rest)) s (reduced.Adds u) s
 unfolding reduced_move reduced_term performed
 adds_does ts t e ms vs now rest u s h =
@@ -95,8 +113,13 @@ adds_does ts t e ms vs now rest u s h =
     ap (λ (x : Terms). goes (part (task_form ts t e) (joined (dones e.values) (more (done u) x)) rest) s went) (sym h.parts) ∙
     ap (λ (x : Terms). goes (part (task_form ts t e) (joined (dones e.values) (more (done u) (now_of (head_of (later_of ts t e))))) x) s went) (sym h.behind)
 
-pub method-reply : (ts : List (List ℕ)) (f : FunctionForm) (scope : Addr) (vs : List Value) (key : Value) (v w : World) (r : Result Addr ActionEnd) (q : Reduced) → key ≡ last_of vs → Yields (method_made (key_of v key) f scope) v r w → q ≡ answered_by (λ a. reduced.Adds (values.Object a)) r →
-    (t : NodeTable) (e : Wide) (ms : List Member) (now later rest : Terms) → AddsTo ts t e ms vs now rest → DoesIn ts t e (object_row v scope ms vs (more (part (method f) now later) rest)) v q w
+pub method-reply : (ts : List (List ℕ)) (f : FunctionForm) (scope : Addr) (vs : List Value) (key : Value) (v w : World) (r : Result Addr ActionEnd) (q : Reduced)
+    → key ≡ last_of vs
+    → Yields (method_made (key_of v key) f scope) v r w
+    → q ≡ answered_by (λ a. reduced.Adds (values.Object a)) r →
+    (t : NodeTable) (e : Wide) (ms : List Member) (now later rest : Terms)
+    → AddsTo ts t e ms vs now rest
+    → DoesIn ts t e (object_row v scope ms vs (more (part (method f) now later) rest)) v q w
 method-reply ts f scope vs key v w r q i y j t e ms now later rest h =
     let P : Value → Type 0 = λ x. Yields (method_made (key_of v x) f scope) v r w in
     let next : Addr → Action = λ a. go (part (object ms) (joined (dones vs) (more (done (values.Object a)) now)) rest) in
@@ -108,7 +131,9 @@ abbrev pub is_method : Form → Bool
 is_method (method f) = true
 is_method f = false
 
-passed_part : (v : World) (scope : Addr) (ms : List Member) (vs : List Value) (f : Form) (now later rest : Terms) → is_method f ≡ false → object_row v scope ms vs (more (part f now later) rest) ≡ give values.Undefined
+passed_part : (v : World) (scope : Addr) (ms : List Member) (vs : List Value) (f : Form) (now later rest : Terms)
+    → is_method f ≡ false
+    → object_row v scope ms vs (more (part f now later) rest) ≡ give values.Undefined
 passed_part v scope ms vs (method f) now later rest h = cc
 passed_part v scope ms vs f now later rest h = refl
 
@@ -156,7 +181,9 @@ index_call_not : (o : _) → is_method (index_call_form o) ≡ false
 index_call_not None = refl
 index_call_not (Some x) = refl
 
-other_form : (ts : List (List ℕ)) (t : NodeTable) (o : Op) (info : ℕ) → (o ≡ ops.Method → ⊥) → is_method (form_of ts t o info) ≡ false
+other_form : (ts : List (List ℕ)) (t : NodeTable) (o : Op) (info : ℕ)
+    → (o ≡ ops.Method → ⊥)
+    → is_method (form_of ts t o info) ≡ false
 unfolding form_of
 other_form ts t ops.Method info h = absurd (h refl)
 other_form ts t ops.Script info h = script_not ts (slice_get t.scripts.items info)
@@ -172,23 +199,34 @@ other_form ts t ops.CallOfMember info h = member_call_not ts (slice_get t.calls.
 other_form ts t ops.CallOfIndex info h = index_call_not (slice_get t.calls.items info)
 other_form ts t o info h = refl
 
-pub other-gives : (ts : List (List ℕ)) (t : NodeTable) (scope : Addr) (o : Op) (info : ℕ) (vs : List Value) (v : World) → (o ≡ ops.Method → ⊥) →
-    (e : Wide) (ms : List Member) (now later rest : Terms) → AddsTo ts t e ms vs now rest → DoesIn ts t e (object_row v scope ms vs (more (part (form_of ts t o info) now later) rest)) v (reduced.Gives values.Undefined) v
+pub other-gives : (ts : List (List ℕ)) (t : NodeTable) (scope : Addr) (o : Op) (info : ℕ) (vs : List Value) (v : World)
+    → (o ≡ ops.Method → ⊥) →
+    (e : Wide) (ms : List Member) (now later rest : Terms)
+    → AddsTo ts t e ms vs now rest
+    → DoesIn ts t e (object_row v scope ms vs (more (part (form_of ts t o info) now later) rest)) v (reduced.Gives values.Undefined) v
 other-gives ts t scope o info vs v h e ms now later rest x =
     same-action ts t e (object_row v scope ms vs (more (part (form_of ts t o info) now later) rest)) (give values.Undefined) v v (reduced.Gives values.Undefined) (passed_part v scope ms vs (form_of ts t o info) now later rest (other_form ts t o info h))
     (λ s. give-does ts t e values.Undefined (with_world s v))
 
-pub method-none : (ts : List (List ℕ)) (t : NodeTable) (scope : Addr) (o : Op) (info : ℕ) (vs : List Value) (v : World) → o ≡ ops.Method → None ≡ slice_get t.functions.items info →
-    (e : Wide) (ms : List Member) (now later rest : Terms) → AddsTo ts t e ms vs now rest → DoesIn ts t e (object_row v scope ms vs (more (part (form_of ts t o info) now later) rest)) v (reduced.Gives values.Undefined) v
+pub method-none : (ts : List (List ℕ)) (t : NodeTable) (scope : Addr) (o : Op) (info : ℕ) (vs : List Value) (v : World)
+    → o ≡ ops.Method
+    → None ≡ slice_get t.functions.items info →
+    (e : Wide) (ms : List Member) (now later rest : Terms)
+    → AddsTo ts t e ms vs now rest
+    → DoesIn ts t e (object_row v scope ms vs (more (part (form_of ts t o info) now later) rest)) v (reduced.Gives values.Undefined) v
 unfolding form_of
 method-none ts t scope o info vs v h i e ms now later rest x =
     let f : is_method (form_of ts t o info) ≡ false = ap (λ p. is_method (form_of ts t p info)) h ∙ ap (λ y. is_method (method_form ts y)) (sym i) in
     same-action ts t e (object_row v scope ms vs (more (part (form_of ts t o info) now later) rest)) (give values.Undefined) v v (reduced.Gives values.Undefined) (passed_part v scope ms vs (form_of ts t o info) now later rest f)
     (λ s. give-does ts t e values.Undefined (with_world s v))
 
-pub method-some : (ts : List (List ℕ)) (t : NodeTable) (scope : Addr) (o : Op) (info : ℕ) (f : FunctionEntry) (vs : List Value) (v w : World) (q : Reduced) → o ≡ ops.Method → Some f ≡ slice_get t.functions.items info →
+pub method-some : (ts : List (List ℕ)) (t : NodeTable) (scope : Addr) (o : Op) (info : ℕ) (f : FunctionEntry) (vs : List Value) (v w : World) (q : Reduced)
+    → o ≡ ops.Method
+    → Some f ≡ slice_get t.functions.items info →
     ((u : NodeTable) (e : Wide) (ms : List Member) (now later rest : Terms) → AddsTo ts u e ms vs now rest → DoesIn ts u e (object_row v scope ms vs (more (part (method (function_of ts f)) now later) rest)) v q w) →
-    (e : Wide) (ms : List Member) (now later rest : Terms) → AddsTo ts t e ms vs now rest → DoesIn ts t e (object_row v scope ms vs (more (part (form_of ts t o info) now later) rest)) v q w
+    (e : Wide) (ms : List Member) (now later rest : Terms)
+    → AddsTo ts t e ms vs now rest
+    → DoesIn ts t e (object_row v scope ms vs (more (part (form_of ts t o info) now later) rest)) v q w
 unfolding form_of
 method-some ts t scope o info f vs v w q h i g e ms now later rest x =
     let m : form_of ts t o info ≡ method (function_of ts f) = ap (λ p. form_of ts t p info) h ∙ ap (λ y. method_form ts y) (sym i) in
@@ -202,9 +240,12 @@ unfolding form_of
 literal_or ts t v scope ms vs ops.Literal info now later rest = refl
 literal_or ts t v scope ms vs o info now later rest = refl
 
-pub node-before : (ts : List (List ℕ)) (t : NodeTable) (scope : Addr) (n : ℕ) (node : Node) (vs : List Value) (v w : World) (q : Reduced) → Some node ≡ slice_get t.nodes.items n →
+pub node-before : (ts : List (List ℕ)) (t : NodeTable) (scope : Addr) (n : ℕ) (node : Node) (vs : List Value) (v w : World) (q : Reduced)
+    → Some node ≡ slice_get t.nodes.items n →
     ((e : Wide) (ms : List Member) (now later rest : Terms) → AddsTo ts t e ms vs now rest → DoesIn ts t e (object_row v scope ms vs (more (part (form_of ts t node.op node.info) now later) rest)) v q w) →
-    (e : Wide) (ms : List Member) (rest : Terms) → AddsTo ts t e ms vs (now_of (tree ts t n)) rest → DoesIn ts t e (object_row v scope ms vs (more (tree ts t n) rest)) v q w
+    (e : Wide) (ms : List Member) (rest : Terms)
+    → AddsTo ts t e ms vs (now_of (tree ts t n)) rest
+    → DoesIn ts t e (object_row v scope ms vs (more (tree ts t n) rest)) v q w
 unfolding tree
 node-before ts t scope n node vs v w q h g e ms rest x =
     let now : Terms = terms (tree_within ts t n) (kids_between t node.first node.mid) in
@@ -215,8 +256,11 @@ node-before ts t scope n node vs v w q h g e ms rest x =
     λ y. same-action ts t e (object_row v scope ms vs (more is rest)) (object_row v scope ms vs (more (part (form_of ts t node.op node.info) (now_of is) later) rest)) v w q (literal_or ts t v scope ms vs node.op node.info now later rest) (g e ms (now_of is) later rest y) in
     subst P h here x
 
-pub node-none : (ts : List (List ℕ)) (t : NodeTable) (scope : Addr) (n : ℕ) (vs : List Value) (v : World) → None ≡ slice_get t.nodes.items n →
-    (e : Wide) (ms : List Member) (rest : Terms) → AddsTo ts t e ms vs (now_of (tree ts t n)) rest → DoesIn ts t e (object_row v scope ms vs (more (tree ts t n) rest)) v (reduced.Gives values.Undefined) v
+pub node-none : (ts : List (List ℕ)) (t : NodeTable) (scope : Addr) (n : ℕ) (vs : List Value) (v : World)
+    → None ≡ slice_get t.nodes.items n →
+    (e : Wide) (ms : List Member) (rest : Terms)
+    → AddsTo ts t e ms vs (now_of (tree ts t n)) rest
+    → DoesIn ts t e (object_row v scope ms vs (more (tree ts t n) rest)) v (reduced.Gives values.Undefined) v
 unfolding tree
 node-none ts t scope n vs v h e ms rest x =
     same-action ts t e (object_row v scope ms vs (more (tree ts t n) rest)) (give values.Undefined) v v (reduced.Gives values.Undefined) (ap (λ o. object_row v scope ms vs (more (node_term ts t (tree_within ts t n) o) rest)) (sym h))
@@ -224,9 +268,12 @@ node-none ts t scope n vs v h e ms rest x =
 
 -- ---- kept parts
 
-pub literal-part : (ts : List (List ℕ)) (t : NodeTable) (scope : Addr) (from to k : ℕ) (vs : List Value) (v w : World) (q : Reduced) → Some k ≡ slice_get (kids_between t from to) 0 →
+pub literal-part : (ts : List (List ℕ)) (t : NodeTable) (scope : Addr) (from to k : ℕ) (vs : List Value) (v w : World) (q : Reduced)
+    → Some k ≡ slice_get (kids_between t from to) 0 →
     ((e : Wide) (ms : List Member) (rest : Terms) → AddsTo ts t e ms vs (now_of (tree ts t k)) rest → DoesIn ts t e (object_row v scope ms vs (more (tree ts t k) rest)) v q w) →
-    (ms : List Member) (e : Wide) → IsLiteralOf ts t e ms vs (trees ts t from to) → DoesIn ts t e (object_row v scope ms vs (trees ts t from to)) v q w
+    (ms : List Member) (e : Wide)
+    → IsLiteralOf ts t e ms vs (trees ts t from to)
+    → DoesIn ts t e (object_row v scope ms vs (trees ts t from to)) v q w
 literal-part ts t scope from to k vs v w q h g ms e x =
     let rest : Terms = terms (tree ts t) (drop 1 (kids_between t from to)) in
     let first : trees ts t from to ≡ more (tree ts t k) rest = first-tree ts t from to k h in
@@ -234,9 +281,12 @@ literal-part ts t scope from to k vs v w q h g ms e x =
     same-action ts t e (object_row v scope ms vs (trees ts t from to)) (object_row v scope ms vs (more (tree ts t k) rest)) v w q (ap (object_row v scope ms vs) first)
     (g e ms rest (record { form = x.form; values = x.values; parts = ap (λ y. now_of (head_of y)) kept; behind = ap rest_of kept }))
 
-pub literal-end : (ts : List (List ℕ)) (t : NodeTable) (scope : Addr) (from to : ℕ) (ms : List Member) (vs : List Value) (v w : World) (r : Result Value ActionEnd) (q : Reduced) → None ≡ slice_get (kids_between t from to) 0 →
+pub literal-end : (ts : List (List ℕ)) (t : NodeTable) (scope : Addr) (from to : ℕ) (ms : List Member) (vs : List Value) (v w : World) (r : Result Value ActionEnd) (q : Reduced)
+    → None ≡ slice_get (kids_between t from to) 0 →
     Gives (object_or_fail (properties_from v [] ms vs)) v r w → q ≡ replied r →
-    (e : Wide) → IsLiteralOf ts t e ms vs (trees ts t from to) → DoesIn ts t e (object_row v scope ms vs (trees ts t from to)) v q w
+    (e : Wide)
+    → IsLiteralOf ts t e ms vs (trees ts t from to)
+    → DoesIn ts t e (object_row v scope ms vs (trees ts t from to)) v q w
 literal-end ts t scope from to ms vs v w r q h g j e x =
     same-action ts t e (object_row v scope ms vs (trees ts t from to)) (object_or_fail (properties_from v [] ms vs)) v w q (ap (object_row v scope ms vs) (no-trees ts t from to h))
     (replies-by ts (object_or_fail (properties_from v [] ms vs)) v r w q g j t e)

@@ -13,7 +13,9 @@ use Rattle.js_operations.specs.Names.{value_of_slot}
 use Rattle.js_operations.proofs.NameLemmas.{written-kept, value-kept}
 use Rattle.js_rows.specs.Quick.{open_slot}
 
-bound_open : (name : List ℕ) (b : Bool) (o : Option Value) (a : Addr) (v : Value) → (is_some o && not b) ≡ true → bound_unless name b o a v ≡ a_change a (changes.Bind name v)
+bound_open : (name : List ℕ) (b : Bool) (o : Option Value) (a : Addr) (v : Value)
+    → (is_some o && not b) ≡ true
+    → bound_unless name b o a v ≡ a_change a (changes.Bind name v)
 bound_open name b None a v h = cc
 bound_open name true (Some u) a v h = cc
 bound_open name false (Some u) a v h = refl
@@ -23,18 +25,28 @@ open_if true f g h = (refl, cc)
 open_if false f g h = cc
 
 -- a name that may be given a value is given it
-pub open-written : (name : List ℕ) (o : Option FoundSlot) (p : Option Found) (f : FoundSlot) (v : Value) → kept_slot o ≡ kept_found p → open_slot o ≡ Some f → name_written name p v ≡ a_change f.scope (changes.Bind name v)
+pub open-written : (name : List ℕ) (o : Option FoundSlot) (p : Option Found) (f : FoundSlot) (v : Value)
+    → kept_slot o ≡ kept_found p
+    → open_slot o ≡ Some f
+    → name_written name p v ≡ a_change f.scope (changes.Bind name v)
 open-written name None p f v e h = cc
 open-written name (Some g) p f v e h =
     let i = open_if (is_some g.value && not g.constant) g f h in
     sym (written-kept name (Some g) p v e) ∙ bound_open name g.constant g.value g.scope v i.0 ∙ ap (λ (x : FoundSlot). a_change x.scope (changes.Bind name v)) i.1
 
 -- and it has a value
-open_value : (name : List ℕ) (o : Option FoundSlot) (f : FoundSlot) (u : Value) → open_slot o ≡ Some f → f.value ≡ Some u → value_of_slot name o ≡ a_value u
+open_value : (name : List ℕ) (o : Option FoundSlot) (f : FoundSlot) (u : Value)
+    → open_slot o ≡ Some f
+    → f.value ≡ Some u
+    → value_of_slot name o ≡ a_value u
 open_value name None f u h g = cc
 open_value name (Some x) f u h g =
     let i = open_if (is_some x.value && not x.constant) x f h in
     ap (λ (y : FoundSlot). value_or_uninitialized name y.value) i.1 ∙ ap (λ y. value_or_uninitialized name y) g
 
-pub open-value : (name : List ℕ) (o : Option FoundSlot) (p : Option Found) (f : FoundSlot) (u : Value) → kept_slot o ≡ kept_found p → open_slot o ≡ Some f → f.value ≡ Some u → value_of_found name p ≡ a_value u
+pub open-value : (name : List ℕ) (o : Option FoundSlot) (p : Option Found) (f : FoundSlot) (u : Value)
+    → kept_slot o ≡ kept_found p
+    → open_slot o ≡ Some f
+    → f.value ≡ Some u
+    → value_of_found name p ≡ a_value u
 open-value name o p f u e h g = sym (value-kept name o p e) ∙ open_value name o f u h g

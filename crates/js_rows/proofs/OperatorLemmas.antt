@@ -9,7 +9,13 @@ use Rattle.js_heap.specs.Operators.{binary_result}
 use Rattle.js_heap.specs.World.{World}
 
 -- by the numbers that the values are
-pub numbers-by : (w : World) (o : BinaryOperator) (l r : Value) (y z y' z' : ℤ) (found : Option Value) → l ≡ values.Number y → r ≡ values.Number z → y' ≡ y → z' ≡ z → IfSome found (λ v. binary_result w o (values.Number y') (values.Number z') ≡ a_value v) → IfSome found (λ v. binary_result w o l r ≡ a_value v)
+pub numbers-by : (w : World) (o : BinaryOperator) (l r : Value) (y z y' z' : ℤ) (found : Option Value)
+    → l ≡ values.Number y
+    → r ≡ values.Number z
+    → y' ≡ y
+    → z' ≡ z
+    → IfSome found (λ v. binary_result w o (values.Number y') (values.Number z') ≡ a_value v)
+    → IfSome found (λ v. binary_result w o l r ≡ a_value v)
 numbers-by w o l r y z y' z' found e f g h k =
     let P : ℤ → Type 0 = λ x. IfSome found (λ v. binary_result w o (values.Number x) (values.Number z') ≡ a_value v) in
     let Q : ℤ → Type 0 = λ x. IfSome found (λ v. binary_result w o (values.Number y) (values.Number x) ≡ a_value v) in

@@ -32,7 +32,10 @@ pub first-value : (vs : List Value) (o : Value) → slice_get vs 0 ≡ Some o �
 first-value [] o h = cc
 first-value (v ∷ vs) o h = ap (λ x. x ∷ vs) cc
 
-pub first-values : (vs : List Value) (o i : Value) → slice_get vs 0 ≡ Some o → slice_get vs 1 ≡ Some i → vs ≡ o ∷ i ∷ drop 2 vs
+pub first-values : (vs : List Value) (o i : Value)
+    → slice_get vs 0 ≡ Some o
+    → slice_get vs 1 ≡ Some i
+    → vs ≡ o ∷ i ∷ drop 2 vs
 first-values [] o i h g = cc
 first-values (v ∷ []) o i h g = cc
 first-values (v ∷ u ∷ vs) o i h g =
@@ -42,54 +45,93 @@ first-values (v ∷ u ∷ vs) o i h g =
 
 -- ---- reading
 
-pub member-read : (ts : List (List ℕ)) (vs : List Value) (o : Value) (n : List ℕ) (v : World) (r : Result Value ActionEnd) (w : World) (q : Reduced) → slice_get vs 0 ≡ Some o → Yields (with_result (property_of v o n)) v r w → q ≡ replied r → Replies ts (with_result (member_result v vs n) give) v q w
+pub member-read : (ts : List (List ℕ)) (vs : List Value) (o : Value) (n : List ℕ) (v : World) (r : Result Value ActionEnd) (w : World) (q : Reduced)
+    → slice_get vs 0 ≡ Some o
+    → Yields (with_result (property_of v o n)) v r w
+    → q ≡ replied r
+    → Replies ts (with_result (member_result v vs n) give) v q w
 member-read ts vs o n v r w q g h e =
     let P : List Value → Type 0 = λ xs. Replies ts (with_result (member_result v xs n) give) v q w in
     subst P (sym (first-value vs o g)) (result-reply ts (property_of v o n) v r w q h e)
 
-pub index-read : (ts : List (List ℕ)) (vs : List Value) (o i : Value) (v : World) (r : Result Value ActionEnd) (w : World) (q : Reduced) → slice_get vs 0 ≡ Some o → slice_get vs 1 ≡ Some i → Yields (indexed v o i) v r w → q ≡ replied r → Replies ts (with_result (index_result v vs) give) v q w
+pub index-read : (ts : List (List ℕ)) (vs : List Value) (o i : Value) (v : World) (r : Result Value ActionEnd) (w : World) (q : Reduced)
+    → slice_get vs 0 ≡ Some o
+    → slice_get vs 1 ≡ Some i
+    → Yields (indexed v o i) v r w
+    → q ≡ replied r
+    → Replies ts (with_result (index_result v vs) give) v q w
 index-read ts vs o i v r w q g f h e =
     let P : List Value → Type 0 = λ xs. Replies ts (with_result (index_result v xs) give) v q w in
     subst P (sym (first-values vs o i g f)) (result-reply ts (keyed_result (key_of v i) (property_of v o)) v r w q h e)
 
 -- ---- writing
 
-by_value : (ts : List (List ℕ)) (f : Value → Action → Action) (x y : Value) (v : World) (r : Result (Unit {0}) ActionEnd) (w : World) (q : Reduced) → x ≡ y → Passes (f x) v r w → q ≡ replied_with r x → Replies ts (f y (give y)) v q w
+by_value : (ts : List (List ℕ)) (f : Value → Action → Action) (x y : Value) (v : World) (r : Result (Unit {0}) ActionEnd) (w : World) (q : Reduced)
+    → x ≡ y
+    → Passes (f x) v r w
+    → q ≡ replied_with r x
+    → Replies ts (f y (give y)) v q w
 by_value ts f x y v r w q g h e =
     let P : Value → Type 0 = λ z. Replies ts (f z (give z)) v q w in
     subst P g (passes-reply ts (f x) x v r w q h e)
 
-pub member-assigned : (ts : List (List ℕ)) (vs : List Value) (o x : Value) (n : List ℕ) (v : World) (r : Result (Unit {0}) ActionEnd) (w : World) (q : Reduced) → slice_get vs 0 ≡ Some o → x ≡ last_of vs → Passes (with_written (property_written v o n x)) v r w → q ≡ replied_with r x →
+pub member-assigned : (ts : List (List ℕ)) (vs : List Value) (o x : Value) (n : List ℕ) (v : World) (r : Result (Unit {0}) ActionEnd) (w : World) (q : Reduced)
+    → slice_get vs 0 ≡ Some o
+    → x ≡ last_of vs
+    → Passes (with_written (property_written v o n x)) v r w
+    → q ≡ replied_with r x →
     Replies ts (member_put v vs n (last_of vs) (give (last_of vs))) v q w
 member-assigned ts vs o x n v r w q g l h e =
     let P : List Value → Type 0 = λ xs. Replies ts (member_put v xs n (last_of vs) (give (last_of vs))) v q w in
     subst P (sym (first-value vs o g)) (by_value ts (λ y. with_written (property_written v o n y)) x (last_of vs) v r w q l h e)
 
-pub index-assigned : (ts : List (List ℕ)) (vs : List Value) (o i x : Value) (v : World) (r : Result (Unit {0}) ActionEnd) (w : World) (q : Reduced) → slice_get vs 0 ≡ Some o → slice_get vs 1 ≡ Some i → x ≡ last_of vs → Passes (index_written v o i x) v r w → q ≡ replied_with r x →
+pub index-assigned : (ts : List (List ℕ)) (vs : List Value) (o i x : Value) (v : World) (r : Result (Unit {0}) ActionEnd) (w : World) (q : Reduced)
+    → slice_get vs 0 ≡ Some o
+    → slice_get vs 1 ≡ Some i
+    → x ≡ last_of vs
+    → Passes (index_written v o i x) v r w
+    → q ≡ replied_with r x →
     Replies ts (index_put v vs (last_of vs) (give (last_of vs))) v q w
 index-assigned ts vs o i x v r w q g f l h e =
     let P : List Value → Type 0 = λ xs. Replies ts (index_put v xs (last_of vs) (give (last_of vs))) v q w in
     subst P (sym (first-values vs o i g f)) (by_value ts (index_written v o i) x (last_of vs) v r w q l h e)
 
-pub member-deleted : (ts : List (List ℕ)) (vs : List Value) (o x : Value) (n : List ℕ) (v : World) (r : Result (Unit {0}) ActionEnd) (w : World) (q : Reduced) → slice_get vs 0 ≡ Some o → Passes (with_written (property_deleted v o n)) v r w → q ≡ replied_with r x → Replies ts (member_removed v vs n (give x)) v q w
+pub member-deleted : (ts : List (List ℕ)) (vs : List Value) (o x : Value) (n : List ℕ) (v : World) (r : Result (Unit {0}) ActionEnd) (w : World) (q : Reduced)
+    → slice_get vs 0 ≡ Some o
+    → Passes (with_written (property_deleted v o n)) v r w
+    → q ≡ replied_with r x
+    → Replies ts (member_removed v vs n (give x)) v q w
 member-deleted ts vs o x n v r w q g h e =
     let P : List Value → Type 0 = λ xs. Replies ts (member_removed v xs n (give x)) v q w in
     subst P (sym (first-value vs o g)) (passes-reply ts (with_written (property_deleted v o n)) x v r w q h e)
 
-pub index-deleted : (ts : List (List ℕ)) (vs : List Value) (o i x : Value) (v : World) (r : Result (Unit {0}) ActionEnd) (w : World) (q : Reduced) → slice_get vs 0 ≡ Some o → slice_get vs 1 ≡ Some i → Passes (index_deleted v o i) v r w → q ≡ replied_with r x → Replies ts (index_removed v vs (give x)) v q w
+pub index-deleted : (ts : List (List ℕ)) (vs : List Value) (o i x : Value) (v : World) (r : Result (Unit {0}) ActionEnd) (w : World) (q : Reduced)
+    → slice_get vs 0 ≡ Some o
+    → slice_get vs 1 ≡ Some i
+    → Passes (index_deleted v o i) v r w
+    → q ≡ replied_with r x
+    → Replies ts (index_removed v vs (give x)) v q w
 index-deleted ts vs o i x v r w q g f h e =
     let P : List Value → Type 0 = λ xs. Replies ts (index_removed v xs (give x)) v q w in
     subst P (sym (first-values vs o i g f)) (passes-reply ts (index_deleted v o i) x v r w q h e)
 
 -- ---- changes that are known
 
-pub passes-change : (x : Written) (a : Addr) (c : Change) (v : World) (r : Result (Unit {0}) ActionEnd) (w : World) → x ≡ a_change a c → Passes (write a c) v r w → Passes (with_written x) v r w
+pub passes-change : (x : Written) (a : Addr) (c : Change) (v : World) (r : Result (Unit {0}) ActionEnd) (w : World)
+    → x ≡ a_change a c
+    → Passes (write a c) v r w
+    → Passes (with_written x) v r w
 passes-change x a c v r w e h = let P : Written → Type 0 = λ y. Passes (with_written y) v r w in subst P (sym e) h
 
-element_by : (a : Addr) (vs : List Value) (i : ℕ) (v : Value) → nat_le i (length vs) ≡ true → element_change a vs i v ≡ a_change a (changes.Element i v)
+element_by : (a : Addr) (vs : List Value) (i : ℕ) (v : Value)
+    → nat_le i (length vs) ≡ true
+    → element_change a vs i v ≡ a_change a (changes.Element i v)
 element_by a vs i v h = rw h refl
 
-put_in_array : (a : Addr) (c : Option Cell) (n : ℕ) (v : Value) → n < 4294967295 → has_place c n ≡ true → cell_change a c (decimal n) v ≡ a_change a (changes.Element n v)
+put_in_array : (a : Addr) (c : Option Cell) (n : ℕ) (v : Value)
+    → n < 4294967295
+    → has_place c n ≡ true
+    → cell_change a c (decimal n) v ≡ a_change a (changes.Element n v)
 put_in_array a None n v l h = cc
 put_in_array a (Some (cells.Object ps)) n v l h = cc
 put_in_array a (Some (cells.Error x ps)) n v l h = cc
@@ -99,7 +141,13 @@ put_in_array a (Some (cells.Function k x m s t)) n v l h = cc
 put_in_array a (Some (cells.Bindings k x o ns)) n v l h = cc
 
 -- an element is written at the index that the key is
-pub element-written : (o i : Value) (a : Addr) (n : ℕ) (x : Value) (v : World) (r : Result (Unit {0}) ActionEnd) (w : World) → o ≡ values.Object a → i ≡ values.Number (pos n) → n < 4294967295 → has_place (read_cell v a) n ≡ true → Passes (write a (changes.Element n x)) v r w → Passes (index_written v o i x) v r w
+pub element-written : (o i : Value) (a : Addr) (n : ℕ) (x : Value) (v : World) (r : Result (Unit {0}) ActionEnd) (w : World)
+    → o ≡ values.Object a
+    → i ≡ values.Number (pos n)
+    → n < 4294967295
+    → has_place (read_cell v a) n ≡ true
+    → Passes (write a (changes.Element n x)) v r w
+    → Passes (index_written v o i x) v r w
 element-written o i a n x v r w e f l g h =
     let P : Value → Type 0 = λ y. Passes (index_written v y i x) v r w in
     let Q : Value → Type 0 = λ y. Passes (index_written v (values.Object a) y x) v r w in

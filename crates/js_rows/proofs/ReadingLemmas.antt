@@ -23,29 +23,47 @@ use Rattle.js_operations.specs.Flow.{performed}
 
 -- ---- what is a value is gone on with
 
-pub value-yields : (x : Computed) (u : Value) (w : World) (s : State) (k : Value → Action) → x ≡ a_value u → performed (with_result x k) (with_world s w) ≡ performed (k u) (with_world s w)
+pub value-yields : (x : Computed) (u : Value) (w : World) (s : State) (k : Value → Action)
+    → x ≡ a_value u
+    → performed (with_result x k) (with_world s w) ≡ performed (k u) (with_world s w)
 value-yields x u w s k h = ap (λ y. performed (with_result y k) (with_world s w)) h
 
 pub ruleset value_rules = (value-yields)
 
-pub if-some-by : (o : Option Value) (x y : Computed) → x ≡ y → IfSome o (λ v. x ≡ a_value v) → IfSome o (λ v. y ≡ a_value v)
+pub if-some-by : (o : Option Value) (x y : Computed)
+    → x ≡ y
+    → IfSome o (λ v. x ≡ a_value v)
+    → IfSome o (λ v. y ≡ a_value v)
 if-some-by o x y e h = let P : Computed → Type 0 = λ z. IfSome o (λ v. z ≡ a_value v) in subst P e h
 
 -- a property of an object, by its cell and its key
-pub member-by : (w : World) (o : Value) (a : Addr) (c d : Option Cell) (k l : List ℕ) → o ≡ values.Object a → c ≡ d → d ≡ read_cell w a → k ≡ l → cell_property c k ≡ property_of w o l
+pub member-by : (w : World) (o : Value) (a : Addr) (c d : Option Cell) (k l : List ℕ)
+    → o ≡ values.Object a
+    → c ≡ d
+    → d ≡ read_cell w a
+    → k ≡ l
+    → cell_property c k ≡ property_of w o l
 member-by w o a c d k l e f h i = ap (λ x. cell_property x k) (f ∙ h) ∙ ap (λ x. cell_property (read_cell w a) x) i ∙ ap (λ x. property_of w x l) (sym e)
 
 -- an element, by the array's cell and its index
-pub index-by : (w : World) (o i : Value) (a : Addr) (n : ℕ) (c : Option Cell) → o ≡ values.Object a → i ≡ values.Number (pos n) → c ≡ read_cell w a → cell_property c (decimal n) ≡ keyed_result (key_of w i) (property_of w o)
+pub index-by : (w : World) (o i : Value) (a : Addr) (n : ℕ) (c : Option Cell)
+    → o ≡ values.Object a
+    → i ≡ values.Number (pos n)
+    → c ≡ read_cell w a
+    → cell_property c (decimal n) ≡ keyed_result (key_of w i) (property_of w o)
 index-by w o i a n c e f h =
     ap (λ x. cell_property x (decimal n)) h ∙ ap (λ x. keyed_result (key_of w x) (property_of w (values.Object a))) (sym f) ∙ ap (λ x. keyed_result (key_of w i) (property_of w x)) (sym e)
 
 -- ---- own properties
 
-pub own-value : (ps : List Property) (key : List ℕ) (p : Property) → Some p ≡ property_at ps key → own_or (property_at ps key) (a_value values.Undefined) ≡ a_value p.value
+pub own-value : (ps : List Property) (key : List ℕ) (p : Property)
+    → Some p ≡ property_at ps key
+    → own_or (property_at ps key) (a_value values.Undefined) ≡ a_value p.value
 own-value ps key p h = ap (λ o. own_or o (a_value values.Undefined)) (sym h)
 
-pub own-none : (ps : List Property) (key : List ℕ) → None ≡ property_at ps key → own_or (property_at ps key) (a_value values.Undefined) ≡ a_value values.Undefined
+pub own-none : (ps : List Property) (key : List ℕ)
+    → None ≡ property_at ps key
+    → own_or (property_at ps key) (a_value values.Undefined) ≡ a_value values.Undefined
 own-none ps key h = ap (λ o. own_or o (a_value values.Undefined)) (sym h)
 
 pub ruleset own_rules = (own-value, own-none)
@@ -79,10 +97,16 @@ pub index-decimal : (n : ℕ) → n < 4294967295 → index_of_key (decimal n) �
 index-decimal n h =
     if_both (is_shortest (decimal n)) (all_ascii_digits (decimal n)) (index_within (decimal n)) (decimal_shortest n h) (decimal_digits n h) ∙ within_is (digits_value 10 (decimal n)) n (decimal_is_IsNumeral n (omega arith)).1 h
 
-pub element-reads : (vs : List Value) (n : ℕ) (v : Value) → n < 4294967295 → slice_get vs n ≡ Some v → element_or_method vs (decimal n) (index_of_key (decimal n)) ≡ a_value v
+pub element-reads : (vs : List Value) (n : ℕ) (v : Value)
+    → n < 4294967295
+    → slice_get vs n ≡ Some v
+    → element_or_method vs (decimal n) (index_of_key (decimal n)) ≡ a_value v
 element-reads vs n v h e =
     ap (λ o. element_or_method vs (decimal n) o) (index-decimal n h) ∙ ap (λ o. value_or o (a_value values.Undefined)) e
 
-pub element-if : (vs : List Value) (n : ℕ) (o : Option Value) → n < 4294967295 → slice_get vs n ≡ o → IfSome o (λ v. element_or_method vs (decimal n) (index_of_key (decimal n)) ≡ a_value v)
+pub element-if : (vs : List Value) (n : ℕ) (o : Option Value)
+    → n < 4294967295
+    → slice_get vs n ≡ o
+    → IfSome o (λ v. element_or_method vs (decimal n) (index_of_key (decimal n)) ≡ a_value v)
 element-if vs n None h e = tt
 element-if vs n (Some v) h e = element-reads vs n v h e

@@ -33,17 +33,26 @@ use Rattle.js_rows.proofs.OverLemmas.{choice, first-kept, same-action, same-answ
 
 -- ---- statements
 
-pub enter-part : (t : NodeTable) (node from to k : ℕ) (c d : Context) → Some k ≡ slice_get (kids_between t from to) 0 → Turns (set_here (start node)) c d → RepliesAnywhere t (λ ts. enter_row node (trees ts t from to)) c (reduced.Uncovers k) d
+pub enter-part : (t : NodeTable) (node from to k : ℕ) (c d : Context)
+    → Some k ≡ slice_get (kids_between t from to) 0
+    → Turns (set_here (start node)) c d
+    → RepliesAnywhere t (λ ts. enter_row node (trees ts t from to)) c (reduced.Uncovers k) d
 enter-part t node from to k c d h g = λ ts w e.
     same-row ts t e (enter_row node (trees ts t from to)) (set_here (start node) (go (settle (tree ts t k)))) w w c d (reduced.Uncovers k) (ap (enter_row node) (first-tree ts t from to k h))
     (turns-does ts t e (set_here (start node)) (go (settle (tree ts t k))) w w c d d (reduced.Uncovers k) g (λ taken. uncovers-does ts t e k (state_of w d taken)))
 
-pub enter-none : (t : NodeTable) (node from to : ℕ) (c : Context) → None ≡ slice_get (kids_between t from to) 0 → RepliesAnywhere t (λ ts. enter_row node (trees ts t from to)) c (reduced.Gives values.Undefined) c
+pub enter-none : (t : NodeTable) (node from to : ℕ) (c : Context)
+    → None ≡ slice_get (kids_between t from to) 0
+    → RepliesAnywhere t (λ ts. enter_row node (trees ts t from to)) c (reduced.Gives values.Undefined) c
 enter-none t node from to c h = λ ts w e.
     same-row ts t e (enter_row node (trees ts t from to)) (give values.Undefined) w w c c (reduced.Gives values.Undefined) (ap (enter_row node) (no-trees ts t from to h))
     (λ taken. give-does ts t e values.Undefined (state_of w c taken))
 
-pub initialize-reply : (ts : List (List ℕ)) (scope : Addr) (name : List ℕ) (vs : List Value) (u : Value) (v : World) (r : Result (Unit {0}) ActionEnd) (w : World) (q : Reduced) → u ≡ argument vs 0 → Passes (write scope (changes.Bind name u)) v r w → q ≡ replied_with r values.Undefined → Replies ts (initialize_row scope name vs) v q w
+pub initialize-reply : (ts : List (List ℕ)) (scope : Addr) (name : List ℕ) (vs : List Value) (u : Value) (v : World) (r : Result (Unit {0}) ActionEnd) (w : World) (q : Reduced)
+    → u ≡ argument vs 0
+    → Passes (write scope (changes.Bind name u)) v r w
+    → q ≡ replied_with r values.Undefined
+    → Replies ts (initialize_row scope name vs) v q w
 initialize-reply ts scope name vs u v r w q i h e =
     let P : Value → Type 0 = λ x. Replies ts (write scope (changes.Bind name x) (give values.Undefined)) v q w in
     subst P i (passes-reply ts (write scope (changes.Bind name u)) values.Undefined v r w q h e)
@@ -51,7 +60,11 @@ initialize-reply ts scope name vs u v r w q i h e =
 -- ---- tests
 
 pub choose-reply : (ts : List (List ℕ)) (t : NodeTable) (w : World) (b : Bool) (u : Value) (vs : List Value) (from to : ℕ) (o : Option ℕ) (q : Reduced) →
-    b ≡ is_truthy w u → u ≡ argument vs 0 → o ≡ slice_get (kids_between t from to) (choice b) → q ≡ uncovered o → RepliesOver ts t (choose_row w (only vs) (trees ts t from to)) w q w
+    b ≡ is_truthy w u
+    → u ≡ argument vs 0
+    → o ≡ slice_get (kids_between t from to) (choice b)
+    → q ≡ uncovered o
+    → RepliesOver ts t (choose_row w (only vs) (trees ts t from to)) w q w
 choose-reply ts t w b u vs from to o q h i j k = λ e.
     let test : is_truthy w (only vs) ≡ b = ap (is_truthy w) (sym i) ∙ sym h in
     let ks : List ℕ = kids_between t from to in
@@ -59,61 +72,89 @@ choose-reply ts t w b u vs from to o q h i j k = λ e.
     (same-answer ts t e (go (chosen b (trees ts t from to))) w w (uncovered (slice_get ks (choice b))) q (k ∙ ap uncovered j) (λ s. chosen-does ts t e b ks (with_world s w)))
 
 both_then : (ts : List (List ℕ)) (t : NodeTable) (w : World) (u : Value) (from to : ℕ) (o : Option ℕ) (q : Reduced) →
-    true ≡ is_truthy w u → o ≡ slice_get (kids_between t from to) 0 → q ≡ gone_to o u → RepliesOver ts t (both_row w u (trees ts t from to)) w q w
+    true ≡ is_truthy w u
+    → o ≡ slice_get (kids_between t from to) 0
+    → q ≡ gone_to o u
+    → RepliesOver ts t (both_row w u (trees ts t from to)) w q w
 both_then ts t w u from to o q h j k = λ e.
     let ks : List ℕ = kids_between t from to in
     same-action ts t e (both_row w u (trees ts t from to)) (go (kept_or true u (trees ts t from to))) w w q (ap (λ x. go (kept_or x u (trees ts t from to))) (sym h))
     (same-answer ts t e (go (kept_or true u (trees ts t from to))) w w (gone_to (slice_get ks 0) u) q (k ∙ ap (λ x. gone_to x u) j) (λ s. kept-does ts t e u ks (with_world s w)))
 
 pub both-then : (ts : List (List ℕ)) (t : NodeTable) (w : World) (u : Value) (vs : List Value) (from to : ℕ) (o : Option ℕ) (q : Reduced) →
-    true ≡ is_truthy w u → u ≡ argument vs 0 → o ≡ slice_get (kids_between t from to) 0 → q ≡ gone_to o u → RepliesOver ts t (both_row w (only vs) (trees ts t from to)) w q w
+    true ≡ is_truthy w u
+    → u ≡ argument vs 0
+    → o ≡ slice_get (kids_between t from to) 0
+    → q ≡ gone_to o u
+    → RepliesOver ts t (both_row w (only vs) (trees ts t from to)) w q w
 both-then ts t w u vs from to o q h i j k =
     let P : Value → Type 0 = λ x. RepliesOver ts t (both_row w x (trees ts t from to)) w q w in
     subst P i (both_then ts t w u from to o q h j k)
 
-both_else : (ts : List (List ℕ)) (t : NodeTable) (w : World) (u : Value) (from to : ℕ) → false ≡ is_truthy w u → RepliesOver ts t (both_row w u (trees ts t from to)) w (reduced.Gives u) w
+both_else : (ts : List (List ℕ)) (t : NodeTable) (w : World) (u : Value) (from to : ℕ)
+    → false ≡ is_truthy w u
+    → RepliesOver ts t (both_row w u (trees ts t from to)) w (reduced.Gives u) w
 both_else ts t w u from to h = λ e.
     same-action ts t e (both_row w u (trees ts t from to)) (go (kept_or false u (trees ts t from to))) w w (reduced.Gives u) (ap (λ x. go (kept_or x u (trees ts t from to))) (sym h))
     (λ s. kept-else ts t e u (kids_between t from to) (with_world s w))
 
-pub both-else : (ts : List (List ℕ)) (t : NodeTable) (w : World) (u : Value) (vs : List Value) (from to : ℕ) → false ≡ is_truthy w u → u ≡ argument vs 0 → RepliesOver ts t (both_row w (only vs) (trees ts t from to)) w (reduced.Gives u) w
+pub both-else : (ts : List (List ℕ)) (t : NodeTable) (w : World) (u : Value) (vs : List Value) (from to : ℕ)
+    → false ≡ is_truthy w u
+    → u ≡ argument vs 0
+    → RepliesOver ts t (both_row w (only vs) (trees ts t from to)) w (reduced.Gives u) w
 both-else ts t w u vs from to h i =
     let P : Value → Type 0 = λ x. RepliesOver ts t (both_row w x (trees ts t from to)) w (reduced.Gives u) w in
     subst P i (both_else ts t w u from to h)
 
 either_else : (ts : List (List ℕ)) (t : NodeTable) (w : World) (u : Value) (from to : ℕ) (o : Option ℕ) (q : Reduced) →
-    false ≡ is_truthy w u → o ≡ slice_get (kids_between t from to) 0 → q ≡ gone_to o u → RepliesOver ts t (either_row w u (trees ts t from to)) w q w
+    false ≡ is_truthy w u
+    → o ≡ slice_get (kids_between t from to) 0
+    → q ≡ gone_to o u
+    → RepliesOver ts t (either_row w u (trees ts t from to)) w q w
 either_else ts t w u from to o q h j k = λ e.
     let ks : List ℕ = kids_between t from to in
     same-action ts t e (either_row w u (trees ts t from to)) (go (otherwise false u (trees ts t from to))) w w q (ap (λ x. go (otherwise x u (trees ts t from to))) (sym h))
     (same-answer ts t e (go (otherwise false u (trees ts t from to))) w w (gone_to (slice_get ks 0) u) q (k ∙ ap (λ x. gone_to x u) j) (λ s. otherwise-does ts t e u ks (with_world s w)))
 
 pub either-else : (ts : List (List ℕ)) (t : NodeTable) (w : World) (u : Value) (vs : List Value) (from to : ℕ) (o : Option ℕ) (q : Reduced) →
-    false ≡ is_truthy w u → u ≡ argument vs 0 → o ≡ slice_get (kids_between t from to) 0 → q ≡ gone_to o u → RepliesOver ts t (either_row w (only vs) (trees ts t from to)) w q w
+    false ≡ is_truthy w u
+    → u ≡ argument vs 0
+    → o ≡ slice_get (kids_between t from to) 0
+    → q ≡ gone_to o u
+    → RepliesOver ts t (either_row w (only vs) (trees ts t from to)) w q w
 either-else ts t w u vs from to o q h i j k =
     let P : Value → Type 0 = λ x. RepliesOver ts t (either_row w x (trees ts t from to)) w q w in
     subst P i (either_else ts t w u from to o q h j k)
 
-either_then : (ts : List (List ℕ)) (t : NodeTable) (w : World) (u : Value) (from to : ℕ) → true ≡ is_truthy w u → RepliesOver ts t (either_row w u (trees ts t from to)) w (reduced.Gives u) w
+either_then : (ts : List (List ℕ)) (t : NodeTable) (w : World) (u : Value) (from to : ℕ)
+    → true ≡ is_truthy w u
+    → RepliesOver ts t (either_row w u (trees ts t from to)) w (reduced.Gives u) w
 either_then ts t w u from to h = λ e.
     same-action ts t e (either_row w u (trees ts t from to)) (go (otherwise true u (trees ts t from to))) w w (reduced.Gives u) (ap (λ x. go (otherwise x u (trees ts t from to))) (sym h))
     (λ s. otherwise-else ts t e u (kids_between t from to) (with_world s w))
 
-pub either-then : (ts : List (List ℕ)) (t : NodeTable) (w : World) (u : Value) (vs : List Value) (from to : ℕ) → true ≡ is_truthy w u → u ≡ argument vs 0 → RepliesOver ts t (either_row w (only vs) (trees ts t from to)) w (reduced.Gives u) w
+pub either-then : (ts : List (List ℕ)) (t : NodeTable) (w : World) (u : Value) (vs : List Value) (from to : ℕ)
+    → true ≡ is_truthy w u
+    → u ≡ argument vs 0
+    → RepliesOver ts t (either_row w (only vs) (trees ts t from to)) w (reduced.Gives u) w
 either-then ts t w u vs from to h i =
     let P : Value → Type 0 = λ x. RepliesOver ts t (either_row w x (trees ts t from to)) w (reduced.Gives u) w in
     subst P i (either_then ts t w u from to h)
 
 -- ---- scripts
 
-pub script-none : (ts : List (List ℕ)) (t : NodeTable) (number : ℕ) (names : List Binding) (from to : ℕ) (v : World) (c : Context) → None ≡ slice_get (kids_between t from to) 0 →
+pub script-none : (ts : List (List ℕ)) (t : NodeTable) (number : ℕ) (names : List Binding) (from to : ℕ) (v : World) (c : Context)
+    → None ≡ slice_get (kids_between t from to) 0 →
     RepliesOverWith ts t (script_row number names (trees ts t from to)) v c (reduced.Gives values.Undefined) v c
 script-none ts t number names from to v c h = λ e.
     same-row ts t e (script_row number names (trees ts t from to)) (give values.Undefined) v v c c (reduced.Gives values.Undefined) (ap (script_row number names) (no-trees ts t from to h))
     (λ taken. give-does ts t e values.Undefined (state_of v c taken))
 
 pub script-part : (ts : List (List ℕ)) (t : NodeTable) (number : ℕ) (names : List Binding) (from to k : ℕ) (v w : World) (c d : Context) (r : Result (Unit {0}) ActionEnd) (q : Reduced) →
-    Some k ≡ slice_get (kids_between t from to) 0 → Turns (entered_script number) c d → Passes (script_declared names (trees ts t (from + 1) to)) v r w → q ≡ answered_by (λ _. reduced.Uncovers k) r →
+    Some k ≡ slice_get (kids_between t from to) 0
+    → Turns (entered_script number) c d
+    → Passes (script_declared names (trees ts t (from + 1) to)) v r w
+    → q ≡ answered_by (λ _. reduced.Uncovers k) r →
     RepliesOverWith ts t (script_row number names (trees ts t from to)) v c q w d
 script-part ts t number names from to k v w c d r q h g p j = λ e.
     let fs : Terms = trees ts t (from + 1) to in
@@ -128,7 +169,8 @@ block_end : (scope : Addr) (names : List Binding) → block_row scope names end 
 block_end scope [] = refl
 block_end scope (b ∷ bs) = refl
 
-pub block-none : (ts : List (List ℕ)) (t : NodeTable) (scope : Addr) (names : List Binding) (from to : ℕ) (v : World) → None ≡ slice_get (kids_between t from to) 0 →
+pub block-none : (ts : List (List ℕ)) (t : NodeTable) (scope : Addr) (names : List Binding) (from to : ℕ) (v : World)
+    → None ≡ slice_get (kids_between t from to) 0 →
     RepliesOver ts t (block_row scope names (trees ts t from to)) v (reduced.Gives values.Undefined) v
 block-none ts t scope names from to v h = λ e.
     same-action ts t e (block_row scope names (trees ts t from to)) (give values.Undefined) v v (reduced.Gives values.Undefined) (ap (block_row scope names) (no-trees ts t from to h) ∙ block_end scope names)
@@ -137,7 +179,9 @@ block-none ts t scope names from to v h = λ e.
 some_slots : (n : ℕ) → nat_eq (suc n) 0 ≡ true → ⊥
 some_slots n h = grind arith
 
-pub block-plain : (ts : List (List ℕ)) (t : NodeTable) (scope : Addr) (slots : List Slot) (from to k : ℕ) (v : World) → Some k ≡ slice_get (kids_between t from to) 0 → nat_eq (length slots) 0 ≡ true →
+pub block-plain : (ts : List (List ℕ)) (t : NodeTable) (scope : Addr) (slots : List Slot) (from to k : ℕ) (v : World)
+    → Some k ≡ slice_get (kids_between t from to) 0
+    → nat_eq (length slots) 0 ≡ true →
     RepliesOver ts t (block_row scope (bindings ts slots) (trees ts t from to)) v (reduced.Uncovers k) v
 block-plain ts t scope [] from to k v h i = λ e.
     same-action ts t e (block_row scope [] (trees ts t from to)) (go (settle (tree ts t k))) v v (reduced.Uncovers k) (ap (block_row scope []) (first-tree ts t from to k h))
@@ -145,7 +189,10 @@ block-plain ts t scope [] from to k v h i = λ e.
 block-plain ts t scope (x ∷ xs) from to k v h i = absurd (some_slots (length xs) i)
 
 pub block-part : (ts : List (List ℕ)) (t : NodeTable) (scope : Addr) (slots : List Slot) (from to k : ℕ) (v w : World) (r : Result Addr ActionEnd) (q : Reduced) →
-    Some k ≡ slice_get (kids_between t from to) 0 → nat_eq (length slots) 0 ≡ false → Yields (scope_declared scopes.Block scope (bindings ts slots) (trees ts t (from + 1) to)) v r w → q ≡ answered_by (λ a. reduced.Scopes a k) r →
+    Some k ≡ slice_get (kids_between t from to) 0
+    → nat_eq (length slots) 0 ≡ false
+    → Yields (scope_declared scopes.Block scope (bindings ts slots) (trees ts t (from + 1) to)) v r w
+    → q ≡ answered_by (λ a. reduced.Scopes a k) r →
     RepliesOver ts t (block_row scope (bindings ts slots) (trees ts t from to)) v q w
 block-part ts t scope [] from to k v w r q h i y m = cc
 block-part ts t scope (x ∷ more_slots) from to k v w r q h i y m = λ e.
@@ -157,7 +204,11 @@ block-part ts t scope (x ∷ more_slots) from to k v w r q h i y m = λ e.
 
 -- ---- catches
 
-pub catch-plain : (t : NodeTable) (scope : Addr) (from to : ℕ) (o : Option ℕ) (q : Reduced) → o ≡ slice_get (kids_between t from to) 0 → q ≡ uncovered o → (thrown : Value) → RepliesInside t (λ ts. catch_row scope None thrown (trees ts t from to)) q
+pub catch-plain : (t : NodeTable) (scope : Addr) (from to : ℕ) (o : Option ℕ) (q : Reduced)
+    → o ≡ slice_get (kids_between t from to) 0
+    → q ≡ uncovered o
+    → (thrown : Value)
+    → RepliesInside t (λ ts. catch_row scope None thrown (trees ts t from to)) q
 catch-plain t scope from to None q h j thrown = λ ts e s.
     let P : Terms → Type 0 = λ x. Does ts t e (catch_row scope None thrown x) s q s in
     let Q : Reduced → Type 0 = λ x. Does ts t e (give values.Undefined) s x s in
@@ -167,14 +218,17 @@ catch-plain t scope from to (Some k) q h j thrown = λ ts e s.
     let Q : Reduced → Type 0 = λ x. Does ts t e (go (settle (tree ts t k))) s x s in
     subst P (sym (first-tree ts t from to k h)) (subst Q (sym j) (uncovers-does ts t e k s))
 
-pub catch-none : (ts : List (List ℕ)) (t : NodeTable) (scope : Addr) (name : List ℕ) (thrown : Value) (from to : ℕ) (v : World) → None ≡ slice_get (kids_between t from to) 0 →
+pub catch-none : (ts : List (List ℕ)) (t : NodeTable) (scope : Addr) (name : List ℕ) (thrown : Value) (from to : ℕ) (v : World)
+    → None ≡ slice_get (kids_between t from to) 0 →
     RepliesOver ts t (catch_row scope (Some name) thrown (trees ts t from to)) v (reduced.Gives values.Undefined) v
 catch-none ts t scope name thrown from to v h = λ e.
     same-action ts t e (catch_row scope (Some name) thrown (trees ts t from to)) (give values.Undefined) v v (reduced.Gives values.Undefined) (ap (catch_row scope (Some name) thrown) (no-trees ts t from to h))
     (λ s. give-does ts t e values.Undefined (with_world s v))
 
 pub catch-part : (ts : List (List ℕ)) (t : NodeTable) (scope : Addr) (name : List ℕ) (thrown : Value) (from to k : ℕ) (v w : World) (r : Result Addr ActionEnd) (q : Reduced) →
-    Some k ≡ slice_get (kids_between t from to) 0 → Yields (new_scope scopes.Catch [] scope (record { name = name; constant = false; value = Some thrown } ∷ [])) v r w → q ≡ answered_by (λ a. reduced.Scopes a k) r →
+    Some k ≡ slice_get (kids_between t from to) 0
+    → Yields (new_scope scopes.Catch [] scope (record { name = name; constant = false; value = Some thrown } ∷ [])) v r w
+    → q ≡ answered_by (λ a. reduced.Scopes a k) r →
     RepliesOver ts t (catch_row scope (Some name) thrown (trees ts t from to)) v q w
 catch-part ts t scope name thrown from to k v w r q h y m = λ e.
     let bs : List Binding = record { name = name; constant = false; value = Some thrown } ∷ [] in

@@ -66,7 +66,16 @@ call_scope c name outer args k =
 -- ---- an action that asks a state for its world and its frames, in a context
 
 -- of a task: performing what a state is asked for is the answer, in this context and behind any texts that were taken
-abbrev pub Acts : List (List ℕ) → NodeTable → Wide → (State → Action) → World → Context → Reduced → World → Context → Type 0
+abbrev pub Acts : List (List ℕ)
+    → NodeTable
+    → Wide
+    → (State → Action)
+    → World
+    → Context
+    → Reduced
+    → World
+    → Context
+    → Type 0
 Acts ts t e f v c r w d = (taken : List (List ℕ)) → Does ts t e (f (state_of v c taken)) (state_of v c taken) r (state_of w d taken)
 
 -- in every task of every table with these arguments
@@ -74,11 +83,29 @@ abbrev pub ActsOn : List (List ℕ) → List Value → (State → Action) → Wo
 ActsOn ts args f v c r w d = (t : NodeTable) (e : Wide) → args ≡ drop 2 e.values → Acts ts t e f v c r w d
 
 -- of this table
-abbrev pub ActsIn : List (List ℕ) → NodeTable → List Value → (State → Action) → World → Context → Reduced → World → Context → Type 0
+abbrev pub ActsIn : List (List ℕ)
+    → NodeTable
+    → List Value
+    → (State → Action)
+    → World
+    → Context
+    → Reduced
+    → World
+    → Context
+    → Type 0
 ActsIn ts t args f v c r w d = (e : Wide) → args ≡ drop 2 e.values → Acts ts t e f v c r w d
 
 -- in every task with these values
-abbrev pub ActsOf : List (List ℕ) → NodeTable → List Value → (State → Action) → World → Context → Reduced → World → Context → Type 0
+abbrev pub ActsOf : List (List ℕ)
+    → NodeTable
+    → List Value
+    → (State → Action)
+    → World
+    → Context
+    → Reduced
+    → World
+    → Context
+    → Type 0
 ActsOf ts t vs f v c r w d = (e : Wide) → vs ≡ e.values → Acts ts t e f v c r w d
 
 -- whatever the task and the table
@@ -86,7 +113,15 @@ abbrev pub ActsAnywhere : List (List ℕ) → (State → Action) → World → C
 ActsAnywhere ts f v c r w d = (t : NodeTable) (e : Wide) → Acts ts t e f v c r w d
 
 -- whatever the task
-abbrev pub ActsAlways : List (List ℕ) → NodeTable → (State → Action) → World → Context → Reduced → World → Context → Type 0
+abbrev pub ActsAlways : List (List ℕ)
+    → NodeTable
+    → (State → Action)
+    → World
+    → Context
+    → Reduced
+    → World
+    → Context
+    → Type 0
 ActsAlways ts t f v c r w d = (e : Wide) → Acts ts t e f v c r w d
 
 -- the frame of a call to code with this node and body is entered

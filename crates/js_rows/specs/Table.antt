@@ -15,7 +15,17 @@ use Rattle.js_steps.specs.declared.task.Redex.{Redex}
 use Rattle.js_steps.specs.Rows.{redex, RowOf}
 
 -- whatever the scope around it, and behind any texts that were taken
-abbrev pub IsRow : List (List ℕ) → NodeTable → Redex → List Value → Option Extra → World → Context → Reduced → World → Context → Type 0
+abbrev pub IsRow : List (List ℕ)
+    → NodeTable
+    → Redex
+    → List Value
+    → Option Extra
+    → World
+    → Context
+    → Reduced
+    → World
+    → Context
+    → Type 0
 IsRow ts t form vs x v c r w d =
     (outer : Addr) (before : List (List ℕ)) → RowOf ts t (redex form vs x) outer (state_of v c before) r (state_of w d before)
 

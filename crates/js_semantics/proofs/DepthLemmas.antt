@@ -165,7 +165,9 @@ result-quiet (a_value v) k h = h v
 result-quiet (a_text us) k h = λ a. h (values.Text a)
 result-quiet (an_error class message) k h = fail-quiet class message
 
-key-quiet : (o : Option (List ℕ)) (k : List ℕ → Action) → ((key : List ℕ) → QuietAction (k key)) → QuietAction (with_key o k)
+key-quiet : (o : Option (List ℕ)) (k : List ℕ → Action)
+    → ((key : List ℕ) → QuietAction (k key))
+    → QuietAction (with_key o k)
 key-quiet None k h = fail-quiet classes.TypeError (codes "Property key must be a string or a number")
 key-quiet (Some key) k h = h key
 
@@ -188,7 +190,9 @@ enter-quiet : (node : ℕ) (later : Terms) → HaveNoFrame later → QuietAction
 enter-quiet node end k = tt
 enter-quiet node (more t ts) k = settle-quiet t k.0
 
-block-quiet : (scope : Addr) (names : List Binding) (later : Terms) → HaveNoFrame later → QuietAction (block_row scope names later)
+block-quiet : (scope : Addr) (names : List Binding) (later : Terms)
+    → HaveNoFrame later
+    → QuietAction (block_row scope names later)
 block-quiet scope [] end k = tt
 block-quiet scope (b ∷ bs) end k = tt
 block-quiet scope [] (more t fs) k = settle-quiet t k.0
@@ -211,11 +215,15 @@ otherwise-quiet false v end k = tt
 otherwise-quiet false v (more t ts) k = k.0
 otherwise-quiet true v later k = tt
 
-turn_or_end-quiet : (b : Bool) (scope : Option Addr) (later : Terms) → HaveNoFrame later → HasNoFrame (turn_or_end b scope later)
+turn_or_end-quiet : (b : Bool) (scope : Option Addr) (later : Terms)
+    → HaveNoFrame later
+    → HasNoFrame (turn_or_end b scope later)
 turn_or_end-quiet true scope later k = at_body-quiet scope later k
 turn_or_end-quiet false scope later k = tt
 
-loop-quiet : (w : World) (stage : Stage) (scope : Option Addr) (vs : List Value) (later : Terms) → HaveNoFrame later → QuietAction (loop_row w stage scope vs later)
+loop-quiet : (w : World) (stage : Stage) (scope : Option Addr) (vs : List Value) (later : Terms)
+    → HaveNoFrame later
+    → QuietAction (loop_row w stage scope vs later)
 loop-quiet w testing scope vs later k = turn_or_end-quiet (is_truthy w (only vs)) scope later k
 loop-quiet w first (Some a) vs later k = λ b. at_test-quiet (Some b) later k
 loop-quiet w body (Some a) vs later k = λ b. at_update-quiet (Some b) later k
@@ -230,11 +238,15 @@ for_in-quiet false a end k = tt
 for_in-quiet true a (more t ts) k = ((settled-quiet (loop first None) (one (settle t)) ts ((settle-quiet t k.0, tt), k.1), tt), tt)
 for_in-quiet false a (more t ts) k = settled-quiet (loop first (Some a)) (one (settle t)) ts ((settle-quiet t k.0, tt), k.1)
 
-enter_for_of-quiet : (scope : Addr) (node : ℕ) (b : Binding) (later : Terms) → HaveNoFrame later → QuietAction (enter_for_of_row scope node b later)
+enter_for_of-quiet : (scope : Addr) (node : ℕ) (b : Binding) (later : Terms)
+    → HaveNoFrame later
+    → QuietAction (enter_for_of_row scope node b later)
 enter_for_of-quiet scope node b end k = tt
 enter_for_of-quiet scope node b (more t ts) k = λ a. ((scoped-quiet t a k.0, tt), k.1)
 
-list-quiet : (w : World) (b : Binding) (x : Value) (later : Terms) → HaveNoFrame later → QuietAction (list_row w b x later)
+list-quiet : (w : World) (b : Binding) (x : Value) (later : Terms)
+    → HaveNoFrame later
+    → QuietAction (list_row w b x later)
 list-quiet w b x later k =
     choose_quiet (is_array w x) (go (part (turn_of b 0) end (more (done x) later))) (fail classes.TypeError (codes "Value is not an array")) (tt, (tt, k))
     (fail-quiet classes.TypeError (codes "Value is not an array"))
@@ -244,7 +256,9 @@ body_part-quiet end k = tt
 body_part-quiet (more t end) k = tt
 body_part-quiet (more t (more u ts)) k = k.1.0
 
-turn-quiet : (scope : Addr) (b : Binding) (i : ℕ) (o : Option Value) (later : Terms) → HaveNoFrame later → QuietAction (turn_row scope b i o later)
+turn-quiet : (scope : Addr) (b : Binding) (i : ℕ) (o : Option Value) (later : Terms)
+    → HaveNoFrame later
+    → QuietAction (turn_row scope b i o later)
 turn-quiet scope b i None later k = tt
 turn-quiet scope b i (Some x) later k =
     λ a. settled-quiet (body_of b (i + 1)) (one (settled (scoped a) (one (body_part later)) end)) later ((scoped-quiet (body_part later) a (body_part-quiet later k), tt), k)
@@ -254,24 +268,32 @@ comma-quiet end k = tt
 comma-quiet (more t end) k = k.0
 comma-quiet (more t (more u ts)) k = ((k.0, tt), k.1)
 
-compound-quiet : (w : World) (scope : Addr) (o : BinaryOperator) (r : Reference) (vs : List Value) (later : Terms) → HaveNoFrame later → QuietAction (compound_row w scope o r vs later)
+compound-quiet : (w : World) (scope : Addr) (o : BinaryOperator) (r : Reference) (vs : List Value) (later : Terms)
+    → HaveNoFrame later
+    → QuietAction (compound_row w scope o r vs later)
 compound-quiet w scope o r vs end k = tt
 compound-quiet w scope o r vs (more e ts) k =
     result-quiet (read_result w scope r vs) (λ old. go (part (assign r) (joined (dones vs) (one (part (binary o) (more (done old) (one e)) end))) end))
     (λ x. (joined-quiet (dones vs) (one (part (binary o) (more (done x) (one e)) end)) (dones-quiet vs) (((tt, (k.0, tt)), tt), tt), tt))
 
-callee-quiet : (w : World) (scope : Addr) (r : Reference) (m : Mark) (node : ℕ) (vs : List Value) (later : Terms) → HaveNoFrame later → QuietAction (callee_row w scope r m node vs later)
+callee-quiet : (w : World) (scope : Addr) (r : Reference) (m : Mark) (node : ℕ) (vs : List Value) (later : Terms)
+    → HaveNoFrame later
+    → QuietAction (callee_row w scope r m node vs later)
 callee-quiet w scope r m node vs later k =
     result-quiet (read_result w scope r vs) (λ f. go (part (call m node) (more (done (callee_this r vs)) (more (done f) later)) end)) (λ x. ((tt, (tt, k)), tt))
 
-object-quiet : (w : World) (scope : Addr) (ms : List Member) (vs : List Value) (later : Terms) → HaveNoFrame later → QuietAction (object_row w scope ms vs later)
+object-quiet : (w : World) (scope : Addr) (ms : List Member) (vs : List Value) (later : Terms)
+    → HaveNoFrame later
+    → QuietAction (object_row w scope ms vs later)
 object-quiet w scope ms vs end k = gives-quiet (object_or_fail (properties_from w [] ms vs)) (made-gives (properties_from w [] ms vs))
 object-quiet w scope ms vs (more (part (method f) now later) ts) k =
     key-quiet (key_of w (last_of vs)) (λ key. make (function_cell f key scope values.Undefined) (λ a. go (part (object ms) (joined (dones vs) (more (done (values.Object a)) now)) ts)))
     (λ key a. (joined-quiet (dones vs) (more (done (values.Object a)) now) (dones-quiet vs) (tt, k.0.0), k.1))
 object-quiet w scope ms vs (more _ ts) k = tt
 
-catch-quiet : (scope : Addr) (n : Option (List ℕ)) (x : Value) (later : Terms) → HaveNoFrame later → QuietAction (catch_row scope n x later)
+catch-quiet : (scope : Addr) (n : Option (List ℕ)) (x : Value) (later : Terms)
+    → HaveNoFrame later
+    → QuietAction (catch_row scope n x later)
 catch-quiet scope None x end k = tt
 catch-quiet scope (Some n) x end k = tt
 catch-quiet scope None x (more t ts) k = settle-quiet t k.0
@@ -292,7 +314,11 @@ code_if-quiet true f (more t ts) h = h.0
 code_if-quiet true f end h = tt
 code_if-quiet false f later h = tt
 
-within-quiet : (o p q : Option FunctionCode) → CodeHasNoFrame o → CodeHasNoFrame p → CodeHasNoFrame q → CodeHasNoFrame (first_code o (first_code p q))
+within-quiet : (o p q : Option FunctionCode)
+    → CodeHasNoFrame o
+    → CodeHasNoFrame p
+    → CodeHasNoFrame q
+    → CodeHasNoFrame (first_code o (first_code p q))
 within-quiet o p q h k l = first-quiet o (first_code p q) h (first-quiet p q k l)
 
 mutual
@@ -310,11 +336,16 @@ mutual
   function_in_all-quiet node end h = tt
   function_in_all-quiet node (more t ts) h = first-quiet (function_in node t) (function_in_all node ts) (function_in-quiet node t h.0) (function_in_all-quiet node ts h.1)
 
-at_if : (b : Bool) (o p : Option FunctionCode) → CodeHasNoFrame o → CodeHasNoFrame p → CodeHasNoFrame (if b then o else p)
+at_if : (b : Bool) (o p : Option FunctionCode)
+    → CodeHasNoFrame o
+    → CodeHasNoFrame p
+    → CodeHasNoFrame (if b then o else p)
 at_if true o p h k = h
 at_if false o p h k = k
 
-function_at-quiet : (p : Program) (source : Source) (node : ℕ) → ProgramHasNoFrame p → CodeHasNoFrame (function_at p source node)
+function_at-quiet : (p : Program) (source : Source) (node : ℕ)
+    → ProgramHasNoFrame p
+    → CodeHasNoFrame (function_at p source node)
 function_at-quiet [] source node h = tt
 function_at-quiet (t ∷ ts) source node h =
     at_if (same_source t.source source) (function_in node t.tree) (function_at ts source node) (function_in-quiet node t.tree h.0) (function_at-quiet ts source node h.1)
@@ -353,15 +384,22 @@ rest-length : (fs : List Frame) (m : ℕ) → length fs ≡ suc m → length (re
 rest-length [] m e = absurd (omega (arith, e))
 rest-length (f ∷ fs) m e = omega (arith, e)
 
-full_agrees : (b : ℕ) (t : Bool) (what : Counted) (s : State) (v : Value) → length s.frames ≡ b → MoveAgrees b (if t then is_full what s else raised_at v s)
+full_agrees : (b : ℕ) (t : Bool) (what : Counted) (s : State) (v : Value)
+    → length s.frames ≡ b
+    → MoveAgrees b (if t then is_full what s else raised_at v s)
 full_agrees b true what s v e = tt
 full_agrees b false what s v e = record { framed = tt; counted = omega (arith, e) }
 
-outside_agrees : (b : ℕ) (t : Bool) (s : State) (m : Move Term) → MoveAgrees b m → MoveAgrees b (if t then has_effect s else m)
+outside_agrees : (b : ℕ) (t : Bool) (s : State) (m : Move Term)
+    → MoveAgrees b m
+    → MoveAgrees b (if t then has_effect s else m)
 outside_agrees b true s m h = tt
 outside_agrees b false s m h = h
 
-after_agrees : {A : Type 0} (b : ℕ) (s : State) (t : Tried A) (k : A → State → Move Term) → length s.frames ≡ b → ((a : A) (w : World) → MoveAgrees b (k a (with_world s w))) → MoveAgrees b (after t s k)
+after_agrees : {A : Type 0} (b : ℕ) (s : State) (t : Tried A) (k : A → State → Move Term)
+    → length s.frames ≡ b
+    → ((a : A) (w : World) → MoveAgrees b (k a (with_world s w)))
+    → MoveAgrees b (after t s k)
 after_agrees b s (fine a w) k e h = h a w
 after_agrees b s effect k e h = tt
 after_agrees b s (full what) k e h = full_agrees b (is_evaluation s.world) what s _ e
@@ -387,20 +425,27 @@ perform-agrees b (pop_frame k) s h =
 one-framed : (t : Term) → HasNoFrame t → AreFramed (one t)
 one-framed t h = are-framed (one t) (h, tt)
 
-entered-framed : (b : ℕ) (scope : Addr) (ts : Terms) (c : FunctionCode) (source : Source) (a : Addr) (x : Value) (s : Addr) → HasNoFrame c.body → FramedAction b b (with_functions scope ts (frame_entered c source a x s))
+entered-framed : (b : ℕ) (scope : Addr) (ts : Terms) (c : FunctionCode) (source : Source) (a : Addr) (x : Value) (s : Addr)
+    → HasNoFrame c.body
+    → FramedAction b b (with_functions scope ts (frame_entered c source a x s))
 entered-framed b scope end c source a x s h =
     ((one-framed (settle c.body) (settle-quiet c.body h), tt), omega (arith, no-calls_of (one (settle c.body)) (settle-quiet c.body h, tt)))
 entered-framed b scope (more (part (function f) now later) ts) c source a x s h = (refl, λ d. (refl, entered-framed b scope ts c source a x s h))
 entered-framed b scope (more _ ts) c source a x s h = entered-framed b scope ts c source a x s h
 
-choose_framed : (b n : ℕ) (t : Bool) (x y : Action) → FramedAction b n x → FramedAction b n y → FramedAction b n (if t then x else y)
+choose_framed : (b n : ℕ) (t : Bool) (x y : Action)
+    → FramedAction b n x
+    → FramedAction b n y
+    → FramedAction b n (if t then x else y)
 choose_framed b n true x y h k = h
 choose_framed b n false x y h k = k
 
 fail-framed : (b : ℕ) (class : ErrorClass) (message : List ℕ) → FramedAction b b (fail class message)
 fail-framed b class message = quiet-framed b (fail class message) (fail-quiet class message)
 
-code-framed : (b : ℕ) (s : State) (o : Option FunctionCode) (source : Source) (a : Addr) (name : List ℕ) (outer : Option Addr) (x y : Value) (args : List Value) → CodeHasNoFrame o → FramedAction b b (call_code s o source a name outer x y args)
+code-framed : (b : ℕ) (s : State) (o : Option FunctionCode) (source : Source) (a : Addr) (name : List ℕ) (outer : Option Addr) (x y : Value) (args : List Value)
+    → CodeHasNoFrame o
+    → FramedAction b b (call_code s o source a name outer x y args)
 code-framed b s None source a name outer x y args h = fail-framed b classes.TypeError (codes "Value is not a function")
 code-framed b s (Some c) source a name None x y args h = fail-framed b classes.TypeError (codes "Value is not a function")
 code-framed b s (Some c) source a name (Some outer) x y args h =
@@ -408,7 +453,9 @@ code-framed b s (Some c) source a name (Some outer) x y args h =
     (refl, λ d. entered-framed b d c.functions c source a (called_this c.form.is_arrow x y) d h)
     (fail-framed b classes.RangeError (codes "Maximum call stack size exceeded"))
 
-cell-framed : (b : ℕ) (p : Program) (s : State) (a : Addr) (o : Option Cell) (y : Value) (args : List Value) → ProgramHasNoFrame p → FramedAction b b (call_cell p s a o y args)
+cell-framed : (b : ℕ) (p : Program) (s : State) (a : Addr) (o : Option Cell) (y : Value) (args : List Value)
+    → ProgramHasNoFrame p
+    → FramedAction b b (call_cell p s a o y args)
 cell-framed b p s a None y args h = fail-framed b classes.TypeError (codes "Value is not a function")
 cell-framed b p s a (Some (cells.Function (code.BuiltIn f) n l outer x)) y args h = quiet-framed b (built_in_call s.world f y args) (gives-quiet (built_in_call s.world f y args) (built_in-gives s.world f y args))
 cell-framed b p s a (Some (cells.Function (code.Script number node) n l outer x)) y args h =
@@ -421,16 +468,23 @@ cell-framed b p s a (Some (cells.Array vs)) y args h = fail-framed b classes.Typ
 cell-framed b p s a (Some (cells.Text us)) y args h = fail-framed b classes.TypeError (codes "Value is not a function")
 cell-framed b p s a (Some (cells.Bindings kind n o ns)) y args h = fail-framed b classes.TypeError (codes "Value is not a function")
 
-value-framed : (b : ℕ) (p : Program) (s : State) (f y : Value) (args : List Value) → ProgramHasNoFrame p → FramedAction b b (call_value p s f y args)
+value-framed : (b : ℕ) (p : Program) (s : State) (f y : Value) (args : List Value)
+    → ProgramHasNoFrame p
+    → FramedAction b b (call_value p s f y args)
 value-framed b p s (values.Object a) y args h = cell-framed b p s a (read_cell s.world a) y args h
 value-framed b p s _ y args h = fail-framed b classes.TypeError (codes "Value is not a function")
 
-call-framed : (b : ℕ) (p : Program) (s : State) (m : Mark) (vs : List Value) → ProgramHasNoFrame p → FramedAction b b (call_row p s m vs)
+call-framed : (b : ℕ) (p : Program) (s : State) (m : Mark) (vs : List Value)
+    → ProgramHasNoFrame p
+    → FramedAction b b (call_row p s m vs)
 call-framed b p s m [] h = (tt, omega arith)
 call-framed b p s m (x ∷ []) h = (tt, omega arith)
 call-framed b p s m (x ∷ f ∷ args) h = value-framed b p s f x args h
 
-script-framed : (b : ℕ) (number : ℕ) (names : List Binding) (later : Terms) → 1 ≤ b → HaveNoFrame later → FramedAction b b (script_row number names later)
+script-framed : (b : ℕ) (number : ℕ) (names : List Binding) (later : Terms)
+    → 1 ≤ b
+    → HaveNoFrame later
+    → FramedAction b b (script_row number names later)
 script-framed zero number names later l k = absurd (omega (arith, l))
 script-framed (suc b) number names end l k = (tt, omega arith)
 script-framed (suc b) number names (more t fs) l k =
@@ -449,7 +503,11 @@ row-quiet b a h = quiet-framed b a h
 row-gives : (b : ℕ) (a : Action) → GivesValues a → FramedAction b b a
 row-gives b a h = quiet-framed b a (gives-quiet a h)
 
-row-framed : (b : ℕ) (p : Program) (s : State) (scope : Addr) (f : Form) (vs : List Value) (later : Terms) → 1 ≤ b → ProgramHasNoFrame p → HaveNoFrame later → FramedAction b (inner b f) (row p s scope f vs later)
+row-framed : (b : ℕ) (p : Program) (s : State) (scope : Addr) (f : Form) (vs : List Value) (later : Terms)
+    → 1 ≤ b
+    → ProgramHasNoFrame p
+    → HaveNoFrame later
+    → FramedAction b (inner b f) (row p s scope f vs later)
 row-framed b p s scope (script number names) vs later l g k = script-framed b number names later l k
 row-framed b p s scope (enter node) vs later l g k = row-quiet b (enter_row node later) (enter-quiet node later k)
 row-framed b p s scope (enter_debugger node) vs later l g k = row-quiet b (enter_row node later) (enter-quiet node later k)
@@ -488,7 +546,9 @@ row-framed b p s scope _ vs later l g k = (tt, omega arith)
 
 -- ---- THE TABLE OF COMPLETIONS
 
-taken-framed : (b : ℕ) (scope : Addr) (f : Form) (c : Completion) (later : Terms) → HaveNoFrame later → FramedAction b (inner b f) (taken scope f c later)
+taken-framed : (b : ℕ) (scope : Addr) (f : Form) (c : Completion) (later : Terms)
+    → HaveNoFrame later
+    → FramedAction b (inner b f) (taken scope f c later)
 taken-framed b scope (catching x) (throws v m) later k = row-quiet b (catch_row scope x v later) (catch-quiet scope x v later k)
 taken-framed b scope (catching x) (returns v) later k = refl
 taken-framed b scope (catching x) breaks later k = refl
@@ -530,7 +590,10 @@ with_value-agrees : (b : ℕ) (s : State) (v : Value) (x : Walked) → WalkAgree
 with_value-agrees b s v (all_values vs) h = h
 with_value-agrees b s v (moved m) h = value_in b v m h
 
-inside-agrees : (b : ℕ) (ts : Terms) (m : Move Term) → HaveNoFrame ts → MoveAgrees b m → MovesAgree b (inside (λ t. more t ts) m)
+inside-agrees : (b : ℕ) (ts : Terms) (m : Move Term)
+    → HaveNoFrame ts
+    → MoveAgrees b m
+    → MovesAgree b (inside (λ t. more t ts) m)
 inside-agrees b ts (goes (done v) s told) k h = (are-framed ts k, omega (arith, h.counted, no-calls_of ts k))
 inside-agrees b ts (goes (standing v place) s told) k h = (k, h.counted)
 inside-agrees b ts (goes (part f now later) s told) k h = ((h.framed, k), h.counted)
@@ -545,21 +608,39 @@ values-quiet (more (done v) ts) e = (tt, values-quiet ts e)
 values-quiet (more (standing v place) ts) e = cc
 values-quiet (more (part f now later) ts) e = cc
 
-finished-framed : (b : ℕ) (f : Form) (now later : Terms) (s : State) → HaveNoFrame now → HaveNoFrame later → length s.frames ≡ inner b f + calls_of now → Agrees b (finished f now later) s
+finished-framed : (b : ℕ) (f : Form) (now later : Terms) (s : State)
+    → HaveNoFrame now
+    → HaveNoFrame later
+    → length s.frames ≡ inner b f + calls_of now
+    → Agrees b (finished f now later) s
 finished-framed b (frame node a) now later s n k e = record { framed = (are-framed now n, k); counted = omega (arith, e) }
 finished-framed b f now later s n k e =
     let q = finished-quiet f now later (n, k) in
     record { framed = is-framed (finished f now later) q; counted = omega (arith, e, no-calls (finished f now later) q, no-calls_of now n) }
 
-part-framed : (b : ℕ) (f : Form) (now later : Terms) (s : State) → AreFramed now → HaveNoFrame later → length s.frames ≡ inner b f + calls_of now → Agrees b (part f now later) s
+part-framed : (b : ℕ) (f : Form) (now later : Terms) (s : State)
+    → AreFramed now
+    → HaveNoFrame later
+    → length s.frames ≡ inner b f + calls_of now
+    → Agrees b (part f now later) s
 part-framed b (frame node a) now later s n k e = record { framed = (n, k); counted = omega (arith, e) }
 part-framed b f now later s n k e = record { framed = (n, k); counted = e }
 
-settled_if : (b : ℕ) (t : Bool) (f : Form) (now later : Terms) (s : State) → all_done now ≡ t → AreFramed now → HaveNoFrame later → length s.frames ≡ inner b f + calls_of now → Agrees b (if t then finished f now later else part f now later) s
+settled_if : (b : ℕ) (t : Bool) (f : Form) (now later : Terms) (s : State)
+    → all_done now ≡ t
+    → AreFramed now
+    → HaveNoFrame later
+    → length s.frames ≡ inner b f + calls_of now
+    → Agrees b (if t then finished f now later else part f now later) s
 settled_if b true f now later s d n k e = finished-framed b f now later s (values-quiet now d) k e
 settled_if b false f now later s d n k e = part-framed b f now later s n k e
 
-around-agrees : (b : ℕ) (p : Program) (scope : Addr) (f : Form) (later : Terms) (s : State) (x : Walked) → 1 ≤ b → ProgramHasNoFrame p → HaveNoFrame later → WalkAgrees (inner b f) s x → MoveAgrees b (around p scope f later s x)
+around-agrees : (b : ℕ) (p : Program) (scope : Addr) (f : Form) (later : Terms) (s : State) (x : Walked)
+    → 1 ≤ b
+    → ProgramHasNoFrame p
+    → HaveNoFrame later
+    → WalkAgrees (inner b f) s x
+    → MoveAgrees b (around p scope f later s x)
 around-agrees b p scope f later s (all_values vs) l g k h =
     let P : ℕ → Type 0 = λ n. FramedAction b n (row p s scope f vs later) in
     perform-agrees b (row p s scope f vs later) s (subst P (sym h) (row-framed b p s scope f vs later l g k))
@@ -571,7 +652,9 @@ around-agrees b p scope f later s (moved (has_effect t)) l g k h = tt
 around-agrees b p scope f later s (moved (is_full what t)) l g k h = tt
 
 -- the frames outside a form's parts, and those within
-inner-counts : (b : ℕ) (f : Form) (now later : Terms) (n : ℕ) → n ≡ b + calls (part f now later) → n ≡ inner b f + calls_of now
+inner-counts : (b : ℕ) (f : Form) (now later : Terms) (n : ℕ)
+    → n ≡ b + calls (part f now later)
+    → n ≡ inner b f + calls_of now
 inner-counts b (frame node a) now later n e = omega (arith, e)
 inner-counts b f now later n e = e
 
@@ -580,7 +663,11 @@ inner-low b (frame node a) l = omega arith
 inner-low b f l = l
 
 mutual
-  pub next-agrees : (b : ℕ) (p : Program) (scope : Addr) (t : Term) (s : State) → 1 ≤ b → ProgramHasNoFrame p → Agrees b t s → MoveAgrees b (next p scope t s)
+  pub next-agrees : (b : ℕ) (p : Program) (scope : Addr) (t : Term) (s : State)
+      → 1 ≤ b
+      → ProgramHasNoFrame p
+      → Agrees b t s
+      → MoveAgrees b (next p scope t s)
   next-agrees b p scope (done v) s l g h = record { framed = tt; counted = h.counted }
   next-agrees b p scope (standing v place) s l g h = omega (arith, h.counted)
   next-agrees b p scope (part f now later) s l g h =
@@ -588,7 +675,12 @@ mutual
       around-agrees b p scope f later s (walk p (scope_in f scope) now s) l g q.1
       (walk-agrees (inner b f) p (scope_in f scope) now s (inner-low b f l) g q.0 (inner-counts b f now later (length s.frames) h.counted))
 
-  walk-agrees : (b : ℕ) (p : Program) (scope : Addr) (ts : Terms) (s : State) → 1 ≤ b → ProgramHasNoFrame p → AreFramed ts → length s.frames ≡ b + calls_of ts → WalkAgrees b s (walk p scope ts s)
+  walk-agrees : (b : ℕ) (p : Program) (scope : Addr) (ts : Terms) (s : State)
+      → 1 ≤ b
+      → ProgramHasNoFrame p
+      → AreFramed ts
+      → length s.frames ≡ b + calls_of ts
+      → WalkAgrees b s (walk p scope ts s)
   walk-agrees b p scope end s l g h e = omega (arith, e)
   walk-agrees b p scope (more (done v) ts) s l g h e = with_value-agrees b s v (walk p scope ts s) (walk-agrees b p scope ts s l g h e)
   walk-agrees b p scope (more (standing v place) ts) s l g h e = omega (arith, e)
@@ -608,11 +700,19 @@ after-agrees b (travels c s) h = tt
 after-agrees b (has_effect s) h = tt
 after-agrees b (is_full what s) h = tt
 
-step-agrees : (b : ℕ) (p : Program) (scope : Addr) (r : Run) → 1 ≤ b → ProgramHasNoFrame p → RunAgrees b r → RunAgrees b (step_in p scope r)
+step-agrees : (b : ℕ) (p : Program) (scope : Addr) (r : Run)
+    → 1 ≤ b
+    → ProgramHasNoFrame p
+    → RunAgrees b r
+    → RunAgrees b (step_in p scope r)
 step-agrees b p scope (running t s) l g h = after-agrees b (next p scope t s) (next-agrees b p scope t s l g h)
 step-agrees b p scope (over f s) l g h = tt
 
-pub steps-agree : (b k : ℕ) (p : Program) (scope : Addr) (r : Run) → 1 ≤ b → ProgramHasNoFrame p → RunAgrees b r → RunAgrees b (steps_in k p scope r)
+pub steps-agree : (b k : ℕ) (p : Program) (scope : Addr) (r : Run)
+    → 1 ≤ b
+    → ProgramHasNoFrame p
+    → RunAgrees b r
+    → RunAgrees b (steps_in k p scope r)
 steps-agree b zero p scope r l g h = h
 steps-agree b (suc k) p scope r l g h = steps-agree b k p scope (step_in p scope r) l g (step-agrees b p scope r l g h)
 

@@ -34,21 +34,29 @@ undisturbed w x v k = let o = k.others in record { program = o.0; earlier = let 
 
 -- ---- what is made before the first step
 
-fine_keeps : {B : Type 0} (w v : World) (t : Tried B) → Keeps w v → AfterFine t (λ b u. Keeps v u) → AfterFine t (λ b u. Keeps w u)
+fine_keeps : {B : Type 0} (w v : World) (t : Tried B)
+    → Keeps w v
+    → AfterFine t (λ b u. Keeps v u)
+    → AfterFine t (λ b u. Keeps w u)
 fine_keeps w v (fine b u) h k = keeps-trans w v u h k
 fine_keeps w v effect h k = tt
 fine_keeps w v (full what) h k = tt
 
-then_keeps : {A B : Type 0} (w : World) (t : Tried A) (k : A → World → Tried B) → AfterFine t (λ a v. Keeps w v) → ((a : A) (v : World) → AfterFine (k a v) (λ b u. Keeps v u)) → AfterFine (after_try t k) (λ b u. Keeps w u)
+then_keeps : {A B : Type 0} (w : World) (t : Tried A) (k : A → World → Tried B)
+    → AfterFine t (λ a v. Keeps w v)
+    → ((a : A) (v : World) → AfterFine (k a v) (λ b u. Keeps v u))
+    → AfterFine (after_try t k) (λ b u. Keeps w u)
 then_keeps w (fine a v) k h rest = fine_keeps w v (k a v) h (rest a v)
 then_keeps w effect k h rest = tt
 then_keeps w (full what) k h rest = tt
 
-source_kinds : (w : World) (us : List ℕ) (r : Room) (a : Addr) → KindStays (read_cell w a) (read_cell (record w { scratch = w.scratch ++ cells.Text us ∷ []; room = r }) a)
+source_kinds : (w : World) (us : List ℕ) (r : Room) (a : Addr)
+    → KindStays (read_cell w a) (read_cell (record w { scratch = w.scratch ++ cells.Text us ∷ []; room = r }) a)
 source_kinds w us r (Base i) = stays-same (slice_get w.base i)
 source_kinds w us r (Scratch i) = stays-append w.scratch (cells.Text us) i
 
-source_others : (o : Option ℕ) (w : World) (us : List ℕ) (r : Room) → OthersStay o w (record w { scratch = w.scratch ++ cells.Text us ∷ []; room = r })
+source_others : (o : Option ℕ) (w : World) (us : List ℕ) (r : Room)
+    → OthersStay o w (record w { scratch = w.scratch ++ cells.Text us ∷ []; room = r })
 source_others None w us r = tt
 source_others (Some n) w us r = (refl, λ h. (omega (arith, length-append w.scratch (cells.Text us ∷ [])), take-append-le n w.scratch (cells.Text us ∷ []) h))
 
@@ -64,7 +72,9 @@ literals-keep : (w : World) (ts : List (List ℕ)) → AfterFine (make_literals 
 literals-keep w [] = keeps-same w
 literals-keep w (us ∷ ts) = then_keeps w (make_cell w (cells.Text us)) (λ a v. make_literals v ts) (making-keeps w (cells.Text us)) (λ a v. literals-keep v ts)
 
-second_keeps : {A B : Type 0} (w : World) (t : Tried A) (u : Tried B) → AfterFine u (λ b v. Keeps w v) → AfterFine (after_try t (λ a v. u)) (λ b v. Keeps w v)
+second_keeps : {A B : Type 0} (w : World) (t : Tried A) (u : Tried B)
+    → AfterFine u (λ b v. Keeps w v)
+    → AfterFine (after_try t (λ a v. u)) (λ b v. Keeps w v)
 second_keeps w (fine a v) u h = h
 second_keeps w effect u h = tt
 second_keeps w (full what) u h = tt
@@ -105,7 +115,8 @@ arguments-keep w (a ∷ rest) =
     then_keeps w (make_argument w a) (λ x v. after_try (make_arguments v rest) (λ xs u. fine (x ∷ xs) u)) (argument-keeps w a)
     (λ x v. then_keeps v (make_arguments v rest) (λ xs u. fine (x ∷ xs) u) (arguments-keep v rest) (λ xs u. keeps-same u))
 
-prepared-keeps : (w : World) (x : ScratchSpace) (source : List ℕ) (order : List (List ℕ)) (e : Made) → AfterFine (prepared w x source order e) (λ u v. Keeps (copied_world w x) v)
+prepared-keeps : (w : World) (x : ScratchSpace) (source : List ℕ) (order : List (List ℕ)) (e : Made)
+    → AfterFine (prepared w x source order e) (λ u v. Keeps (copied_world w x) v)
 prepared-keeps w x source order e =
     let c : World = copied_world w x in
     then_keeps c (keep_source c source) (λ at v. after_try (place_literals v order (literals (kept_term at e))) (λ u z. fine (kept_tree at e) z)) (keep-keeps c source)
@@ -113,14 +124,18 @@ prepared-keeps w x source order e =
 
 -- ---- the steps
 
-run_keeps : (w : World) (x : ScratchSpace) (r : Run) → Keeps (copied_world w x) (state_of r).world → AnswerKeeps w x (answer_of r)
+run_keeps : (w : World) (x : ScratchSpace) (r : Run)
+    → Keeps (copied_world w x) (state_of r).world
+    → AnswerKeeps w x (answer_of r)
 run_keeps w x (running t s) k = tt
 run_keeps w x (over (ended v) s) k = undisturbed w x s.world k
 run_keeps w x (over (threw v place) s) k = undisturbed w x s.world k
 run_keeps w x (over by_effect s) k = tt
 run_keeps w x (over (by_full what) s) k = tt
 
-evaluated-keeps : (p : Program) (scope : Addr) (receiver : Value) (w : World) (x : ScratchSpace) (v : World) (t : Term) → Keeps (copied_world w x) v → AnswerKeeps w x (evaluated p scope receiver v t)
+evaluated-keeps : (p : Program) (scope : Addr) (receiver : Value) (w : World) (x : ScratchSpace) (v : World) (t : Term)
+    → Keeps (copied_world w x) v
+    → AnswerKeeps w x (evaluated p scope receiver v t)
 evaluated-keeps p scope receiver w x v t k =
     let s : State = evaluation_state v receiver in
     let r : Run = run_of t s in
@@ -129,17 +144,22 @@ evaluated-keeps p scope receiver w x v t k =
     let P : State → Type 0 = λ z. Keeps z.world (state_of q).world in
     run_keeps w x q (keeps-trans (copied_world w x) v (state_of q).world k (subst P (run_of-state t s) f.cells))
 
-answered-keeps : (w : World) (x : ScratchSpace) (t : Tried Term) (k : World → Term → Answer) → AfterFine t (λ u v. Keeps (copied_world w x) v) → ((v : World) (u : Term) → Keeps (copied_world w x) v → AnswerKeeps w x (k v u)) → AnswerKeeps w x (answered t k)
+answered-keeps : (w : World) (x : ScratchSpace) (t : Tried Term) (k : World → Term → Answer)
+    → AfterFine t (λ u v. Keeps (copied_world w x) v)
+    → ((v : World) (u : Term) → Keeps (copied_world w x) v → AnswerKeeps w x (k v u))
+    → AnswerKeeps w x (answered t k)
 answered-keeps w x (fine u v) k h rest = rest v u h
 answered-keeps w x effect k h rest = tt
 answered-keeps w x (full what) k h rest = tt
 
-pub evaluate-keeps : (p : Program) (w : World) (x : ScratchSpace) (scope : Addr) (receiver : Value) (source : List ℕ) (order : List (List ℕ)) (e : Made) → AnswerKeeps w x (evaluate p w x scope receiver source order e)
+pub evaluate-keeps : (p : Program) (w : World) (x : ScratchSpace) (scope : Addr) (receiver : Value) (source : List ℕ) (order : List (List ℕ)) (e : Made)
+    → AnswerKeeps w x (evaluate p w x scope receiver source order e)
 evaluate-keeps p w x scope receiver source order e =
     answered-keeps w x (prepared w x source order e) (evaluated (with_source p x e) scope receiver) (prepared-keeps w x source order e)
     (λ v u k. evaluated-keeps (with_source p x e) scope receiver w x v u k)
 
-pub call-keeps : (p : Program) (w : World) (x : ScratchSpace) (source : List ℕ) (order : List (List ℕ)) (callee : Made) (receiver : Value) (given_args : List Argument) → AnswerKeeps w x (evaluate_call p w x source order callee receiver given_args)
+pub call-keeps : (p : Program) (w : World) (x : ScratchSpace) (source : List ℕ) (order : List (List ℕ)) (callee : Made) (receiver : Value) (given_args : List Argument)
+    → AnswerKeeps w x (evaluate_call p w x source order callee receiver given_args)
 call-keeps p w x source order callee receiver given_args =
     let c : World = copied_world w x in
     answered-keeps w x (with_arguments receiver given_args (prepared w x source order callee)) (evaluated (with_source p x callee) script_scope values.Undefined)
@@ -153,10 +173,12 @@ found_if : (b : Bool) (o q : Option FunctionCode) → b ≡ true → (if b then 
 found_if true o q e = refl
 found_if false o q e = cc
 
-pub own-found : (p : Program) (x : ScratchSpace) (e : Made) (node : ℕ) → function_at (with_source p x e) (kept_source (next_kept x)) node ≡ function_in node (kept_tree (next_kept x) e)
+pub own-found : (p : Program) (x : ScratchSpace) (e : Made) (node : ℕ)
+    → function_at (with_source p x e) (kept_source (next_kept x)) node ≡ function_in node (kept_tree (next_kept x) e)
 own-found p x e node =
     found_if (same_source (kept_source (next_kept x)) (kept_source (next_kept x))) (function_in node (kept_tree (next_kept x) e)) (function_at p (kept_source (next_kept x)) node)
     (eq-eqb (length x.cells) (length x.cells) refl)
 
-pub others-found : (p : Program) (x : ScratchSpace) (e : Made) (number node : ℕ) → function_at (with_source p x e) (script_source number) node ≡ function_at p (script_source number) node
+pub others-found : (p : Program) (x : ScratchSpace) (e : Made) (number node : ℕ)
+    → function_at (with_source p x e) (script_source number) node ≡ function_at p (script_source number) node
 others-found p x e number node = refl

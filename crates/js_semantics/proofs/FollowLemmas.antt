@@ -47,15 +47,21 @@ world_follows s v k = record { output = prefix-same s.printed; cells = k }
 
 -- ---- actions
 
-full_follows : (b : Bool) (what : Counted) (s : State) (v : Value) → MoveFollows s (if b then is_full what s else raised_at v s)
+full_follows : (b : Bool) (what : Counted) (s : State) (v : Value)
+    → MoveFollows s (if b then is_full what s else raised_at v s)
 full_follows true what s v = follows-same s
 full_follows false what s v = follows-same s
 
-outside_follows : (b : Bool) (s : State) (m : Move Term) → MoveFollows s m → MoveFollows s (if b then has_effect s else m)
+outside_follows : (b : Bool) (s : State) (m : Move Term)
+    → MoveFollows s m
+    → MoveFollows s (if b then has_effect s else m)
 outside_follows true s m h = follows-same s
 outside_follows false s m h = h
 
-after_follows : {A : Type 0} (s : State) (t : Tried A) (k : A → State → Move Term) → AfterFine t (λ a v. Keeps s.world v) → ((a : A) (u : State) → MoveFollows u (k a u)) → MoveFollows s (after t s k)
+after_follows : {A : Type 0} (s : State) (t : Tried A) (k : A → State → Move Term)
+    → AfterFine t (λ a v. Keeps s.world v)
+    → ((a : A) (u : State) → MoveFollows u (k a u))
+    → MoveFollows s (after t s k)
 after_follows s (fine a v) k h rest = move-trans s (with_world s v) (k a (with_world s v)) (world_follows s v h) (rest a (with_world s v))
 after_follows s effect k h rest = follows-same s
 after_follows s (full what) k h rest = full_follows (is_evaluation s.world) what s _
@@ -91,7 +97,9 @@ with_value_follows : (s : State) (v : Value) (x : Walked) → WalkFollows s x �
 with_value_follows s v (all_values vs) h = tt
 with_value_follows s v (moved m) h = move-inside (λ ts. more (done v) ts) s m h
 
-around_follows : (p : Program) (scope : Addr) (f : Form) (later : Terms) (s : State) (x : Walked) → WalkFollows s x → MoveFollows s (around p scope f later s x)
+around_follows : (p : Program) (scope : Addr) (f : Form) (later : Terms) (s : State) (x : Walked)
+    → WalkFollows s x
+    → MoveFollows s (around p scope f later s x)
 around_follows p scope f later s (all_values vs) h = perform-follows (row p s scope f vs later) s
 around_follows p scope f later s (moved (goes now t told)) h = h
 around_follows p scope f later s (moved (travels c t)) h = move-trans s t (perform (taken scope f c later) t) h (perform-follows (taken scope f c later) t)
@@ -134,16 +142,19 @@ steps-follows zero p scope r = follows-same (state_of r)
 steps-follows (suc k) p scope r = follows-trans (state_of r) (state_of (step_in p scope r)) (state_of (steps_in k p scope (step_in p scope r))) (step-follows p scope r) (steps-follows k p scope (step_in p scope r))
 
 -- a run of one step more is a step behind it
-pub steps-suc : (k : ℕ) (p : Program) (scope : Addr) (r : Run) → steps_in (suc k) p scope r ≡ step_in p scope (steps_in k p scope r)
+pub steps-suc : (k : ℕ) (p : Program) (scope : Addr) (r : Run)
+    → steps_in (suc k) p scope r ≡ step_in p scope (steps_in k p scope r)
 steps-suc zero p scope r = refl
 steps-suc (suc k) p scope r = steps-suc k p scope (step_in p scope r)
 
-pub steps-more : (j k : ℕ) (p : Program) (scope : Addr) (r : Run) → steps_in (j + k) p scope r ≡ steps_in k p scope (steps_in j p scope r)
+pub steps-more : (j k : ℕ) (p : Program) (scope : Addr) (r : Run)
+    → steps_in (j + k) p scope r ≡ steps_in k p scope (steps_in j p scope r)
 steps-more zero k p scope r = rw (zero-add k) refl
 steps-more (suc j) k p scope r = rw (suc-add j k) (steps-more j k p scope (step_in p scope r))
 
 -- a run that has ended stays as it is
-pub over-stays : (k : ℕ) (p : Program) (scope : Addr) (f : Finish) (s : State) → steps_in k p scope (over f s) ≡ over f s
+pub over-stays : (k : ℕ) (p : Program) (scope : Addr) (f : Finish) (s : State)
+    → steps_in k p scope (over f s) ≡ over f s
 over-stays zero p scope f s = refl
 over-stays (suc k) p scope f s = over-stays k p scope f s
 

@@ -65,11 +65,15 @@ written-gives : (r : Written) (k : Action) → GivesValues k → GivesValues (wi
 written-gives (a_change a c) k h = h
 written-gives (refused class message) k h = fail-gives class message
 
-key-gives : (o : Option (List ℕ)) (k : List ℕ → Action) → ((key : List ℕ) → GivesValues (k key)) → GivesValues (with_key o k)
+key-gives : (o : Option (List ℕ)) (k : List ℕ → Action)
+    → ((key : List ℕ) → GivesValues (k key))
+    → GivesValues (with_key o k)
 key-gives None k h = result-gives bad_key give give-gives
 key-gives (Some key) k h = h key
 
-pub put-gives : (w : World) (scope : Addr) (r : Reference) (vs : List Value) (x : Value) (k : Action) → GivesValues k → GivesValues (put w scope r vs x k)
+pub put-gives : (w : World) (scope : Addr) (r : Reference) (vs : List Value) (x : Value) (k : Action)
+    → GivesValues k
+    → GivesValues (put w scope r vs x k)
 put-gives w scope (to_name n) vs x k h = written-gives (name_written n (found w scope n) x) k h
 put-gives w scope (to_member key) [] x k h = tt
 put-gives w scope (to_member key) (o ∷ vs) x k h = written-gives (property_written w o key x) k h
@@ -77,7 +81,9 @@ put-gives w scope to_index [] x k h = tt
 put-gives w scope to_index (o ∷ []) x k h = tt
 put-gives w scope to_index (o ∷ i ∷ vs) x k h = key-gives (key_of w i) (λ key. with_written (property_written w o key x) k) (λ key. written-gives (property_written w o key x) k h)
 
-pub remove-gives : (w : World) (r : Reference) (vs : List Value) (k : Action) → GivesValues k → GivesValues (remove w r vs k)
+pub remove-gives : (w : World) (r : Reference) (vs : List Value) (k : Action)
+    → GivesValues k
+    → GivesValues (remove w r vs k)
 remove-gives w (to_name n) vs k h = tt
 remove-gives w (to_member key) [] k h = tt
 remove-gives w (to_member key) (o ∷ vs) k h = written-gives (property_deleted w o key) k h
@@ -111,7 +117,9 @@ string-gives w (values.Bool b) = text_or_fail-gives (text_of w (values.Bool b))
 string-gives w (values.Number z) = text_or_fail-gives (text_of w (values.Number z))
 string-gives w (values.Object a) = text_or_fail-gives (text_of w (values.Object a))
 
-texts-gives : (ts : List (List ℕ)) (k : List Value → Action) → ((xs : List Value) → GivesValues (k xs)) → GivesValues (make_texts ts k)
+texts-gives : (ts : List (List ℕ)) (k : List Value → Action)
+    → ((xs : List Value) → GivesValues (k xs))
+    → GivesValues (make_texts ts k)
 texts-gives [] k h = h []
 texts-gives (t ∷ ts) k h = text-gives t (λ x. make_texts ts (λ xs. k (x ∷ xs))) (λ x. texts-gives ts (λ xs. k (x ∷ xs)) (λ xs. h (x ∷ xs)))
 
@@ -169,7 +177,8 @@ array_call-gives w built_ins.ArrayJoin a vs args = join-gives w vs (argument arg
 array_call-gives w built_ins.ArraySlice a vs args = array_or_wrong-gives (slice_places vs args)
 array_call-gives w _ a vs args = wrong-gives
 
-on_cell-gives : (w : World) (f : BuiltIn) (a : Addr) (o : Option Cell) (args : List Value) → GivesValues (on_array_cell w f a o args)
+on_cell-gives : (w : World) (f : BuiltIn) (a : Addr) (o : Option Cell) (args : List Value)
+    → GivesValues (on_array_cell w f a o args)
 on_cell-gives w f a None args = wrong-gives
 on_cell-gives w f a (Some (cells.Array vs)) args = array_call-gives w f a vs args
 on_cell-gives w f a (Some (cells.Object ps)) args = wrong-gives
@@ -218,12 +227,15 @@ pub type_of-gives : (w : World) (n : List ℕ) (o : Option Found) → GivesValue
 type_of-gives w n None = λ a. tt
 type_of-gives w n (Some f) = result-gives (value_of_found n (Some f)) (λ v. make_text (type_text w v) give) (λ v a. tt)
 
-updated_by-gives : (o : UpdateOperator) (r : Result) (k : Value → Value → Action) → ((x y : Value) → GivesValues (k x y)) → GivesValues (updated_by o r k)
+updated_by-gives : (o : UpdateOperator) (r : Result) (k : Value → Value → Action)
+    → ((x y : Value) → GivesValues (k x y))
+    → GivesValues (updated_by o r k)
 updated_by-gives o (a_value x) k h = result-gives (update_result o x) (k x) (h x)
 updated_by-gives o (a_text us) k h = result-gives not_numbers give give-gives
 updated_by-gives o (an_error class message) k h = fail-gives class message
 
-pub update_row-gives : (w : World) (scope : Addr) (o : UpdateOperator) (prefix : Bool) (r : Reference) (vs : List Value) → GivesValues (update_row w scope o prefix r vs)
+pub update_row-gives : (w : World) (scope : Addr) (o : UpdateOperator) (prefix : Bool) (r : Reference) (vs : List Value)
+    → GivesValues (update_row w scope o prefix r vs)
 update_row-gives w scope o prefix r vs =
     updated_by-gives o (read_result w scope r vs) (λ old new. put w scope r vs new (give (update_value prefix old new))) (λ x y. put-gives w scope r vs y (give (update_value prefix x y)) tt)
 

@@ -33,13 +33,16 @@ total-append : (m : List ℕ → ℕ) (ts us : List (List ℕ)) → total m (ts 
 total-append m [] us = omega arith
 total-append m (t ∷ ts) us = omega (arith, total-append m ts us)
 
-total-three : (m : List ℕ → ℕ) (ts us vs : List (List ℕ)) → total m (ts ++ us ++ vs) ≡ total m ts + total m us + total m vs
+total-three : (m : List ℕ → ℕ) (ts us vs : List (List ℕ))
+    → total m (ts ++ us ++ vs) ≡ total m ts + total m us + total m vs
 total-three m ts us vs = omega (arith, total-append m (ts ++ us) vs, total-append m ts us)
 
-total-four : (m : List ℕ → ℕ) (ts us vs ws : List (List ℕ)) → total m (ts ++ us ++ vs ++ ws) ≡ total m ts + total m us + total m vs + total m ws
+total-four : (m : List ℕ → ℕ) (ts us vs ws : List (List ℕ))
+    → total m (ts ++ us ++ vs ++ ws) ≡ total m ts + total m us + total m vs + total m ws
 total-four m ts us vs ws = omega (arith, total-append m (ts ++ us ++ vs) ws, total-three m ts us vs)
 
-total-if : (m : List ℕ → ℕ) (b : Bool) (ts : List (List ℕ)) → total m (if b then ts else []) ≡ (if b then total m ts else 0)
+total-if : (m : List ℕ → ℕ) (b : Bool) (ts : List (List ℕ))
+    → total m (if b then ts else []) ≡ (if b then total m ts else 0)
 total-if m true ts = refl
 total-if m false ts = refl
 
@@ -57,7 +60,10 @@ abbrev mutual
 plus_zero : (n : ℕ) → n + 0 ≡ n
 plus_zero n = omega arith
 
-both-total : (m : List ℕ → ℕ) (ts us : List (List ℕ)) (n k : ℕ) → total m ts ≡ n → total m us ≡ k → total m (ts ++ us) ≡ n + k
+both-total : (m : List ℕ → ℕ) (ts us : List (List ℕ)) (n k : ℕ)
+    → total m ts ≡ n
+    → total m us ≡ k
+    → total m (ts ++ us) ≡ n + k
 both-total m ts us n k h i = omega (arith, total-append m ts us, h, i)
 
 mutual
@@ -105,13 +111,19 @@ record Becomes (m : List ℕ → ℕ) (t : Term) (n : ℕ) : Type 0 where
   amounts_to : amount m t ≡ n
   no_read : is_read t ≡ false
 
-counts-value : (m : List ℕ → ℕ) (t : Term) (n : ℕ) (x : Expression) → Becomes m t n → n ≡ total m (expression_literals x) → false ≡ is_target x → Counts m t x
+counts-value : (m : List ℕ → ℕ) (t : Term) (n : ℕ) (x : Expression)
+    → Becomes m t n
+    → n ≡ total m (expression_literals x)
+    → false ≡ is_target x
+    → Counts m t x
 counts-value m t n x b e f = record { counted = b.amounts_to ∙ e; reads = b.no_read ∙ f; bare = bare_unless_read t b.no_read }
 
 abbrev chosen : Bool → ℕ → ℕ
 chosen b n = if b then n else 0
 
-assigned-becomes : (m : List ℕ → ℕ) (t e : Term) → IsBare t → Becomes m (assigned_to t e) (amount m t + chosen (is_read t) (amount m e))
+assigned-becomes : (m : List ℕ → ℕ) (t e : Term)
+    → IsBare t
+    → Becomes m (assigned_to t e) (amount m t + chosen (is_read t) (amount m e))
 assigned-becomes m (done v) e h = record { amounts_to = refl; no_read = refl }
 assigned-becomes m (standing v s) e h = record { amounts_to = refl; no_read = refl }
 assigned-becomes m (part (read (to_name n)) now later) e h = record { amounts_to = omega (arith, amounts-joined m now (one e), ap (amounts m) h.1); no_read = refl }
@@ -119,7 +131,9 @@ assigned-becomes m (part (read r) now later) e h = record { amounts_to = omega (
 assigned-becomes m (part (literal us) now later) e h = record { amounts_to = sym (plus_zero (m us)); no_read = refl }
 assigned-becomes m (part f now later) e h = record { amounts_to = sym (plus_zero (amounts m now + amounts m later)); no_read = refl }
 
-compounded-becomes : (m : List ℕ → ℕ) (o : BinaryOperator) (t e : Term) → IsBare t → Becomes m (compounded o t e) (amount m t + chosen (is_read t) (amount m e))
+compounded-becomes : (m : List ℕ → ℕ) (o : BinaryOperator) (t e : Term)
+    → IsBare t
+    → Becomes m (compounded o t e) (amount m t + chosen (is_read t) (amount m e))
 compounded-becomes m o (done v) e h = record { amounts_to = refl; no_read = refl }
 compounded-becomes m o (standing v s) e h = record { amounts_to = refl; no_read = refl }
 compounded-becomes m o (part (read (to_name n)) now later) e h = record { amounts_to = omega (arith, ap (amounts m) h.1); no_read = refl }
@@ -127,11 +141,15 @@ compounded-becomes m o (part (read r) now later) e h = record { amounts_to = ome
 compounded-becomes m o (part (literal us) now later) e h = record { amounts_to = sym (plus_zero (m us)); no_read = refl }
 compounded-becomes m o (part f now later) e h = record { amounts_to = sym (plus_zero (amounts m now + amounts m later)); no_read = refl }
 
-assignment-becomes : (m : List ℕ → ℕ) (o : Option BinaryOperator) (t e : Term) → IsBare t → Becomes m (assignment o t e) (amount m t + chosen (is_read t) (amount m e))
+assignment-becomes : (m : List ℕ → ℕ) (o : Option BinaryOperator) (t e : Term)
+    → IsBare t
+    → Becomes m (assignment o t e) (amount m t + chosen (is_read t) (amount m e))
 assignment-becomes m None t e h = assigned-becomes m t e h
 assignment-becomes m (Some o) t e h = compounded-becomes m o t e h
 
-updated-becomes : (m : List ℕ → ℕ) (o : UpdateOperator) (b : Bool) (t : Term) → IsBare t → Becomes m (updated o b t) (amount m t)
+updated-becomes : (m : List ℕ → ℕ) (o : UpdateOperator) (b : Bool) (t : Term)
+    → IsBare t
+    → Becomes m (updated o b t) (amount m t)
 updated-becomes m o b (done v) h = record { amounts_to = refl; no_read = refl }
 updated-becomes m o b (standing v s) h = record { amounts_to = refl; no_read = refl }
 updated-becomes m o b (part (read (to_name n)) now later) h = record { amounts_to = ap (λ ts. amounts m now + amounts m ts) (sym h.1); no_read = refl }
@@ -165,7 +183,8 @@ unary-becomes m unaries.Minus t h = record { amounts_to = alone (amount m t); no
 unary-becomes m unaries.BitwiseNot t h = record { amounts_to = alone (amount m t); no_read = refl }
 unary-becomes m unaries.LogicalNot t h = record { amounts_to = alone (amount m t); no_read = refl }
 
-binary-becomes : (m : List ℕ → ℕ) (o : BinaryOperator) (l r : Term) → Becomes m (binary_term o l r) (amount m l + amount m r)
+binary-becomes : (m : List ℕ → ℕ) (o : BinaryOperator) (l r : Term)
+    → Becomes m (binary_term o l r) (amount m l + amount m r)
 binary-becomes m binaries.LogicalAnd l r = record { amounts_to = omega arith; no_read = refl }
 binary-becomes m binaries.LogicalOr l r = record { amounts_to = omega arith; no_read = refl }
 binary-becomes m o l r = record { amounts_to = omega arith; no_read = refl }
@@ -178,7 +197,9 @@ comma-becomes m (more t ts) = record { amounts_to = omega arith; no_read = refl 
 called : (n k : ℕ) → 0 + (n + k) + 0 ≡ n + k
 called n k = omega arith
 
-call-becomes : (m : List ℕ → ℕ) (place : Mark) (node : ℕ) (t : Term) (args : Terms) → IsBare t → Becomes m (call_term place node t args) (amount m t + amounts m args)
+call-becomes : (m : List ℕ → ℕ) (place : Mark) (node : ℕ) (t : Term) (args : Terms)
+    → IsBare t
+    → Becomes m (call_term place node t args) (amount m t + amounts m args)
 call-becomes m place node (done v) args h = record { amounts_to = called 0 (amounts m args); no_read = refl }
 call-becomes m place node (standing v s) args h = record { amounts_to = called 0 (amounts m args); no_read = refl }
 call-becomes m place node (part (read (to_name n)) now later) args h = record { amounts_to = omega (arith, ap (amounts m) h.1); no_read = refl }
@@ -226,43 +247,59 @@ counting m = record {
   statements = λ is xs. (c : Context) → items_amount m is c ≡ total m (statements_literals xs);
 }
 
-function-amount : (m : List ℕ → ℕ) (node : ℕ) (n : Option (List ℕ)) (ps : List (List ℕ)) (body : Items) (c : Context) → Becomes m (function_term node n ps body c) (items_amount m body (within 0 c))
+function-amount : (m : List ℕ → ℕ) (node : ℕ) (n : Option (List ℕ)) (ps : List (List ℕ)) (body : Items) (c : Context)
+    → Becomes m (function_term node n ps body c) (items_amount m body (within 0 c))
 function-amount m node (Some n) ps body c = record { amounts_to = omega arith; no_read = refl }
 function-amount m node None ps body c = record { amounts_to = omega arith; no_read = refl }
 
-initializer-amount : (m : List ℕ → ℕ) (n : List ℕ) (e : Option Made) (c : Context) → amounts m (initializer_terms n e c) ≡ made_amount m e (naming n c)
+initializer-amount : (m : List ℕ → ℕ) (n : List ℕ) (e : Option Made) (c : Context)
+    → amounts m (initializer_terms n e c) ≡ made_amount m e (naming n c)
 initializer-amount m n None c = refl
 initializer-amount m n (Some e) c = plus_zero (amount m (e.term (naming n c)))
 
-optional-amount : (m : List ℕ → ℕ) (e : Option Made) (c : Context) (v : Value) → amount m (optional_term e c (done v)) ≡ made_amount m e (unnamed c)
+optional-amount : (m : List ℕ → ℕ) (e : Option Made) (c : Context) (v : Value)
+    → amount m (optional_term e c (done v)) ≡ made_amount m e (unnamed c)
 optional-amount m None c v = refl
 optional-amount m (Some e) c v = refl
 
-optional-amounts : (m : List ℕ → ℕ) (e : Option Made) (c : Context) → amounts m (optional_terms e c) ≡ made_amount m e (unnamed c)
+optional-amounts : (m : List ℕ → ℕ) (e : Option Made) (c : Context)
+    → amounts m (optional_terms e c) ≡ made_amount m e (unnamed c)
 optional-amounts m None c = refl
 optional-amounts m (Some e) c = plus_zero (amount m (e.term (unnamed c)))
 
-caught-amount : (m : List ℕ → ℕ) (h : Option CatchMade) (t : Term) (c : Context) → amount m (caught h t c) ≡ amount m t + handler_amount m h c
+caught-amount : (m : List ℕ → ℕ) (h : Option CatchMade) (t : Term) (c : Context)
+    → amount m (caught h t c) ≡ amount m t + handler_amount m h c
 caught-amount m None t c = omega arith
 caught-amount m (Some h) t c = omega arith
 
-finally-amount : (m : List ℕ → ℕ) (f : Option Items) (t : Term) (c : Context) → amount m (finally_term f t c) ≡ amount m t + finalizer_amount m f c
+finally-amount : (m : List ℕ → ℕ) (f : Option Items) (t : Term) (c : Context)
+    → amount m (finally_term f t c) ≡ amount m t + finalizer_amount m f c
 finally-amount m None t c = omega arith
 finally-amount m (Some f) t c = omega arith
 
-try-amount : (m : List ℕ → ℕ) (b : Items) (h : Option CatchMade) (f : Option Items) (c : Context) → amount m (finally_term f (caught h (block_term b c) c) c) ≡ items_amount m b c + handler_amount m h c + finalizer_amount m f c
+try-amount : (m : List ℕ → ℕ) (b : Items) (h : Option CatchMade) (f : Option Items) (c : Context)
+    → amount m (finally_term f (caught h (block_term b c) c) c) ≡ items_amount m b c + handler_amount m h c + finalizer_amount m f c
 try-amount m b h f c = omega (arith, finally-amount m f (caught h (block_term b c) c) c, caught-amount m h (block_term b c) c)
 
 -- the parts before a key, and the key with its value or method
-value-amount : (m : List ℕ → ℕ) (k : PropertyKey) (e : Made) (x : trees.Key) (y : Expression) → (counting m).key k x → (counting m).expression e y → (counting m).property (value_property k e) (trees.value x y)
+value-amount : (m : List ℕ → ℕ) (k : PropertyKey) (e : Made) (x : trees.Key) (y : Expression)
+    → (counting m).key k x
+    → (counting m).expression e y
+    → (counting m).property (value_property k e) (trees.value x y)
 value-amount m (fixed_key k) e x y h i c p = let j = i (naming k c) in omega (arith, h c, j.counted, total-append m (key_literals x) (expression_literals y))
 value-amount m (computed_key k) e x y h i c p = let j = i (unnamed c) in omega (arith, h (unnamed c), j.counted, total-append m (key_literals x) (expression_literals y))
 
-method-amount : (m : List ℕ → ℕ) (node : ℕ) (k : PropertyKey) (ps : List (List ℕ)) (body : Items) (x : trees.Key) (xs : Statements) → (counting m).key k x → (counting m).statements body xs → (counting m).property (method_property node k ps body) (trees.method x ps xs)
+method-amount : (m : List ℕ → ℕ) (node : ℕ) (k : PropertyKey) (ps : List (List ℕ)) (body : Items) (x : trees.Key) (xs : Statements)
+    → (counting m).key k x
+    → (counting m).statements body xs
+    → (counting m).property (method_property node k ps body) (trees.method x ps xs)
 method-amount m node (fixed_key k) ps body x xs h i c p = omega (arith, h c, i (within 0 c), total-append m (key_literals x) (statements_literals xs))
 method-amount m node (computed_key k) ps body x xs h i c p = omega (arith, h (unnamed c), i (within 0 c), total-append m (key_literals x) (statements_literals xs))
 
-assign-counts : (m : List ℕ → ℕ) (o : Option BinaryOperator) (p : _) (t e : Term) (x y : Expression) → Counts m t x → Counts m e y → Counts m (assignment o t e) (trees.assign p x y)
+assign-counts : (m : List ℕ → ℕ) (o : Option BinaryOperator) (p : _) (t e : Term) (x y : Expression)
+    → Counts m t x
+    → Counts m e y
+    → Counts m (assignment o t e) (trees.assign p x y)
 assign-counts m o p t e x y h i =
     let r : chosen (is_read t) (amount m e) ≡ total m (if is_target x then expression_literals y else []) = ap (λ b. chosen b (amount m e)) h.reads ∙ ap (λ n. chosen (is_target x) n) i.counted ∙ sym (total-if m (is_target x) (expression_literals y)) in
     counts-value m (assignment o t e) (amount m t + chosen (is_read t) (amount m e)) (trees.assign p x y) (assignment-becomes m o t e h.bare)
@@ -271,7 +308,11 @@ assign-counts m o p t e x y h i =
 -- ---- trees
 
 -- a form that is no reference
-form-counts : (m : List ℕ → ℕ) (t : Term) (x : Expression) → amount m t ≡ total m (expression_literals x) → is_read t ≡ false → false ≡ is_target x → Counts m t x
+form-counts : (m : List ℕ → ℕ) (t : Term) (x : Expression)
+    → amount m t ≡ total m (expression_literals x)
+    → is_read t ≡ false
+    → false ≡ is_target x
+    → Counts m t x
 form-counts m t x e r f = record { counted = e; reads = r ∙ f; bare = bare_unless_read t r }
 
 keeps-counting : (m : List ℕ → ℕ) → Keeps (counting m)
@@ -340,5 +381,6 @@ keeps-counting m = record {
   of_a_statement = λ i is x xs h k c. omega (arith, amounts-joined m (i.functions c) (is.functions c), h.0 c, h.1 c, k c, total-three m (declared_literals x) (statement_literals x) (statements_literals xs));
 }
 
-pub expression-counted : (m : List ℕ → ℕ) (e : Expr) (c : Context) → total m (literals ((expression_source e).term c)) ≡ total m (expression_literals (expression_view e))
+pub expression-counted : (m : List ℕ → ℕ) (e : Expr) (c : Context)
+    → total m (literals ((expression_source e).term c)) ≡ total m (expression_literals (expression_view e))
 expression-counted m e c = let j = expression-related (counting m) (keeps-counting m) e c in amount-total m ((expression_source e).term c) ∙ j.counted

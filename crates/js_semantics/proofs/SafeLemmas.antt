@@ -43,7 +43,9 @@ unsigned-low : (z : ℤ) → to_unsigned z < 2 ^ 32
 unsigned-low (pos n) = mod-lt n (omega arith)
 unsigned-low (negsuc n) = omega arith
 
-signed_if : (b : Bool) (n : ℕ) → nat_lt n (2 ^ 31) ≡ b → nat_abs (if b then pos n else negsuc ((2 ^ 32 - 1) - n)) ≤ 2 ^ 32
+signed_if : (b : Bool) (n : ℕ)
+    → nat_lt n (2 ^ 31) ≡ b
+    → nat_abs (if b then pos n else negsuc ((2 ^ 32 - 1) - n)) ≤ 2 ^ 32
 signed_if true n e = omega (arith, ltb-true n (2 ^ 31) e)
 signed_if false n e = omega arith
 

@@ -29,28 +29,47 @@ either-shaped : (b : Bool) (t u : Term) → IsShaped t → IsShaped u → IsShap
 either-shaped true t u h k = h
 either-shaped false t u h k = k
 
-pub at_test-shaped : (scope : Option Addr) (later : Terms) → 3 ≤ size later → AreShaped later → IsShaped (at_test scope later)
+pub at_test-shaped : (scope : Option Addr) (later : Terms)
+    → 3 ≤ size later
+    → AreShaped later
+    → IsShaped (at_test scope later)
 at_test-shaped scope later n k = (record { reduced = omega arith; kept = n; others = tt }, (test-shaped later k, tt), k)
 
-pub at_update-shaped : (scope : Option Addr) (later : Terms) → 3 ≤ size later → AreShaped later → IsShaped (at_update scope later)
+pub at_update-shaped : (scope : Option Addr) (later : Terms)
+    → 3 ≤ size later
+    → AreShaped later
+    → IsShaped (at_update scope later)
 at_update-shaped scope later n k =
     either-shaped (is_done (update_of later)) (at_test scope later) (part (loop updating scope) (one (update_of later)) later) (at_test-shaped scope later n k)
     (record { reduced = omega arith; kept = n; others = tt }, (update-shaped later k, tt), k)
 
-behind_body-shaped : (scope : Option Addr) (later : Terms) → 3 ≤ size later → AreShaped later → IsShaped (behind_body scope later)
+behind_body-shaped : (scope : Option Addr) (later : Terms)
+    → 3 ≤ size later
+    → AreShaped later
+    → IsShaped (behind_body scope later)
 behind_body-shaped None later n k = at_update-shaped None later n k
 behind_body-shaped (Some a) later n k = (record { reduced = omega arith; kept = n; others = tt }, tt, k)
 
-pub at_body-shaped : (scope : Option Addr) (later : Terms) → 3 ≤ size later → AreShaped later → IsShaped (at_body scope later)
+pub at_body-shaped : (scope : Option Addr) (later : Terms)
+    → 3 ≤ size later
+    → AreShaped later
+    → IsShaped (at_body scope later)
 at_body-shaped scope later n k =
     either-shaped (is_done (body_of_loop later)) (behind_body scope later) (part (loop body scope) (one (body_of_loop later)) later) (behind_body-shaped scope later n k)
     (record { reduced = omega arith; kept = n; others = tt }, (body-shaped later k, tt), k)
 
-behind_first-shaped : (scope : Option Addr) (later : Terms) → 3 ≤ size later → AreShaped later → IsShaped (behind_first scope later)
+behind_first-shaped : (scope : Option Addr) (later : Terms)
+    → 3 ≤ size later
+    → AreShaped later
+    → IsShaped (behind_first scope later)
 behind_first-shaped None later n k = at_test-shaped None later n k
 behind_first-shaped (Some a) later n k = (record { reduced = omega arith; kept = n; others = tt }, tt, k)
 
-finished-shaped : (f : Form) (now later : Terms) → Shape f (size now) later → AreShaped now → AreShaped later → IsShaped (finished f now later)
+finished-shaped : (f : Form) (now later : Terms)
+    → Shape f (size now) later
+    → AreShaped now
+    → AreShaped later
+    → IsShaped (finished f now later)
 finished-shaped scripts now later h n k = tt
 finished-shaped sequence now later h n k = tt
 finished-shaped (scoped a) now later h n k = tt
@@ -66,7 +85,11 @@ finished-shaped (ending None) now later h n k = tt
 finished-shaped (ending (Some c)) now later h n k = (h, n, k)
 finished-shaped f now later h n k = (h, n, k)
 
-pub settled-shaped : (f : Form) (now later : Terms) → Shape f (size now) later → AreShaped now → AreShaped later → IsShaped (settled f now later)
+pub settled-shaped : (f : Form) (now later : Terms)
+    → Shape f (size now) later
+    → AreShaped now
+    → AreShaped later
+    → IsShaped (settled f now later)
 settled-shaped f now later h n k = either-shaped (all_done now) (finished f now later) (part f now later) (finished-shaped f now later h n k) (h, n, k)
 
 pub settle-shaped : (t : Term) → IsShaped t → IsShaped (settle t)
@@ -95,7 +118,8 @@ size-dones (v ∷ vs) = ap (λ n. suc n) (size-dones vs)
 
 -- ---- actions
 
-full_shaped : (b : Bool) (what : Counted) (s : State) (v : Value) → ShapedMove (if b then is_full what s else raised_at v s)
+full_shaped : (b : Bool) (what : Counted) (s : State) (v : Value)
+    → ShapedMove (if b then is_full what s else raised_at v s)
 full_shaped true what s v = tt
 full_shaped false what s v = tt
 
@@ -103,7 +127,9 @@ outside_shaped : (b : Bool) (s : State) (m : Move Term) → ShapedMove m → Sha
 outside_shaped true s m h = tt
 outside_shaped false s m h = h
 
-after_shaped : {A : Type 0} (s : State) (t : Tried A) (k : A → State → Move Term) → ((a : A) (u : State) → ShapedMove (k a u)) → ShapedMove (after t s k)
+after_shaped : {A : Type 0} (s : State) (t : Tried A) (k : A → State → Move Term)
+    → ((a : A) (u : State) → ShapedMove (k a u))
+    → ShapedMove (after t s k)
 after_shaped s (fine a v) k h = h a (with_world s v)
 after_shaped s effect k h = tt
 after_shaped s (full what) k h = full_shaped (is_evaluation s.world) what s _

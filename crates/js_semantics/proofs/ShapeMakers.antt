@@ -89,7 +89,10 @@ comma-shaped : (ts : Terms) → AreShaped ts → IsShaped (comma_term ts)
 comma-shaped end h = tt
 comma-shaped (more t ts) h = (record { reduced = omega arith; kept = omega arith; others = tt }, (h.0, tt), h.1)
 
-call-shaped : (m : Mark) (node : ℕ) (t : Term) (args : Terms) → IsShaped t → AreShaped args → IsShaped (call_term m node t args)
+call-shaped : (m : Mark) (node : ℕ) (t : Term) (args : Terms)
+    → IsShaped t
+    → AreShaped args
+    → IsShaped (call_term m node t args)
 call-shaped m node (done v) args h k = (record { reduced = omega arith; kept = omega arith; others = tt }, (tt, (h, k)), tt)
 call-shaped m node (standing v place) args h k = (record { reduced = omega arith; kept = omega arith; others = tt }, (tt, (h, k)), tt)
 call-shaped m node (part (read r) now later) args h k = let s = h.0 in (record { reduced = s.reduced; kept = omega arith; others = tt }, h.1, k)
@@ -100,7 +103,9 @@ call-shaped m node (part f now later) args h k = (record { reduced = omega arith
 body-shaped : (b : Items) (c : Context) → ItemsShaped b → AreShaped (body_terms b c)
 body-shaped b c h = ((record { reduced = omega arith; kept = omega arith; others = tt }, h.terms_shaped (within 0 c), tt), h.functions_shaped (within 0 c))
 
-function-shaped : (node : ℕ) (n : Option (List ℕ)) (ps : List (List ℕ)) (b : Items) (c : Context) → ItemsShaped b → IsShaped (function_term node n ps b c)
+function-shaped : (node : ℕ) (n : Option (List ℕ)) (ps : List (List ℕ)) (b : Items) (c : Context)
+    → ItemsShaped b
+    → IsShaped (function_term node n ps b c)
 function-shaped node (Some n) ps b c h = (record { reduced = omega arith; kept = omega arith; others = h.functions_only (within 0 c) }, tt, body-shaped b c h)
 function-shaped node None ps b c h = (record { reduced = omega arith; kept = omega arith; others = h.functions_only (within 0 c) }, tt, body-shaped b c h)
 
@@ -111,7 +116,9 @@ returned-shaped e h = record {
   terms_shaped = λ c. ((record { reduced = omega arith; kept = omega arith; others = tt }, tt, ((record { reduced = omega arith; kept = omega arith; others = tt }, (h (within e.node c), tt), tt), tt)), tt);
 }
 
-arrow-shaped : (node : ℕ) (n : List ℕ) (ps : List (List ℕ)) (b : Items) (c : Context) → ItemsShaped b → IsShaped (part (function (form_of node c.source n ps b.names true false)) end (body_terms b c))
+arrow-shaped : (node : ℕ) (n : List ℕ) (ps : List (List ℕ)) (b : Items) (c : Context)
+    → ItemsShaped b
+    → IsShaped (part (function (form_of node c.source n ps b.names true false)) end (body_terms b c))
 arrow-shaped node n ps b c h = (record { reduced = omega arith; kept = omega arith; others = h.functions_only (within 0 c) }, tt, body-shaped b c h)
 
 -- ---- statements
@@ -144,18 +151,26 @@ abbrev pub DeclaratorsShaped : List DeclaratorMade → Type 0
 DeclaratorsShaped [] = Unit {0}
 DeclaratorsShaped (d ∷ ds) = OptionalShaped d.initializer × DeclaratorsShaped ds
 
-entered-shaped : (node : ℕ) (term : Context → Term) → ((c : Context) → IsShaped (term c)) → ItemShaped (untouched node term)
+entered-shaped : (node : ℕ) (term : Context → Term)
+    → ((c : Context) → IsShaped (term c))
+    → ItemShaped (untouched node term)
 entered-shaped node term h = record { functions_only = λ c. tt; functions_shaped = λ c. tt; term_shaped = λ c. (record { reduced = omega arith; kept = omega arith; others = tt }, tt, (h (within node c), tt)) }
 
-initializer-shaped : (n : List ℕ) (e : Option Made) (c : Context) → OptionalShaped e → AreShaped (initializer_terms n e c)
+initializer-shaped : (n : List ℕ) (e : Option Made) (c : Context)
+    → OptionalShaped e
+    → AreShaped (initializer_terms n e c)
 initializer-shaped n None c h = tt
 initializer-shaped n (Some e) c h = (h (naming n c), tt)
 
-declarators-shaped : (ds : List DeclaratorMade) (c : Context) → DeclaratorsShaped ds → AreShaped (declarators_terms ds c)
+declarators-shaped : (ds : List DeclaratorMade) (c : Context)
+    → DeclaratorsShaped ds
+    → AreShaped (declarators_terms ds c)
 declarators-shaped [] c h = tt
 declarators-shaped (d ∷ ds) c h = ((record { reduced = omega arith; kept = omega arith; others = tt }, initializer-shaped d.name d.initializer c h.0, tt), declarators-shaped ds c h.1)
 
-lexical-shaped : (node : ℕ) (constant : Bool) (ds : List DeclaratorMade) → DeclaratorsShaped ds → ItemShaped (lexical_item node constant ds)
+lexical-shaped : (node : ℕ) (constant : Bool) (ds : List DeclaratorMade)
+    → DeclaratorsShaped ds
+    → ItemShaped (lexical_item node constant ds)
 lexical-shaped node constant ds h = record {
   functions_only = λ c. tt;
   functions_shaped = λ c. tt;
@@ -166,14 +181,25 @@ optional_terms-shaped : (e : Option Made) (c : Context) → OptionalShaped e →
 optional_terms-shaped None c h = tt
 optional_terms-shaped (Some e) c h = (h (unnamed c), tt)
 
-optional-shaped : (e : Option Made) (c : Context) (t : Term) → OptionalShaped e → IsShaped t → IsShaped (optional_term e c t)
+optional-shaped : (e : Option Made) (c : Context) (t : Term)
+    → OptionalShaped e
+    → IsShaped t
+    → IsShaped (optional_term e c t)
 optional-shaped None c t h k = k
 optional-shaped (Some e) c t h k = h (unnamed c)
 
-parts-shaped : (t u : Option Made) (s : Item) (c : Context) → OptionalShaped t → OptionalShaped u → ItemShaped s → AreShaped (for_parts t u s c)
+parts-shaped : (t u : Option Made) (s : Item) (c : Context)
+    → OptionalShaped t
+    → OptionalShaped u
+    → ItemShaped s
+    → AreShaped (for_parts t u s c)
 parts-shaped t u s c h k i = (optional-shaped t c (done (values.Bool true)) h tt, (optional-shaped u c (done values.Undefined) k tt, (i.term_shaped c, tt)))
 
-if-shaped : (node : ℕ) (e : Made) (s t : Item) → MadeShaped e → ItemShaped s → ItemShaped t → ItemShaped (if_item node e s (Some t))
+if-shaped : (node : ℕ) (e : Made) (s t : Item)
+    → MadeShaped e
+    → ItemShaped s
+    → ItemShaped t
+    → ItemShaped (if_item node e s (Some t))
 if-shaped node e s t h k i = entered-shaped node (λ c. part choose (one (plain e c)) (more (s.term c) (one (t.term c)))) (λ c. (record { reduced = omega arith; kept = omega arith; others = tt }, (h (unnamed c), tt), (k.term_shaped c, (i.term_shaped c, tt))))
 
 if_then-shaped : (node : ℕ) (e : Made) (s : Item) → MadeShaped e → ItemShaped s → ItemShaped (if_item node e s None)
@@ -185,17 +211,30 @@ while-shaped node e s h k = entered-shaped node (λ c. part (loop first None) en
 do_while-shaped : (node : ℕ) (s : Item) (e : Made) → ItemShaped s → MadeShaped e → ItemShaped (do_while_item node s e)
 do_while-shaped node s e k h = entered-shaped node (λ c. part (loop doing None) end (more (plain e c) (more (done values.Undefined) (one (s.term c))))) (λ c. (record { reduced = omega arith; kept = omega arith; others = tt }, tt, (h (unnamed c), (tt, (k.term_shaped c, tt)))))
 
-for-shaped : (node : ℕ) (i t u : Option Made) (s : Item) → OptionalShaped i → OptionalShaped t → OptionalShaped u → ItemShaped s → ItemShaped (for_item node i t u s)
+for-shaped : (node : ℕ) (i t u : Option Made) (s : Item)
+    → OptionalShaped i
+    → OptionalShaped t
+    → OptionalShaped u
+    → ItemShaped s
+    → ItemShaped (for_item node i t u s)
 for-shaped node i t u s a b d k = entered-shaped node (λ c. part (loop first None) (optional_terms i c) (for_parts t u s c)) (λ c. (record { reduced = omega arith; kept = omega arith; others = tt }, optional_terms-shaped i c a, parts-shaped t u s c b d k))
 
-for_lexical-shaped : (node : ℕ) (constant : Bool) (ds : List DeclaratorMade) (t u : Option Made) (s : Item) → DeclaratorsShaped ds → OptionalShaped t → OptionalShaped u → ItemShaped s → ItemShaped (for_lexical_item node constant ds t u s)
+for_lexical-shaped : (node : ℕ) (constant : Bool) (ds : List DeclaratorMade) (t u : Option Made) (s : Item)
+    → DeclaratorsShaped ds
+    → OptionalShaped t
+    → OptionalShaped u
+    → ItemShaped s
+    → ItemShaped (for_lexical_item node constant ds t u s)
 for_lexical-shaped node constant ds t u s h a b k = record {
   functions_only = λ c. tt;
   functions_shaped = λ c. tt;
   term_shaped = λ c. (record { reduced = omega arith; kept = omega arith; others = tt }, tt, ((record { reduced = omega arith; kept = omega arith; others = tt }, declarators-shaped ds (within node c) h, tt), parts-shaped t u s (within node c) a b k));
 }
 
-for_of-shaped : (node : ℕ) (constant : Bool) (n : List ℕ) (e : Made) (s : Item) → MadeShaped e → ItemShaped s → ItemShaped (for_of_item node constant n e s)
+for_of-shaped : (node : ℕ) (constant : Bool) (n : List ℕ) (e : Made) (s : Item)
+    → MadeShaped e
+    → ItemShaped s
+    → ItemShaped (for_of_item node constant n e s)
 for_of-shaped node constant n e s h k = record {
   functions_only = λ c. tt;
   functions_shaped = λ c. tt;
@@ -217,14 +256,23 @@ caught-shaped : (h : Option CatchMade) (t : Term) (c : Context) → HandlerShape
 caught-shaped None t c k i = i
 caught-shaped (Some h) t c k i = (record { reduced = omega arith; kept = omega arith; others = tt }, (i, tt), (block-shaped h.body c k, tt))
 
-finally-shaped : (f : Option Items) (t : Term) (c : Context) → FinalizerShaped f → IsShaped t → IsShaped (finally_term f t c)
+finally-shaped : (f : Option Items) (t : Term) (c : Context)
+    → FinalizerShaped f
+    → IsShaped t
+    → IsShaped (finally_term f t c)
 finally-shaped None t c k i = i
 finally-shaped (Some f) t c k i = (record { reduced = omega arith; kept = omega arith; others = tt }, (i, tt), (block-shaped f c k, tt))
 
-try-shaped : (node : ℕ) (b : Items) (h : Option CatchMade) (f : Option Items) → ItemsShaped b → HandlerShaped h → FinalizerShaped f → ItemShaped (try_item node b h f)
+try-shaped : (node : ℕ) (b : Items) (h : Option CatchMade) (f : Option Items)
+    → ItemsShaped b
+    → HandlerShaped h
+    → FinalizerShaped f
+    → ItemShaped (try_item node b h f)
 try-shaped node b h f i j k = entered-shaped node (λ c. finally_term f (caught h (block_term b c) c) c) (λ c. finally-shaped f (caught h (block_term b c) c) c k (caught-shaped h (block_term b c) c j (block-shaped b c i)))
 
-function_item-shaped : (node : ℕ) (n : List ℕ) (ps : List (List ℕ)) (b : Items) → ItemsShaped b → ItemShaped (function_item node n ps b)
+function_item-shaped : (node : ℕ) (n : List ℕ) (ps : List (List ℕ)) (b : Items)
+    → ItemsShaped b
+    → ItemShaped (function_item node n ps b)
 function_item-shaped node n ps b h = record {
   functions_only = λ c. tt;
   functions_shaped = λ c. ((record { reduced = omega arith; kept = omega arith; others = h.functions_only (within 0 c) }, tt, body-shaped b c h), tt);
@@ -252,7 +300,10 @@ record PartsShaped (n : ℕ) (p : Parts) : Type 0 where
   now_shaped : AreShaped p.now
   later_shaped : AreShaped p.later
 
-property-shaped : (m : PropertyMade) (ms : List PropertyMade) (c : Context) (p : Parts) → PropertyShaped m → PartsShaped (members_size (map member_of ms)) p → PartsShaped (members_size (map member_of (m ∷ ms))) (property_parts m c p)
+property-shaped : (m : PropertyMade) (ms : List PropertyMade) (c : Context) (p : Parts)
+    → PropertyShaped m
+    → PartsShaped (members_size (map member_of ms)) p
+    → PartsShaped (members_size (map member_of (m ∷ ms))) (property_parts m c p)
 property-shaped (value_property (fixed_key k) e) ms c p h q = record { methods = q.methods; counted = omega (arith, q.counted); now_shaped = (h.1 (naming k c), q.now_shaped); later_shaped = q.later_shaped }
 property-shaped (value_property (computed_key k) e) ms c p h q = record { methods = q.methods; counted = omega (arith, q.counted); now_shaped = (h.0 (unnamed c), (h.1 (unnamed c), q.now_shaped)); later_shaped = q.later_shaped }
 property-shaped (method_property node (fixed_key k) ps b) ms c p h q =
@@ -272,11 +323,15 @@ property-shaped (method_property node (computed_key k) ps b) ms c p h q =
       later_shaped = ((record { reduced = omega arith; kept = omega arith; others = i.functions_only (within 0 c) }, q.now_shaped, body-shaped b c i), q.later_shaped);
     }
 
-properties-shaped : (ms : List PropertyMade) (c : Context) → PropertiesShaped ms → PartsShaped (members_size (map member_of ms)) (properties_parts ms c)
+properties-shaped : (ms : List PropertyMade) (c : Context)
+    → PropertiesShaped ms
+    → PartsShaped (members_size (map member_of ms)) (properties_parts ms c)
 properties-shaped [] c h = record { methods = tt; counted = refl; now_shaped = tt; later_shaped = tt }
 properties-shaped (m ∷ ms) c h = property-shaped m ms c (properties_parts ms c) h.0 (properties-shaped ms c h.1)
 
-object-shaped : (ms : List PropertyMade) (c : Context) → PropertiesShaped ms → IsShaped (object_term ms (properties_parts ms c))
+object-shaped : (ms : List PropertyMade) (c : Context)
+    → PropertiesShaped ms
+    → IsShaped (object_term ms (properties_parts ms c))
 object-shaped ms c h = let q = properties-shaped ms c h in (record { reduced = omega arith; kept = omega arith; others = (q.methods, q.counted) }, q.now_shaped, q.later_shaped)
 
 -- ---- trees

@@ -58,7 +58,9 @@ result-shaped (a_value v) k h = h v
 result-shaped (a_text us) k h = text-shaped us k h
 result-shaped (an_error class message) k h = fail-shaped class message
 
-key-shaped : (o : Option (List ℕ)) (k : List ℕ → Action) → ((key : List ℕ) → ShapedAction (k key)) → ShapedAction (with_key o k)
+key-shaped : (o : Option (List ℕ)) (k : List ℕ → Action)
+    → ((key : List ℕ) → ShapedAction (k key))
+    → ShapedAction (with_key o k)
 key-shaped None k h = fail-shaped classes.TypeError (codes "Property key must be a string or a number")
 key-shaped (Some key) k h = h key
 
@@ -98,7 +100,9 @@ at_if : (b : Bool) (o p : Option FunctionCode) → ShapedCode o → ShapedCode p
 at_if true o p h k = h
 at_if false o p h k = k
 
-function_at-shaped : (p : Program) (source : Source) (node : ℕ) → ShapedProgram p → ShapedCode (function_at p source node)
+function_at-shaped : (p : Program) (source : Source) (node : ℕ)
+    → ShapedProgram p
+    → ShapedCode (function_at p source node)
 function_at-shaped [] source node h = tt
 function_at-shaped (t ∷ ts) source node h =
     at_if (same_source t.source source) (function_in node t.tree) (function_at ts source node) (function_in-shaped node t.tree h.0) (function_at-shaped ts source node h.1)
@@ -118,7 +122,9 @@ names-shaped : (scope : Addr) (bs : List Binding) (k : Action) → ShapedAction 
 names-shaped scope [] k h = h
 names-shaped scope (b ∷ bs) k h = names-shaped scope bs k h
 
-code-shaped : (s : State) (o : Option FunctionCode) (source : Source) (a : Addr) (name : List ℕ) (outer : Option Addr) (x y : Value) (args : List Value) → ShapedCode o → ShapedAction (call_code s o source a name outer x y args)
+code-shaped : (s : State) (o : Option FunctionCode) (source : Source) (a : Addr) (name : List ℕ) (outer : Option Addr) (x y : Value) (args : List Value)
+    → ShapedCode o
+    → ShapedAction (call_code s o source a name outer x y args)
 code-shaped s None source a name outer x y args h = fail-shaped classes.TypeError (codes "Value is not a function")
 code-shaped s (Some c) source a name None x y args h = fail-shaped classes.TypeError (codes "Value is not a function")
 code-shaped s (Some c) source a name (Some outer) x y args h =
@@ -126,7 +132,9 @@ code-shaped s (Some c) source a name (Some outer) x y args h =
     (λ b. functions-shaped b c.functions (frame_entered c source a (called_this c.form.is_arrow x y) b) (record { reduced = omega arith; kept = omega arith; others = tt }, (settle-shaped c.body h, tt), tt))
     (fail-shaped classes.RangeError (codes "Maximum call stack size exceeded"))
 
-cell-shaped : (p : Program) (s : State) (a : Addr) (o : Option Cell) (y : Value) (args : List Value) → ShapedProgram p → ShapedAction (call_cell p s a o y args)
+cell-shaped : (p : Program) (s : State) (a : Addr) (o : Option Cell) (y : Value) (args : List Value)
+    → ShapedProgram p
+    → ShapedAction (call_cell p s a o y args)
 cell-shaped p s a None y args h = fail-shaped classes.TypeError (codes "Value is not a function")
 cell-shaped p s a (Some (cells.Function (code.BuiltIn f) n l outer x)) y args h = gives-shaped (built_in_call s.world f y args) (built_in-gives s.world f y args)
 cell-shaped p s a (Some (cells.Function (code.Script number node) n l outer x)) y args h =
@@ -139,18 +147,24 @@ cell-shaped p s a (Some (cells.Array vs)) y args h = fail-shaped classes.TypeErr
 cell-shaped p s a (Some (cells.Text us)) y args h = fail-shaped classes.TypeError (codes "Value is not a function")
 cell-shaped p s a (Some (cells.Bindings kind n o ns)) y args h = fail-shaped classes.TypeError (codes "Value is not a function")
 
-value-shaped : (p : Program) (s : State) (f y : Value) (args : List Value) → ShapedProgram p → ShapedAction (call_value p s f y args)
+value-shaped : (p : Program) (s : State) (f y : Value) (args : List Value)
+    → ShapedProgram p
+    → ShapedAction (call_value p s f y args)
 value-shaped p s (values.Object a) y args h = cell-shaped p s a (read_cell s.world a) y args h
 value-shaped p s _ y args h = fail-shaped classes.TypeError (codes "Value is not a function")
 
-call-shaped : (p : Program) (s : State) (m : Mark) (vs : List Value) → ShapedProgram p → ShapedAction (call_row p s m vs)
+call-shaped : (p : Program) (s : State) (m : Mark) (vs : List Value)
+    → ShapedProgram p
+    → ShapedAction (call_row p s m vs)
 call-shaped p s m [] h = tt
 call-shaped p s m (x ∷ []) h = tt
 call-shaped p s m (x ∷ f ∷ args) h = value-shaped p s f x args h
 
 -- ---- statements
 
-script-shaped : (number : ℕ) (names : List Binding) (later : Terms) → AreShaped later → ShapedAction (script_row number names later)
+script-shaped : (number : ℕ) (names : List Binding) (later : Terms)
+    → AreShaped later
+    → ShapedAction (script_row number names later)
 script-shaped number names end k = tt
 script-shaped number names (more t fs) k = names-shaped _ names (with_functions _ fs (go (settle t))) (functions-shaped _ fs (go (settle t)) (settle-shaped t k.0))
 
@@ -158,7 +172,9 @@ enter-shaped : (node : ℕ) (later : Terms) → AreShaped later → ShapedAction
 enter-shaped node end k = tt
 enter-shaped node (more t ts) k = settle-shaped t k.0
 
-block-shaped : (scope : Addr) (names : List Binding) (later : Terms) → AreShaped later → ShapedAction (block_row scope names later)
+block-shaped : (scope : Addr) (names : List Binding) (later : Terms)
+    → AreShaped later
+    → ShapedAction (block_row scope names later)
 block-shaped scope [] end k = tt
 block-shaped scope (b ∷ bs) end k = tt
 block-shaped scope [] (more t fs) k = settle-shaped t k.0
@@ -181,11 +197,17 @@ otherwise-shaped false v end k = tt
 otherwise-shaped false v (more t ts) k = k.0
 otherwise-shaped true v later k = tt
 
-turn_or_end-shaped : (b : Bool) (scope : Option Addr) (later : Terms) → 3 ≤ size later → AreShaped later → IsShaped (turn_or_end b scope later)
+turn_or_end-shaped : (b : Bool) (scope : Option Addr) (later : Terms)
+    → 3 ≤ size later
+    → AreShaped later
+    → IsShaped (turn_or_end b scope later)
 turn_or_end-shaped true scope later h k = at_body-shaped scope later h k
 turn_or_end-shaped false scope later h k = tt
 
-loop-shaped : (w : World) (stage : Stage) (scope : Option Addr) (vs : List Value) (later : Terms) → 3 ≤ size later → AreShaped later → ShapedAction (loop_row w stage scope vs later)
+loop-shaped : (w : World) (stage : Stage) (scope : Option Addr) (vs : List Value) (later : Terms)
+    → 3 ≤ size later
+    → AreShaped later
+    → ShapedAction (loop_row w stage scope vs later)
 loop-shaped w testing scope vs later h k = turn_or_end-shaped (is_truthy w (only vs)) scope later h k
 loop-shaped w first (Some a) vs later h k = λ b. at_test-shaped (Some b) later h k
 loop-shaped w body (Some a) vs later h k = λ b. at_update-shaped (Some b) later h k
@@ -194,20 +216,33 @@ loop-shaped w body None vs later h k = tt
 loop-shaped w doing scope vs later h k = tt
 loop-shaped w updating scope vs later h k = tt
 
-started-shaped : (scope : Option Addr) (t : Term) (ts : Terms) → 4 ≤ suc (size ts) → IsShaped t → AreShaped ts → IsShaped (settled (loop first scope) (one (settle t)) ts)
+started-shaped : (scope : Option Addr) (t : Term) (ts : Terms)
+    → 4 ≤ suc (size ts)
+    → IsShaped t
+    → AreShaped ts
+    → IsShaped (settled (loop first scope) (one (settle t)) ts)
 started-shaped scope t ts h k l = settled-shaped (loop first scope) (one (settle t)) ts (record { reduced = omega arith; kept = omega arith; others = tt }) (settle-shaped t k, tt) l
 
-for_in-shaped : (constant : Bool) (a : Addr) (later : Terms) → 4 ≤ size later → AreShaped later → IsShaped (for_in constant a later)
+for_in-shaped : (constant : Bool) (a : Addr) (later : Terms)
+    → 4 ≤ size later
+    → AreShaped later
+    → IsShaped (for_in constant a later)
 for_in-shaped true a end h k = tt
 for_in-shaped false a end h k = tt
 for_in-shaped true a (more t ts) h k = (record { reduced = omega arith; kept = omega arith; others = tt }, (started-shaped None t ts h k.0 k.1, tt), tt)
 for_in-shaped false a (more t ts) h k = started-shaped (Some a) t ts h k.0 k.1
 
-enter_for_of-shaped : (scope : Addr) (node : ℕ) (b : Binding) (later : Terms) → 2 ≤ size later → AreShaped later → ShapedAction (enter_for_of_row scope node b later)
+enter_for_of-shaped : (scope : Addr) (node : ℕ) (b : Binding) (later : Terms)
+    → 2 ≤ size later
+    → AreShaped later
+    → ShapedAction (enter_for_of_row scope node b later)
 enter_for_of-shaped scope node b end h k = tt
 enter_for_of-shaped scope node b (more t ts) h k = λ a. (record { reduced = omega arith; kept = omega arith; others = tt }, (scoped-shaped t a k.0, tt), k.1)
 
-list-shaped : (w : World) (b : Binding) (x : Value) (later : Terms) → 1 ≤ size later → AreShaped later → ShapedAction (list_row w b x later)
+list-shaped : (w : World) (b : Binding) (x : Value) (later : Terms)
+    → 1 ≤ size later
+    → AreShaped later
+    → ShapedAction (list_row w b x later)
 list-shaped w b x later h k =
     choose_action (is_array w x) (go (part _ end (more (done x) later))) (fail classes.TypeError (codes "Value is not an array"))
     (record { reduced = omega arith; kept = omega arith; others = tt }, tt, (tt, k)) (fail-shaped classes.TypeError (codes "Value is not an array"))
@@ -217,7 +252,10 @@ body_part-shaped end k = tt
 body_part-shaped (more t end) k = tt
 body_part-shaped (more t (more u ts)) k = k.1.0
 
-turn-shaped : (scope : Addr) (b : Binding) (i : ℕ) (o : Option Value) (later : Terms) → 2 ≤ size later → AreShaped later → ShapedAction (turn_row scope b i o later)
+turn-shaped : (scope : Addr) (b : Binding) (i : ℕ) (o : Option Value) (later : Terms)
+    → 2 ≤ size later
+    → AreShaped later
+    → ShapedAction (turn_row scope b i o later)
 turn-shaped scope b i None later h k = tt
 turn-shaped scope b i (Some x) later h k =
     λ a. settled-shaped (body_of b (i + 1)) (one (settled (scoped a) (one (body_part later)) end)) later (record { reduced = omega arith; kept = h; others = tt }) (scoped-shaped (body_part later) a (body_part-shaped later k), tt) k
@@ -229,7 +267,10 @@ comma-shaped end k = tt
 comma-shaped (more t end) k = k.0
 comma-shaped (more t (more u ts)) k = (record { reduced = omega arith; kept = omega arith; others = tt }, (k.0, tt), k.1)
 
-compound-shaped : (w : World) (scope : Addr) (o : BinaryOperator) (r : Reference) (vs : List Value) (later : Terms) → reference_size r ≤ length vs → AreShaped later → ShapedAction (compound_row w scope o r vs later)
+compound-shaped : (w : World) (scope : Addr) (o : BinaryOperator) (r : Reference) (vs : List Value) (later : Terms)
+    → reference_size r ≤ length vs
+    → AreShaped later
+    → ShapedAction (compound_row w scope o r vs later)
 compound-shaped w scope o r vs end h k = tt
 compound-shaped w scope o r vs (more e ts) h k =
     result-shaped (read_result w scope r vs) (λ old. go (part (assign r) (joined (dones vs) (one (part (binary o) (more (done old) (one e)) end))) end))
@@ -239,12 +280,17 @@ compound-shaped w scope o r vs (more e ts) h k =
       tt,
     ))
 
-callee-shaped : (w : World) (scope : Addr) (r : Reference) (m : Mark) (node : ℕ) (vs : List Value) (later : Terms) → AreShaped later → ShapedAction (callee_row w scope r m node vs later)
+callee-shaped : (w : World) (scope : Addr) (r : Reference) (m : Mark) (node : ℕ) (vs : List Value) (later : Terms)
+    → AreShaped later
+    → ShapedAction (callee_row w scope r m node vs later)
 callee-shaped w scope r m node vs later k =
     result-shaped (read_result w scope r vs) (λ f. go (part (call m node) (more (done (callee_this r vs)) (more (done f) later)) end))
     (λ x. (record { reduced = omega arith; kept = omega arith; others = tt }, (tt, (tt, k)), tt))
 
-object-shaped : (w : World) (scope : Addr) (ms : List Member) (vs : List Value) (later : Terms) → Shape (object ms) (length vs) later → AreShaped later → ShapedAction (object_row w scope ms vs later)
+object-shaped : (w : World) (scope : Addr) (ms : List Member) (vs : List Value) (later : Terms)
+    → Shape (object ms) (length vs) later
+    → AreShaped later
+    → ShapedAction (object_row w scope ms vs later)
 object-shaped w scope ms vs end h k = gives-shaped (object_or_fail (properties_from w [] ms vs)) (made-gives (properties_from w [] ms vs))
 object-shaped w scope ms vs (more (part (method f) now later) ts) h k =
     let o = h.others in
@@ -262,7 +308,11 @@ ending-shaped : (o : Option Completion) → ShapedAction (ending_row o)
 ending-shaped None = tt
 ending-shaped (Some c) = tt
 
-row-shaped : (p : Program) (s : State) (scope : Addr) (f : Form) (vs : List Value) (later : Terms) → ShapedProgram p → Shape f (length vs) later → AreShaped later → ShapedAction (row p s scope f vs later)
+row-shaped : (p : Program) (s : State) (scope : Addr) (f : Form) (vs : List Value) (later : Terms)
+    → ShapedProgram p
+    → Shape f (length vs) later
+    → AreShaped later
+    → ShapedAction (row p s scope f vs later)
 row-shaped p s scope (script number names) vs later g h k = script-shaped number names later k
 row-shaped p s scope (enter node) vs later g h k = enter-shaped node later k
 row-shaped p s scope (enter_debugger node) vs later g h k = enter-shaped node later k
@@ -296,13 +346,18 @@ row-shaped p s scope _ vs later g h k = tt
 
 -- ---- THE TABLE OF COMPLETIONS
 
-catch-shaped : (scope : Addr) (n : Option (List ℕ)) (x : Value) (later : Terms) → AreShaped later → ShapedAction (catch_row scope n x later)
+catch-shaped : (scope : Addr) (n : Option (List ℕ)) (x : Value) (later : Terms)
+    → AreShaped later
+    → ShapedAction (catch_row scope n x later)
 catch-shaped scope None x end k = tt
 catch-shaped scope (Some n) x end k = tt
 catch-shaped scope None x (more t ts) k = settle-shaped t k.0
 catch-shaped scope (Some n) x (more t ts) k = λ a. scoped-shaped (settle t) a (settle-shaped t k.0)
 
-taken-shaped : (scope : Addr) (f : Form) (c : Completion) (n : ℕ) (later : Terms) → Shape f n later → AreShaped later → ShapedAction (taken scope f c later)
+taken-shaped : (scope : Addr) (f : Form) (c : Completion) (n : ℕ) (later : Terms)
+    → Shape f n later
+    → AreShaped later
+    → ShapedAction (taken scope f c later)
 taken-shaped scope (catching x) (throws v m) n later h k = catch-shaped scope x v later k
 taken-shaped scope (catching x) (returns v) n later h k = tt
 taken-shaped scope (catching x) breaks n later h k = tt
@@ -332,7 +387,9 @@ abbrev ShapedWalked : ℕ → Walked → Type 0
 ShapedWalked n (all_values vs) = length vs ≡ n
 ShapedWalked n (moved m) = ShapedMoves n m
 
-value_in : (v : Value) (n : ℕ) (m : Move Terms) → ShapedMoves n m → ShapedMoves (suc n) (inside (λ ts. more (done v) ts) m)
+value_in : (v : Value) (n : ℕ) (m : Move Terms)
+    → ShapedMoves n m
+    → ShapedMoves (suc n) (inside (λ ts. more (done v) ts) m)
 value_in v n (goes ts s told) h = ((tt, h.0), ap (λ i. suc i) h.1)
 value_in v n (travels c s) h = tt
 value_in v n (has_effect s) h = tt
@@ -342,13 +399,21 @@ with_value-shaped : (v : Value) (n : ℕ) (x : Walked) → ShapedWalked n x → 
 with_value-shaped v n (all_values vs) h = ap (λ i. suc i) h
 with_value-shaped v n (moved m) h = value_in v n m h
 
-inside-shaped : (ts : Terms) (m : Move Term) → AreShaped ts → ShapedMove m → ShapedMoves (suc (size ts)) (inside (λ t. more t ts) m)
+inside-shaped : (ts : Terms) (m : Move Term)
+    → AreShaped ts
+    → ShapedMove m
+    → ShapedMoves (suc (size ts)) (inside (λ t. more t ts) m)
 inside-shaped ts (goes t s told) k h = ((h, k), refl)
 inside-shaped ts (travels c s) k h = tt
 inside-shaped ts (has_effect s) k h = tt
 inside-shaped ts (is_full what s) k h = tt
 
-around-shaped : (p : Program) (scope : Addr) (f : Form) (n : ℕ) (later : Terms) (s : State) (x : Walked) → ShapedProgram p → Shape f n later → AreShaped later → ShapedWalked n x → ShapedMove (around p scope f later s x)
+around-shaped : (p : Program) (scope : Addr) (f : Form) (n : ℕ) (later : Terms) (s : State) (x : Walked)
+    → ShapedProgram p
+    → Shape f n later
+    → AreShaped later
+    → ShapedWalked n x
+    → ShapedMove (around p scope f later s x)
 around-shaped p scope f n later s (all_values vs) g h k w =
     let P : ℕ → Type 0 = λ i. Shape f i later in
     perform-shaped (row p s scope f vs later) s (row-shaped p s scope f vs later g (subst P (sym w) h) k)
@@ -360,12 +425,18 @@ around-shaped p scope f n later s (moved (has_effect t)) g h k w = tt
 around-shaped p scope f n later s (moved (is_full what t)) g h k w = tt
 
 mutual
-  pub next-shaped : (p : Program) (scope : Addr) (t : Term) (s : State) → ShapedProgram p → IsShaped t → ShapedMove (next p scope t s)
+  pub next-shaped : (p : Program) (scope : Addr) (t : Term) (s : State)
+      → ShapedProgram p
+      → IsShaped t
+      → ShapedMove (next p scope t s)
   next-shaped p scope (done v) s g h = tt
   next-shaped p scope (standing v place) s g h = tt
   next-shaped p scope (part f now later) s g h = around-shaped p scope f (size now) later s (walk p (scope_in f scope) now s) g h.0 h.2 (walk-shaped p (scope_in f scope) now s g h.1)
 
-  walk-shaped : (p : Program) (scope : Addr) (ts : Terms) (s : State) → ShapedProgram p → AreShaped ts → ShapedWalked (size ts) (walk p scope ts s)
+  walk-shaped : (p : Program) (scope : Addr) (ts : Terms) (s : State)
+      → ShapedProgram p
+      → AreShaped ts
+      → ShapedWalked (size ts) (walk p scope ts s)
   walk-shaped p scope end s g h = refl
   walk-shaped p scope (more (done v) ts) s g h = with_value-shaped v (size ts) (walk p scope ts s) (walk-shaped p scope ts s g h.1)
   walk-shaped p scope (more (standing v place) ts) s g h = tt
@@ -388,6 +459,9 @@ step-shaped : (p : Program) (scope : Addr) (r : Run) → ShapedProgram p → Sha
 step-shaped p scope (running t s) g h = after-shaped (next p scope t s) (next-shaped p scope t s g h)
 step-shaped p scope (over f s) g h = tt
 
-pub steps-shaped : (k : ℕ) (p : Program) (scope : Addr) (r : Run) → ShapedProgram p → ShapedRun r → ShapedRun (steps_in k p scope r)
+pub steps-shaped : (k : ℕ) (p : Program) (scope : Addr) (r : Run)
+    → ShapedProgram p
+    → ShapedRun r
+    → ShapedRun (steps_in k p scope r)
 steps-shaped zero p scope r g h = h
 steps-shaped (suc k) p scope r g h = steps-shaped k p scope (step_in p scope r) g (step-shaped p scope r g h)

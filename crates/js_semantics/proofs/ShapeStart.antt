@@ -24,7 +24,9 @@ behind-placed : (at : ℕ → Addr) (n : ℕ) (ts : Terms) → BehindBody ts →
 behind-placed at n end h = tt
 behind-placed at n (more t ts) h = functions-placed at (n + length (literals t)) ts h
 
-methods-placed : (at : ℕ → Addr) (n : ℕ) (ts : Terms) → AreMethods ts → AreMethods (all_with_literals at n ts) × (methods_size (all_with_literals at n ts) ≡ methods_size ts)
+methods-placed : (at : ℕ → Addr) (n : ℕ) (ts : Terms)
+    → AreMethods ts
+    → AreMethods (all_with_literals at n ts) × (methods_size (all_with_literals at n ts) ≡ methods_size ts)
 methods-placed at n end h = (tt, refl)
 methods-placed at n (more (part (method f) now later) ts) h =
     let m : ℕ = n + length (literals (part (method f) now later)) in
@@ -32,7 +34,10 @@ methods-placed at n (more (part (method f) now later) ts) h =
     (rest.0, omega (arith, size-placed at n now, rest.1))
 methods-placed at n (more _ ts) h = absurd h
 
-others-placed : (f : Form) (at : ℕ → Addr) (n i j : ℕ) (later : Terms) → i ≡ j → OtherShape f j later → OtherShape f i (all_with_literals at n later)
+others-placed : (f : Form) (at : ℕ → Addr) (n i j : ℕ) (later : Terms)
+    → i ≡ j
+    → OtherShape f j later
+    → OtherShape f i (all_with_literals at n later)
 others-placed (script number names) at n i j later e h = behind-placed at n later h
 others-placed (block names) at n i j later e h = behind-placed at n later h
 others-placed (function f) at n i j later e h = behind-placed at n later h
@@ -40,7 +45,9 @@ others-placed (method f) at n i j later e h = behind-placed at n later h
 others-placed (object ms) at n i j later e h = let m = methods-placed at n later h.0 in (m.0, omega (arith, h.1, e, m.1))
 others-placed _ at n i j later e h = tt
 
-shape-placed : (f : Form) (at : ℕ → Addr) (n m : ℕ) (now later : Terms) → Shape f (size now) later → Shape f (size (all_with_literals at n now)) (all_with_literals at m later)
+shape-placed : (f : Form) (at : ℕ → Addr) (n m : ℕ) (now later : Terms)
+    → Shape f (size now) later
+    → Shape f (size (all_with_literals at n now)) (all_with_literals at m later)
 shape-placed f at n m now later h = record {
   reduced = omega (arith, h.reduced, size-placed at n now);
   kept = omega (arith, h.kept, size-placed at m later);

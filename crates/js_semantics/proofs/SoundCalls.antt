@@ -80,7 +80,9 @@ string-sound w (values.Bool b) h = text_or_fail-sound w (text_of w (values.Bool 
 string-sound w (values.Number z) h = text_or_fail-sound w (text_of w (values.Number z))
 string-sound w (values.Object a) h = text_or_fail-sound w (text_of w (values.Object a))
 
-texts-sound : (w : World) (ts : List (List ℕ)) (k : List Value → Action) → ((v : World) → Later w v → (xs : List Value) → SoundValues v xs → SoundAction v (k xs)) → SoundAction w (make_texts ts k)
+texts-sound : (w : World) (ts : List (List ℕ)) (k : List Value → Action)
+    → ((v : World) → Later w v → (xs : List Value) → SoundValues v xs → SoundAction v (k xs))
+    → SoundAction w (make_texts ts k)
 texts-sound w [] k h = h w (later-same w) [] tt
 texts-sound w (t ∷ ts) k h =
     make_text-sound w t (λ x. make_texts ts (λ xs. k (x ∷ xs)))
@@ -155,7 +157,10 @@ unit_at-sound w us (values.Bool b) = wrong-sound w
 unit_at-sound w us (values.Text a) = wrong-sound w
 unit_at-sound w us (values.Object a) = wrong-sound w
 
-array_call-sound : (w : World) (f : BuiltIn) (a : Addr) (vs args : List Value) → SoundValues w vs → SoundValues w args → SoundAction w (array_call w f a vs args)
+array_call-sound : (w : World) (f : BuiltIn) (a : Addr) (vs args : List Value)
+    → SoundValues w vs
+    → SoundValues w args
+    → SoundAction w (array_call w f a vs args)
 array_call-sound w built_ins.ArrayPush a vs args h k = push-sound w a (length vs) args k
 array_call-sound w built_ins.ArrayPop a vs args h k = pop-sound w a vs h
 array_call-sound w built_ins.ArrayIndexOf a vs args h k = tt
@@ -163,7 +168,10 @@ array_call-sound w built_ins.ArrayJoin a vs args h k = join-sound w vs (argument
 array_call-sound w built_ins.ArraySlice a vs args h k = array_or_wrong-sound w (slice_places vs args) (between-sound w vs (place (length vs) 0 (argument args 0)) (place (length vs) (length vs) (argument args 1)) h)
 array_call-sound w _ a vs args h k = wrong-sound w
 
-on_cell-sound : (w : World) (f : BuiltIn) (a : Addr) (o : Option Cell) (args : List Value) → ((c : Cell) → o ≡ Some c → SoundCell w c) → SoundValues w args → SoundAction w (on_array_cell w f a o args)
+on_cell-sound : (w : World) (f : BuiltIn) (a : Addr) (o : Option Cell) (args : List Value)
+    → ((c : Cell) → o ≡ Some c → SoundCell w c)
+    → SoundValues w args
+    → SoundAction w (on_array_cell w f a o args)
 on_cell-sound w f a None args h k = wrong-sound w
 on_cell-sound w f a (Some (cells.Array vs)) args h k = array_call-sound w f a vs args (h (cells.Array vs) refl) k
 on_cell-sound w f a (Some (cells.Object ps)) args h k = wrong-sound w
@@ -172,7 +180,11 @@ on_cell-sound w f a (Some (cells.Function code n l s t)) args h k = wrong-sound 
 on_cell-sound w f a (Some (cells.Text us)) args h k = wrong-sound w
 on_cell-sound w f a (Some (cells.Bindings kind n o ns)) args h k = wrong-sound w
 
-on_array-sound : (w : World) → IsSound w → (f : BuiltIn) (x : Value) (args : List Value) → SoundValues w args → SoundAction w (on_array w f x args)
+on_array-sound : (w : World)
+    → IsSound w
+    → (f : BuiltIn) (x : Value) (args : List Value)
+    → SoundValues w args
+    → SoundAction w (on_array w f x args)
 on_array-sound w s f (values.Object a) args k = on_cell-sound w f a (read_cell w a) args (λ c e. read-sound w a c e s) k
 on_array-sound w s f values.Undefined args k = wrong-sound w
 on_array-sound w s f values.Null args k = wrong-sound w
@@ -180,7 +192,8 @@ on_array-sound w s f (values.Bool b) args k = wrong-sound w
 on_array-sound w s f (values.Number z) args k = wrong-sound w
 on_array-sound w s f (values.Text a) args k = wrong-sound w
 
-string_call-sound : (w : World) (f : BuiltIn) (us : List ℕ) (args : List Value) → SoundAction w (string_call w f us args)
+string_call-sound : (w : World) (f : BuiltIn) (us : List ℕ) (args : List Value)
+    → SoundAction w (string_call w f us args)
 string_call-sound w built_ins.StringIndexOf us args = occurrence-sound w us (argument args 0)
 string_call-sound w built_ins.StringSlice us args = text_or_wrong-sound w (slice_places us args)
 string_call-sound w built_ins.StringCharCodeAt us args = unit_at-sound w us (argument args 0)
@@ -194,7 +207,11 @@ on_string-sound w f (values.Bool b) args = wrong-sound w
 on_string-sound w f (values.Number z) args = wrong-sound w
 on_string-sound w f (values.Object a) args = wrong-sound w
 
-pub built_in-sound : (w : World) → IsSound w → (f : BuiltIn) (x : Value) (args : List Value) → SoundValues w args → SoundAction w (built_in_call w f x args)
+pub built_in-sound : (w : World)
+    → IsSound w
+    → (f : BuiltIn) (x : Value) (args : List Value)
+    → SoundValues w args
+    → SoundAction w (built_in_call w f x args)
 built_in-sound w s built_ins.ConsoleLog x args k = tt
 built_in-sound w s built_ins.ReadLine x args k = λ line. line-sound w line
 built_in-sound w s (built_ins.MakeError class) x args k = error-sound w class (argument args 0) (argument-sound w args 0 k)
@@ -220,12 +237,18 @@ first-sound : (w : World) (o p : Option FunctionCode) → SoundCode w o → Soun
 first-sound w (Some c) p h k = h
 first-sound w None p h k = k
 
-code_if-sound : (w : World) (b : Bool) (f : FunctionForm) (later : Terms) → SoundNames w f.names → SoundTerms w later → SoundCode w (code_if b f later)
+code_if-sound : (w : World) (b : Bool) (f : FunctionForm) (later : Terms)
+    → SoundNames w f.names
+    → SoundTerms w later
+    → SoundCode w (code_if b f later)
 code_if-sound w true f (more t ts) h k = (h, k.0, k.1)
 code_if-sound w true f end h k = tt
 code_if-sound w false f later h k = tt
 
-here-sound : (w : World) (f : Form) (node : ℕ) (later : Terms) → SoundForm w f → SoundTerms w later → SoundCode w (code_here f node later)
+here-sound : (w : World) (f : Form) (node : ℕ) (later : Terms)
+    → SoundForm w f
+    → SoundTerms w later
+    → SoundCode w (code_here f node later)
 here-sound w (function f) node later h k = code_if-sound w (nat_eq f.node node) f later h k
 here-sound w (method f) node later h k = code_if-sound w (nat_eq f.node node) f later h k
 here-sound w _ node later h k = tt
@@ -242,35 +265,49 @@ mutual
   function_in_all-sound w node end h = tt
   function_in_all-sound w node (more t ts) h = first-sound w (function_in node t) (function_in_all node ts) (function_in-sound w node t h.0) (function_in_all-sound w node ts h.1)
 
-at_if : (w : World) (b : Bool) (o p : Option FunctionCode) → SoundCode w o → SoundCode w p → SoundCode w (if b then o else p)
+at_if : (w : World) (b : Bool) (o p : Option FunctionCode)
+    → SoundCode w o
+    → SoundCode w p
+    → SoundCode w (if b then o else p)
 at_if w true o p h k = h
 at_if w false o p h k = k
 
-function_at-sound : (w : World) (p : Program) (source : Source) (node : ℕ) → SoundProgram w p → SoundCode w (function_at p source node)
+function_at-sound : (w : World) (p : Program) (source : Source) (node : ℕ)
+    → SoundProgram w p
+    → SoundCode w (function_at p source node)
 function_at-sound w [] source node h = tt
 function_at-sound w (t ∷ ts) source node h =
     at_if w (same_source t.source source) (function_in node t.tree) (function_at ts source node) (function_in-sound w node t.tree h.0) (function_at-sound w ts source node h.1)
 
 -- ---- functions and scopes
 
-pub is-scope : (w : World) (kind : ScopeKind) (name : List ℕ) (outer : Option Addr) (names : List Binding) (a : Addr) → Leads (λ k. k ≡ kind_of (cells.Bindings kind name outer names)) (read_cell w a) → SoundScope w (Some a)
+pub is-scope : (w : World) (kind : ScopeKind) (name : List ℕ) (outer : Option Addr) (names : List Binding) (a : Addr)
+    → Leads (λ k. k ≡ kind_of (cells.Bindings kind name outer names)) (read_cell w a)
+    → SoundScope w (Some a)
 is-scope w kind name outer names a h = leads-as IsScopeKind (cells.Bindings kind name outer names) (read_cell w a) refl h
 
-is-function : (w : World) (f : FunctionForm) (name : List ℕ) (scope : Addr) (x : Value) (a : Addr) → Leads (λ k. k ≡ kind_of (function_cell f name scope x)) (read_cell w a) → SoundValue w (values.Object a)
+is-function : (w : World) (f : FunctionForm) (name : List ℕ) (scope : Addr) (x : Value) (a : Addr)
+    → Leads (λ k. k ≡ kind_of (function_cell f name scope x)) (read_cell w a)
+    → SoundValue w (values.Object a)
 is-function w f name scope x a h = leads-as IsObjectKind (function_cell f name scope x) (read_cell w a) tt h
 
 receiver-sound : (w : World) (b : Bool) (x : Value) → SoundValue w x → SoundValue w (if b then x else values.Undefined)
 receiver-sound w true x h = h
 receiver-sound w false x h = tt
 
-this-sound : (w : World) (fs : List Frame) (x : Value) → SoundFrames w fs → SoundValue w x → SoundValue w (top_this fs x)
+this-sound : (w : World) (fs : List Frame) (x : Value)
+    → SoundFrames w fs
+    → SoundValue w x
+    → SoundValue w (top_this fs x)
 this-sound w [] x h k = k
 this-sound w (f ∷ fs) x h k = h.0.0
 
 pub this_of-sound : (p : Program) (s : State) → SoundState p s → SoundValue s.world (this_of s)
 this_of-sound p s h = this-sound s.world s.frames s.outer_this h.frames h.outer
 
-named-sound : (w : World) (f : FunctionForm) (scope : Addr) → SoundScope w (Some scope) → SoundAction w (named_function f scope)
+named-sound : (w : World) (f : FunctionForm) (scope : Addr)
+    → SoundScope w (Some scope)
+    → SoundAction w (named_function f scope)
 named-sound w f scope h = (
   (h, (tt, tt)),
   λ v a l e. (
@@ -279,17 +316,26 @@ named-sound w f scope h = (
   ),
 )
 
-pub choose_action : (w : World) (b : Bool) (x y : Action) → SoundAction w x → SoundAction w y → SoundAction w (if b then x else y)
+pub choose_action : (w : World) (b : Bool) (x y : Action)
+    → SoundAction w x
+    → SoundAction w y
+    → SoundAction w (if b then x else y)
 choose_action w true x y h k = h
 choose_action w false x y h k = k
 
-pub function-sound : (p : Program) (s : State) (scope : Addr) (f : FunctionForm) → SoundState p s → SoundScope s.world (Some scope) → SoundAction s.world (function_row s scope f)
+pub function-sound : (p : Program) (s : State) (scope : Addr) (f : FunctionForm)
+    → SoundState p s
+    → SoundScope s.world (Some scope)
+    → SoundAction s.world (function_row s scope f)
 function-sound p s scope f h k =
     choose_action s.world f.is_named (named_function f scope) (make (function_cell f f.name scope (receiver_of f (this_of s))) (λ a. give (values.Object a)))
     (named-sound s.world f scope k)
     (make_object-sound s.world (function_cell f f.name scope (receiver_of f (this_of s))) (k, receiver-sound s.world f.is_arrow (this_of s) (this_of-sound p s h)) tt)
 
-pub functions-sound : (w : World) (scope : Addr) (ts : Terms) (k : Action) → SoundScope w (Some scope) → SoundThen w k → SoundAction w (with_functions scope ts k)
+pub functions-sound : (w : World) (scope : Addr) (ts : Terms) (k : Action)
+    → SoundScope w (Some scope)
+    → SoundThen w k
+    → SoundAction w (with_functions scope ts k)
 functions-sound w scope end k h t = t w (later-same w)
 functions-sound w scope (more (part (function f) now later) ts) k h t = (
   (h, tt),
@@ -300,17 +346,25 @@ functions-sound w scope (more (part (function f) now later) ts) k h t = (
 )
 functions-sound w scope (more _ ts) k h t = functions-sound w scope ts k h t
 
-pub names-sound : (w : World) (scope : Addr) (bs : List Binding) (k : Action) → SoundThen w k → SoundAction w (with_names scope bs k)
+pub names-sound : (w : World) (scope : Addr) (bs : List Binding) (k : Action)
+    → SoundThen w k
+    → SoundAction w (with_names scope bs k)
 names-sound w scope [] k t = t w (later-same w)
 names-sound w scope (b ∷ bs) k t = (tt, λ v l. names-sound v scope bs k (λ u m. t u (later-trans w v u l m)))
 
 -- a new scope, and what goes on with it
-pub new_scope-sound : (w : World) (kind : ScopeKind) (name : List ℕ) (outer : Addr) (names : List Binding) (k : Addr → Action) → SoundScope w (Some outer) → SoundNames w names → ((v : World) → Later w v → (a : Addr) → SoundScope v (Some a) → SoundAction v (k a)) → SoundAction w (new_scope kind name outer names k)
+pub new_scope-sound : (w : World) (kind : ScopeKind) (name : List ℕ) (outer : Addr) (names : List Binding) (k : Addr → Action)
+    → SoundScope w (Some outer)
+    → SoundNames w names
+    → ((v : World) → Later w v → (a : Addr) → SoundScope v (Some a) → SoundAction v (k a))
+    → SoundAction w (new_scope kind name outer names k)
 new_scope-sound w kind name outer names k h n t = ((h, n), λ v a l e. t v l a (is-scope v kind name (Some outer) names a e))
 
 -- ---- calls
 
-parameters-sound : (w : World) (i : ℕ) (ns : List (List ℕ)) (args : List Value) → SoundValues w args → SoundNames w (parameters_from i ns args)
+parameters-sound : (w : World) (i : ℕ) (ns : List (List ℕ)) (args : List Value)
+    → SoundValues w args
+    → SoundNames w (parameters_from i ns args)
 parameters-sound w i [] args h = tt
 parameters-sound w i (n ∷ ns) args h = (argument-sound w args i h, parameters-sound w (i + 1) ns args h)
 
@@ -322,10 +376,19 @@ called-sound : (w : World) (b : Bool) (x y : Value) → SoundValue w x → Sound
 called-sound w true x y h k = h
 called-sound w false x y h k = k
 
-frame-sound : (w : World) (c : FunctionCode) (source : Source) (a : Addr) (x : Value) (s : Addr) → SoundTerm w c.body → SoundValue w x → SoundScope w (Some s) → SoundAction w (frame_entered c source a x s)
+frame-sound : (w : World) (c : FunctionCode) (source : Source) (a : Addr) (x : Value) (s : Addr)
+    → SoundTerm w c.body
+    → SoundValue w x
+    → SoundScope w (Some s)
+    → SoundAction w (frame_entered c source a x s)
 frame-sound w c source a x s h r e = ((r, e), (e, (settle-sound w c.body h, tt), tt))
 
-entered-sound : (w : World) (c : FunctionCode) (source : Source) (a : Addr) (name : List ℕ) (outer : Addr) (x : Value) (args : List Value) → SoundCode w (Some c) → SoundScope w (Some outer) → SoundValue w x → SoundValues w args → SoundAction w (entered c source a name outer x args)
+entered-sound : (w : World) (c : FunctionCode) (source : Source) (a : Addr) (name : List ℕ) (outer : Addr) (x : Value) (args : List Value)
+    → SoundCode w (Some c)
+    → SoundScope w (Some outer)
+    → SoundValue w x
+    → SoundValues w args
+    → SoundAction w (entered c source a name outer x args)
 entered-sound w c source a name outer x args h o r k =
     new_scope-sound w scopes.Function name outer (parameters_from 0 c.form.parameters args ++ c.form.names) (λ s. with_functions s c.functions (frame_entered c source a x s)) o
     (names-joined w (parameters_from 0 c.form.parameters args) c.form.names (parameters-sound w 0 c.form.parameters args k) h.0)
@@ -339,7 +402,13 @@ deep-sound w = fail-sound w classes.RangeError (codes "Maximum call stack size e
 not_function-sound : (w : World) → SoundAction w not_a_function
 not_function-sound w = fail-sound w classes.TypeError (codes "Value is not a function")
 
-code-sound : (s : State) (o : Option FunctionCode) (source : Source) (a : Addr) (name : List ℕ) (outer : Option Addr) (x y : Value) (args : List Value) → SoundCode s.world o → SoundScope s.world outer → SoundValue s.world x → SoundValue s.world y → SoundValues s.world args → SoundAction s.world (call_code s o source a name outer x y args)
+code-sound : (s : State) (o : Option FunctionCode) (source : Source) (a : Addr) (name : List ℕ) (outer : Option Addr) (x y : Value) (args : List Value)
+    → SoundCode s.world o
+    → SoundScope s.world outer
+    → SoundValue s.world x
+    → SoundValue s.world y
+    → SoundValues s.world args
+    → SoundAction s.world (call_code s o source a name outer x y args)
 code-sound s None source a name outer x y args h o r q k = not_function-sound s.world
 code-sound s (Some c) source a name None x y args h o r q k = not_function-sound s.world
 code-sound s (Some c) source a name (Some outer) x y args h o r q k =
@@ -347,7 +416,12 @@ code-sound s (Some c) source a name (Some outer) x y args h o r q k =
     (entered-sound s.world c source a name outer (called_this c.form.is_arrow x y) args h o (called-sound s.world c.form.is_arrow x y r q) k)
     (deep-sound s.world)
 
-cell-sound : (p : Program) (s : State) (a : Addr) (o : Option Cell) (y : Value) (args : List Value) → SoundState p s → ((c : Cell) → o ≡ Some c → SoundCell s.world c) → SoundValue s.world y → SoundValues s.world args → SoundAction s.world (call_cell p s a o y args)
+cell-sound : (p : Program) (s : State) (a : Addr) (o : Option Cell) (y : Value) (args : List Value)
+    → SoundState p s
+    → ((c : Cell) → o ≡ Some c → SoundCell s.world c)
+    → SoundValue s.world y
+    → SoundValues s.world args
+    → SoundAction s.world (call_cell p s a o y args)
 cell-sound p s a None y args h c q k = not_function-sound s.world
 cell-sound p s a (Some (cells.Function (code.BuiltIn f) n l outer x)) y args h c q k = built_in-sound s.world h.world f y args k
 cell-sound p s a (Some (cells.Function (code.Script number node) n l outer x)) y args h c q k =
@@ -362,7 +436,11 @@ cell-sound p s a (Some (cells.Array vs)) y args h c q k = not_function-sound s.w
 cell-sound p s a (Some (cells.Text us)) y args h c q k = not_function-sound s.world
 cell-sound p s a (Some (cells.Bindings kind n o ns)) y args h c q k = not_function-sound s.world
 
-value-sound : (p : Program) (s : State) (f y : Value) (args : List Value) → SoundState p s → SoundValue s.world y → SoundValues s.world args → SoundAction s.world (call_value p s f y args)
+value-sound : (p : Program) (s : State) (f y : Value) (args : List Value)
+    → SoundState p s
+    → SoundValue s.world y
+    → SoundValues s.world args
+    → SoundAction s.world (call_value p s f y args)
 value-sound p s (values.Object a) y args h q k = cell-sound p s a (read_cell s.world a) y args h (λ c e. let i = h.world in read-sound s.world a c e i) q k
 value-sound p s values.Undefined y args h q k = not_function-sound s.world
 value-sound p s values.Null y args h q k = not_function-sound s.world
@@ -370,7 +448,10 @@ value-sound p s (values.Bool b) y args h q k = not_function-sound s.world
 value-sound p s (values.Number z) y args h q k = not_function-sound s.world
 value-sound p s (values.Text a) y args h q k = not_function-sound s.world
 
-pub call-sound : (p : Program) (s : State) (m : Mark) (vs : List Value) → SoundState p s → SoundValues s.world vs → SoundAction s.world (call_row p s m vs)
+pub call-sound : (p : Program) (s : State) (m : Mark) (vs : List Value)
+    → SoundState p s
+    → SoundValues s.world vs
+    → SoundAction s.world (call_row p s m vs)
 call-sound p s m [] h k = tt
 call-sound p s m (x ∷ []) h k = tt
 call-sound p s m (x ∷ f ∷ args) h k = value-sound p s f x args h k.0 k.1.1

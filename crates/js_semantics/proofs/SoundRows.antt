@@ -35,7 +35,10 @@ use Rattle.js_semantics.proofs.SoundCalls.{argument-sound, last_of-sound, is-sco
 
 -- ---- scripts, statements and blocks
 
-script-sound : (p : Program) (s : State) (number : ℕ) (names : List Binding) (later : Terms) → SoundState p s → SoundTerms s.world later → SoundAction s.world (script_row number names later)
+script-sound : (p : Program) (s : State) (number : ℕ) (names : List Binding) (later : Terms)
+    → SoundState p s
+    → SoundTerms s.world later
+    → SoundAction s.world (script_row number names later)
 script-sound p s number names end h k = tt
 script-sound p s number names (more t fs) h k =
     let b = h.built_ins in
@@ -51,10 +54,17 @@ enter-sound w node end h = tt
 enter-sound w node (more t ts) h = settle-sound w t h.0
 
 -- a scope around a part
-scoped-sound : (w : World) (t : Term) (a : Addr) → SoundTerm w t → SoundScope w (Some a) → SoundTerm w (settled (scoped a) (one t) end)
+scoped-sound : (w : World) (t : Term) (a : Addr)
+    → SoundTerm w t
+    → SoundScope w (Some a)
+    → SoundTerm w (settled (scoped a) (one t) end)
 scoped-sound w t a h s = settled-sound w (scoped a) (one t) end s (h, tt) tt
 
-block-sound : (w : World) (scope : Addr) (names : List Binding) (later : Terms) → SoundScope w (Some scope) → SoundNames w names → SoundTerms w later → SoundAction w (block_row scope names later)
+block-sound : (w : World) (scope : Addr) (names : List Binding) (later : Terms)
+    → SoundScope w (Some scope)
+    → SoundNames w names
+    → SoundTerms w later
+    → SoundAction w (block_row scope names later)
 block-sound w scope [] end s n h = tt
 block-sound w scope (b ∷ bs) end s n h = tt
 block-sound w scope [] (more t fs) s n h = settle-sound w t h.0
@@ -72,19 +82,28 @@ chosen-sound w false end h = tt
 chosen-sound w false (more a end) h = tt
 chosen-sound w false (more a (more b ts)) h = settle-sound w b h.1.0
 
-kept-sound : (w : World) (b : Bool) (v : Value) (later : Terms) → SoundValue w v → SoundTerms w later → SoundTerm w (kept_or b v later)
+kept-sound : (w : World) (b : Bool) (v : Value) (later : Terms)
+    → SoundValue w v
+    → SoundTerms w later
+    → SoundTerm w (kept_or b v later)
 kept-sound w true v end h k = h
 kept-sound w true v (more t ts) h k = k.0
 kept-sound w false v later h k = h
 
-otherwise-sound : (w : World) (b : Bool) (v : Value) (later : Terms) → SoundValue w v → SoundTerms w later → SoundTerm w (otherwise b v later)
+otherwise-sound : (w : World) (b : Bool) (v : Value) (later : Terms)
+    → SoundValue w v
+    → SoundTerms w later
+    → SoundTerm w (otherwise b v later)
 otherwise-sound w false v end h k = h
 otherwise-sound w false v (more t ts) h k = k.0
 otherwise-sound w true v later h k = h
 
 -- ---- loops
 
-turn-sound : (w : World) (b : Bool) (scope : Option Addr) (later : Terms) → SoundScope w scope → SoundTerms w later → SoundTerm w (turn_or_end b scope later)
+turn-sound : (w : World) (b : Bool) (scope : Option Addr) (later : Terms)
+    → SoundScope w scope
+    → SoundTerms w later
+    → SoundTerm w (turn_or_end b scope later)
 turn-sound w true scope later h k = at_body-sound w scope later h k
 turn-sound w false scope later h k = tt
 
@@ -97,7 +116,9 @@ copy-sound w (Some (cells.Array vs)) h = (tt, tt)
 copy-sound w (Some (cells.Function code n l s t)) h = (tt, tt)
 copy-sound w (Some (cells.Text us)) h = (tt, tt)
 
-copy-scope : (w : World) (o : Option Cell) (a : Addr) → Leads (λ k. k ≡ kind_of (copy_of o)) (read_cell w a) → SoundScope w (Some a)
+copy-scope : (w : World) (o : Option Cell) (a : Addr)
+    → Leads (λ k. k ≡ kind_of (copy_of o)) (read_cell w a)
+    → SoundScope w (Some a)
 copy-scope w None a h = is-scope w scopes.Block [] None [] a h
 copy-scope w (Some (cells.Bindings kind n o ns)) a h = is-scope w kind n o ns a h
 copy-scope w (Some (cells.Object ps)) a h = is-scope w scopes.Block [] None [] a h
@@ -106,10 +127,19 @@ copy-scope w (Some (cells.Array vs)) a h = is-scope w scopes.Block [] None [] a 
 copy-scope w (Some (cells.Function code n l s t)) a h = is-scope w scopes.Block [] None [] a h
 copy-scope w (Some (cells.Text us)) a h = is-scope w scopes.Block [] None [] a h
 
-copied-sound : (w : World) → IsSound w → (a : Addr) (k : Addr → Action) → ((v : World) → Later w v → (b : Addr) → SoundScope v (Some b) → SoundAction v (k b)) → SoundAction w (copied w a k)
+copied-sound : (w : World)
+    → IsSound w
+    → (a : Addr) (k : Addr → Action)
+    → ((v : World) → Later w v → (b : Addr) → SoundScope v (Some b) → SoundAction v (k b))
+    → SoundAction w (copied w a k)
 copied-sound w s a k t = (copy-sound w (read_cell w a) (λ c e. read-sound w a c e s), λ v b l e. t v l b (copy-scope v (read_cell w a) b e))
 
-loop-sound : (w : World) → IsSound w → (stage : Stage) (scope : Option Addr) (vs : List Value) (later : Terms) → SoundScope w scope → SoundTerms w later → SoundAction w (loop_row w stage scope vs later)
+loop-sound : (w : World)
+    → IsSound w
+    → (stage : Stage) (scope : Option Addr) (vs : List Value) (later : Terms)
+    → SoundScope w scope
+    → SoundTerms w later
+    → SoundAction w (loop_row w stage scope vs later)
 loop-sound w s testing scope vs later h k = turn-sound w (is_truthy w (only vs)) scope later h k
 loop-sound w s first (Some a) vs later h k = copied-sound w s a (λ b. go (at_test (Some b) later)) (λ v l b e. at_test-sound v (Some b) later e (sound-terms w v l later k))
 loop-sound w s body (Some a) vs later h k = copied-sound w s a (λ b. go (at_update (Some b) later)) (λ v l b e. at_update-sound v (Some b) later e (sound-terms w v l later k))
@@ -118,28 +148,45 @@ loop-sound w s body None vs later h k = tt
 loop-sound w s doing scope vs later h k = tt
 loop-sound w s updating scope vs later h k = tt
 
-for_in-sound : (w : World) (constant : Bool) (a : Addr) (later : Terms) → SoundScope w (Some a) → SoundTerms w later → SoundTerm w (for_in constant a later)
+for_in-sound : (w : World) (constant : Bool) (a : Addr) (later : Terms)
+    → SoundScope w (Some a)
+    → SoundTerms w later
+    → SoundTerm w (for_in constant a later)
 for_in-sound w true a end h k = tt
 for_in-sound w false a end h k = tt
 for_in-sound w true a (more t ts) h k = (h, (settled-sound w (loop first None) (one (settle t)) ts tt (settle-sound w t k.0, tt) k.1, tt), tt)
 for_in-sound w false a (more t ts) h k = settled-sound w (loop first (Some a)) (one (settle t)) ts h (settle-sound w t k.0, tt) k.1
 
-enter_for-sound : (w : World) (scope : Addr) (node : ℕ) (constant : Bool) (names : List Binding) (later : Terms) → SoundScope w (Some scope) → SoundNames w names → SoundTerms w later → SoundAction w (enter_for_row scope node constant names later)
+enter_for-sound : (w : World) (scope : Addr) (node : ℕ) (constant : Bool) (names : List Binding) (later : Terms)
+    → SoundScope w (Some scope)
+    → SoundNames w names
+    → SoundTerms w later
+    → SoundAction w (enter_for_row scope node constant names later)
 enter_for-sound w scope node constant names later s n h =
     new_scope-sound w scopes.Block [] scope names (λ a. go (for_in constant a later)) s n (λ v l a e. for_in-sound v constant a later e (sound-terms w v l later h))
 
-enter_for_of-sound : (w : World) (scope : Addr) (node : ℕ) (b : Binding) (later : Terms) → SoundScope w (Some scope) → SoundIfSome w b.value → SoundTerms w later → SoundAction w (enter_for_of_row scope node b later)
+enter_for_of-sound : (w : World) (scope : Addr) (node : ℕ) (b : Binding) (later : Terms)
+    → SoundScope w (Some scope)
+    → SoundIfSome w b.value
+    → SoundTerms w later
+    → SoundAction w (enter_for_of_row scope node b later)
 enter_for_of-sound w scope node b end s n h = tt
 enter_for_of-sound w scope node b (more t ts) s n h =
     new_scope-sound w scopes.Block [] scope (b ∷ []) (λ a. go (part (list_of b) (one (settled (scoped a) (one t) end)) ts)) s (n, tt)
     (λ v l a e. (sound_if_some w v l b.value n, (scoped-sound v t a (sound-term w v l t h.0) e, tt), sound-terms w v l ts h.1))
 
-list-sound : (w : World) (b : Binding) (x : Value) (later : Terms) → SoundIfSome w b.value → SoundValue w x → SoundTerms w later → SoundAction w (list_row w b x later)
+list-sound : (w : World) (b : Binding) (x : Value) (later : Terms)
+    → SoundIfSome w b.value
+    → SoundValue w x
+    → SoundTerms w later
+    → SoundAction w (list_row w b x later)
 list-sound w b x later n h k =
     choose_action w (is_array w x) (go (part (turn_of b 0) end (more (done x) later))) (fail classes.TypeError (codes "Value is not an array"))
     (n, tt, (h, k)) (fail-sound w classes.TypeError (codes "Value is not an array"))
 
-element-sound : (w : World) (o : Option Cell) (i : ℕ) → ((c : Cell) → o ≡ Some c → SoundCell w c) → SoundIfSome w (element_of o i)
+element-sound : (w : World) (o : Option Cell) (i : ℕ)
+    → ((c : Cell) → o ≡ Some c → SoundCell w c)
+    → SoundIfSome w (element_of o i)
 element-sound w None i h = tt
 element-sound w (Some (cells.Array vs)) i h = get-value w vs i (h (cells.Array vs) refl)
 element-sound w (Some (cells.Object ps)) i h = tt
@@ -164,7 +211,12 @@ body_part-sound w end h = tt
 body_part-sound w (more t end) h = tt
 body_part-sound w (more t (more u ts)) h = h.1.0
 
-turn_row-sound : (w : World) (scope : Addr) (b : Binding) (i : ℕ) (o : Option Value) (later : Terms) → SoundScope w (Some scope) → SoundIfSome w b.value → SoundIfSome w o → SoundTerms w later → SoundAction w (turn_row scope b i o later)
+turn_row-sound : (w : World) (scope : Addr) (b : Binding) (i : ℕ) (o : Option Value) (later : Terms)
+    → SoundScope w (Some scope)
+    → SoundIfSome w b.value
+    → SoundIfSome w o
+    → SoundTerms w later
+    → SoundAction w (turn_row scope b i o later)
 turn_row-sound w scope b i None later s n h k = tt
 turn_row-sound w scope b i (Some x) later s n h k =
     new_scope-sound w scopes.Block [] scope (record b { value = Some x } ∷ []) (λ a. go (settled (body_of b (i + 1)) (one (settled (scoped a) (one (body_part later)) end)) later)) s (h, tt)
@@ -184,28 +236,46 @@ comma-sound w end h = tt
 comma-sound w (more t end) h = h.0
 comma-sound w (more t (more u ts)) h = (tt, (h.0, tt), h.1)
 
-compound-sound : (w : World) → IsSound w → HasBuiltIns w → (scope : Addr) (o : BinaryOperator) (r : Reference) (vs : List Value) (later : Terms) → SoundValues w vs → SoundTerms w later → SoundAction w (compound_row w scope o r vs later)
+compound-sound : (w : World)
+    → IsSound w
+    → HasBuiltIns w
+    → (scope : Addr) (o : BinaryOperator) (r : Reference) (vs : List Value) (later : Terms)
+    → SoundValues w vs
+    → SoundTerms w later
+    → SoundAction w (compound_row w scope o r vs later)
 compound-sound w s b scope o r vs end h k = tt
 compound-sound w s b scope o r vs (more e ts) h k =
     get-sound w s b scope r vs (λ old. go (part (assign r) (joined (dones vs) (one (part (binary o) (more (done old) (one e)) end))) end))
     (λ v l x q. (tt, joined-sound v (dones vs) (one (part (binary o) (more (done x) (one e)) end)) (dones-sound v vs (sound_values w v l vs h)) ((tt, (q, (sound-term w v l e k.0, tt)), tt), tt), tt))
 
-update_value-sound : (w : World) (b : Bool) (x y : Value) → SoundValue w x → SoundValue w y → SoundValue w (update_value b x y)
+update_value-sound : (w : World) (b : Bool) (x y : Value)
+    → SoundValue w x
+    → SoundValue w y
+    → SoundValue w (update_value b x y)
 update_value-sound w true x y h k = k
 update_value-sound w false x y h k = h
 
-updated_by-sound : (w : World) (o : UpdateOperator) (r : Result) (k : Value → Value → Action) → SoundResult w r → ((x : Value) → SoundValue w x → SoundK w (k x)) → SoundAction w (updated_by o r k)
+updated_by-sound : (w : World) (o : UpdateOperator) (r : Result) (k : Value → Value → Action)
+    → SoundResult w r
+    → ((x : Value) → SoundValue w x → SoundK w (k x))
+    → SoundAction w (updated_by o r k)
 updated_by-sound w o (a_value x) k h s = with_result-sound w (update_result o x) (k x) (update-sound w o x) (s x h)
 updated_by-sound w o (a_text us) k h s = with_result-sound w not_numbers give tt (give-sound w)
 updated_by-sound w o (an_error class message) k h s = fail-sound w class message
 
-update_row-sound : (w : World) → IsSound w → HasBuiltIns w → (scope : Addr) (o : UpdateOperator) (prefix : Bool) (r : Reference) (vs : List Value) → SoundAction w (update_row w scope o prefix r vs)
+update_row-sound : (w : World)
+    → IsSound w
+    → HasBuiltIns w
+    → (scope : Addr) (o : UpdateOperator) (prefix : Bool) (r : Reference) (vs : List Value)
+    → SoundAction w (update_row w scope o prefix r vs)
 update_row-sound w s b scope o prefix r vs =
     updated_by-sound w o (read_result w scope r vs) (λ old new. put w scope r vs new (give (update_value prefix old new))) (read_result-sound w s b scope r vs)
     (λ x q u m y t. put-sound w u scope r vs y (give (update_value prefix x y)) t
     (λ z n. sound-value u z n (update_value prefix x y) (update_value-sound u prefix x y (sound-value w u m x q) t)))
 
-assign-sound : (w : World) (scope : Addr) (r : Reference) (vs : List Value) → SoundValues w vs → SoundAction w (assign_row w scope r vs)
+assign-sound : (w : World) (scope : Addr) (r : Reference) (vs : List Value)
+    → SoundValues w vs
+    → SoundAction w (assign_row w scope r vs)
 assign-sound w scope r vs h =
     put-sound w w scope r vs (last_of vs) (give (last_of vs)) (last_of-sound w vs h) (λ v l. sound-value w v l (last_of vs) (last_of-sound w vs h))
 
@@ -214,7 +284,13 @@ callee_this-sound w (to_name n) vs h = tt
 callee_this-sound w (to_member key) vs h = argument-sound w vs 0 h
 callee_this-sound w to_index vs h = argument-sound w vs 0 h
 
-callee-sound : (w : World) → IsSound w → HasBuiltIns w → (scope : Addr) (r : Reference) (m : Mark) (node : ℕ) (vs : List Value) (later : Terms) → SoundValues w vs → SoundTerms w later → SoundAction w (callee_row w scope r m node vs later)
+callee-sound : (w : World)
+    → IsSound w
+    → HasBuiltIns w
+    → (scope : Addr) (r : Reference) (m : Mark) (node : ℕ) (vs : List Value) (later : Terms)
+    → SoundValues w vs
+    → SoundTerms w later
+    → SoundAction w (callee_row w scope r m node vs later)
 callee-sound w s b scope r m node vs later h k =
     get-sound w s b scope r vs (λ f. go (part (call m node) (more (done (callee_this r vs)) (more (done f) later)) end))
     (λ v l x q. (tt, (sound-value w v l (callee_this r vs) (callee_this-sound w r vs h), (q, sound-terms w v l later k)), tt))
@@ -225,11 +301,18 @@ abbrev SoundMade : World → Option (List Property) → Type 0
 SoundMade w None = Unit {0}
 SoundMade w (Some ps) = SoundProperties w ps
 
-computed-sound : (w : World) (o : Option (List ℕ)) (ps : List Property) (x : Value) (k : List Property → Option (List Property)) → SoundProperties w ps → SoundValue w x → ((qs : List Property) → SoundProperties w qs → SoundMade w (k qs)) → SoundMade w (with_computed o ps x k)
+computed-sound : (w : World) (o : Option (List ℕ)) (ps : List Property) (x : Value) (k : List Property → Option (List Property))
+    → SoundProperties w ps
+    → SoundValue w x
+    → ((qs : List Property) → SoundProperties w qs → SoundMade w (k qs))
+    → SoundMade w (with_computed o ps x k)
 computed-sound w None ps x k h q t = tt
 computed-sound w (Some key) ps x k h q t = t (put_property ps key x) (put_sound w ps key x h q)
 
-properties-sound : (w : World) (ps : List Property) (ms : List Member) (vs : List Value) → SoundProperties w ps → SoundValues w vs → SoundMade w (properties_from w ps ms vs)
+properties-sound : (w : World) (ps : List Property) (ms : List Member) (vs : List Value)
+    → SoundProperties w ps
+    → SoundValues w vs
+    → SoundMade w (properties_from w ps ms vs)
 properties-sound w ps [] vs h k = h
 properties-sound w ps (keyed key ∷ ms) [] h k = h
 properties-sound w ps (keyed key ∷ ms) (x ∷ vs) h k = properties-sound w (put_property ps key x) ms vs (put_sound w ps key x h k.0) k.1
@@ -242,10 +325,17 @@ made-sound : (w : World) (o : Option (List Property)) → SoundMade w o → Soun
 made-sound w None h = fail-sound w classes.TypeError (codes "Property key must be a string or a number")
 made-sound w (Some ps) h = make_object-sound w (cells.Object ps) h tt
 
-is-object : (w : World) (f : FunctionForm) (name : List ℕ) (scope : Addr) (a : Addr) → Leads (λ k. k ≡ kind_of (function_cell f name scope values.Undefined)) (read_cell w a) → SoundValue w (values.Object a)
+is-object : (w : World) (f : FunctionForm) (name : List ℕ) (scope : Addr) (a : Addr)
+    → Leads (λ k. k ≡ kind_of (function_cell f name scope values.Undefined)) (read_cell w a)
+    → SoundValue w (values.Object a)
 is-object w f name scope a h = leads-as IsObjectKind (function_cell f name scope values.Undefined) (read_cell w a) tt h
 
-method-sound : (w : World) (scope : Addr) (ms : List Member) (vs : List Value) (f : FunctionForm) (now ts : Terms) → SoundScope w (Some scope) → SoundValues w vs → SoundTerms w now → SoundTerms w ts → (key : List ℕ) →
+method-sound : (w : World) (scope : Addr) (ms : List Member) (vs : List Value) (f : FunctionForm) (now ts : Terms)
+    → SoundScope w (Some scope)
+    → SoundValues w vs
+    → SoundTerms w now
+    → SoundTerms w ts
+    → (key : List ℕ) →
     SoundAction w (make (function_cell f key scope values.Undefined) (λ a. go (part (object ms) (joined (dones vs) (more (done (values.Object a)) now)) ts)))
 method-sound w scope ms vs f now ts s h n k key = (
   (s, tt),
@@ -257,7 +347,11 @@ method-sound w scope ms vs f now ts s h n k key = (
   ),
 )
 
-object-sound : (w : World) (scope : Addr) (ms : List Member) (vs : List Value) (later : Terms) → SoundScope w (Some scope) → SoundValues w vs → SoundTerms w later → SoundAction w (object_row w scope ms vs later)
+object-sound : (w : World) (scope : Addr) (ms : List Member) (vs : List Value) (later : Terms)
+    → SoundScope w (Some scope)
+    → SoundValues w vs
+    → SoundTerms w later
+    → SoundAction w (object_row w scope ms vs later)
 object-sound w scope ms vs end s h k = made-sound w (properties_from w [] ms vs) (properties-sound w [] ms vs tt h)
 object-sound w scope ms vs (more (part (method f) now later) ts) s h k =
     with_key-sound w (key_of w (last_of vs)) (λ key. make (function_cell f key scope values.Undefined) (λ a. go (part (object ms) (joined (dones vs) (more (done (values.Object a)) now)) ts)))
@@ -270,7 +364,13 @@ ending-sound : (w : World) (o : Option Completion) → SoundKept w o → SoundAc
 ending-sound w None h = tt
 ending-sound w (Some c) h = h
 
-pub row-sound : (p : Program) (s : State) (scope : Addr) (f : Form) (vs : List Value) (later : Terms) → SoundState p s → SoundScope s.world (Some scope) → SoundForm s.world f → SoundValues s.world vs → SoundTerms s.world later → SoundAction s.world (row p s scope f vs later)
+pub row-sound : (p : Program) (s : State) (scope : Addr) (f : Form) (vs : List Value) (later : Terms)
+    → SoundState p s
+    → SoundScope s.world (Some scope)
+    → SoundForm s.world f
+    → SoundValues s.world vs
+    → SoundTerms s.world later
+    → SoundAction s.world (row p s scope f vs later)
 row-sound p s scope (script number names) vs later h o n k t = script-sound p s number names later h t
 row-sound p s scope (enter node) vs later h o n k t = enter-sound s.world node later t
 row-sound p s scope (enter_debugger node) vs later h o n k t = enter-sound s.world node later t
@@ -309,7 +409,11 @@ row-sound p s scope _ vs later h o n k t = last_of-sound s.world vs k
 
 -- ---- THE TABLE OF COMPLETIONS
 
-catch-sound : (w : World) (scope : Addr) (n : Option (List ℕ)) (x : Value) (later : Terms) → SoundScope w (Some scope) → SoundValue w x → SoundTerms w later → SoundAction w (catch_row scope n x later)
+catch-sound : (w : World) (scope : Addr) (n : Option (List ℕ)) (x : Value) (later : Terms)
+    → SoundScope w (Some scope)
+    → SoundValue w x
+    → SoundTerms w later
+    → SoundAction w (catch_row scope n x later)
 catch-sound w scope None x end s h k = tt
 catch-sound w scope (Some n) x end s h k = tt
 catch-sound w scope None x (more t ts) s h k = settle-sound w t k.0
@@ -317,7 +421,12 @@ catch-sound w scope (Some n) x (more t ts) s h k =
     new_scope-sound w scopes.Catch [] scope (record { name = n; constant = false; value = Some x } ∷ []) (λ a. go (settled (scoped a) (one (settle t)) end)) s (h, tt)
     (λ v l a e. scoped-sound v (settle t) a (sound-term w v l (settle t) (settle-sound w t k.0)) e)
 
-pub taken-sound : (w : World) (scope : Addr) (f : Form) (c : Completion) (later : Terms) → SoundScope w (Some scope) → SoundForm w f → SoundCompletion w c → SoundTerms w later → SoundAction w (taken scope f c later)
+pub taken-sound : (w : World) (scope : Addr) (f : Form) (c : Completion) (later : Terms)
+    → SoundScope w (Some scope)
+    → SoundForm w f
+    → SoundCompletion w c
+    → SoundTerms w later
+    → SoundAction w (taken scope f c later)
 taken-sound w scope (catching n) (throws x m) later s g h k = catch-sound w scope n x later s h k
 taken-sound w scope (catching n) (returns x) later s g h k = h
 taken-sound w scope (catching n) breaks later s g h k = tt

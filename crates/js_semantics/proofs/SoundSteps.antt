@@ -30,23 +30,42 @@ SoundWalked p s (moved m) = SoundMoves p m
 later_of : (s t : State) → Follows s t → Later s.world t.world
 later_of s t h = let k = h.cells in k.kinds
 
-value-in : (p : Program) (s : State) (v : Value) (m : Move Terms) → SoundValue s.world v → MoveFollows s m → SoundMoves p m → SoundMoves p (inside (λ ts. more (done v) ts) m)
+value-in : (p : Program) (s : State) (v : Value) (m : Move Terms)
+    → SoundValue s.world v
+    → MoveFollows s m
+    → SoundMoves p m
+    → SoundMoves p (inside (λ ts. more (done v) ts) m)
 value-in p s v (goes ts t told) h f k = (k.0, (sound-value s.world t.world (later_of s t f) v h, k.1))
 value-in p s v (travels c t) h f k = k
 value-in p s v (has_effect t) h f k = k
 value-in p s v (is_full what t) h f k = k
 
-with_value-sound : (p : Program) (s : State) (v : Value) (x : Walked) → SoundValue s.world v → WalkFollows s x → SoundWalked p s x → SoundWalked p s (with_value v x)
+with_value-sound : (p : Program) (s : State) (v : Value) (x : Walked)
+    → SoundValue s.world v
+    → WalkFollows s x
+    → SoundWalked p s x
+    → SoundWalked p s (with_value v x)
 with_value-sound p s v (all_values vs) h f k = (h, k)
 with_value-sound p s v (moved m) h f k = value-in p s v m h f k
 
-inside-sound : (p : Program) (s : State) (ts : Terms) (m : Move Term) → SoundTerms s.world ts → MoveFollows s m → SoundMove p m → SoundMoves p (inside (λ t. more t ts) m)
+inside-sound : (p : Program) (s : State) (ts : Terms) (m : Move Term)
+    → SoundTerms s.world ts
+    → MoveFollows s m
+    → SoundMove p m
+    → SoundMoves p (inside (λ t. more t ts) m)
 inside-sound p s ts (goes x t told) h f k = (k.0, (k.1, sound-terms s.world t.world (later_of s t f) ts h))
 inside-sound p s ts (travels c t) h f k = k
 inside-sound p s ts (has_effect t) h f k = k
 inside-sound p s ts (is_full what t) h f k = k
 
-around-sound : (p : Program) (scope : Addr) (f : Form) (later : Terms) (s : State) (x : Walked) → SoundState p s → SoundScope s.world (Some scope) → SoundForm s.world f → SoundTerms s.world later → WalkFollows s x → SoundWalked p s x → SoundMove p (around p scope f later s x)
+around-sound : (p : Program) (scope : Addr) (f : Form) (later : Terms) (s : State) (x : Walked)
+    → SoundState p s
+    → SoundScope s.world (Some scope)
+    → SoundForm s.world f
+    → SoundTerms s.world later
+    → WalkFollows s x
+    → SoundWalked p s x
+    → SoundMove p (around p scope f later s x)
 around-sound p scope f later s (all_values vs) h o n k g q = perform-sound p (row p s scope f vs later) s h (row-sound p s scope f vs later h o n q k)
 around-sound p scope f later s (moved (goes now t told)) h o n k g q =
     let l = later_of s t g in
@@ -59,7 +78,10 @@ around-sound p scope f later s (moved (has_effect t)) h o n k g q = q
 around-sound p scope f later s (moved (is_full what t)) h o n k g q = q
 
 -- the scope in which a form's parts are is live
-inner-sound : (w : World) (f : Form) (scope : Addr) → SoundForm w f → SoundScope w (Some scope) → SoundScope w (Some (scope_in f scope))
+inner-sound : (w : World) (f : Form) (scope : Addr)
+    → SoundForm w f
+    → SoundScope w (Some scope)
+    → SoundScope w (Some (scope_in f scope))
 inner-sound w (scoped a) scope h o = h
 inner-sound w (frame node a) scope h o = h
 inner-sound w (loop stage (Some a)) scope h o = h
@@ -67,14 +89,22 @@ inner-sound w (loop stage None) scope h o = o
 inner-sound w f scope h o = o
 
 mutual
-  pub next-sound : (p : Program) (scope : Addr) (t : Term) (s : State) → SoundState p s → SoundScope s.world (Some scope) → SoundTerm s.world t → SoundMove p (next p scope t s)
+  pub next-sound : (p : Program) (scope : Addr) (t : Term) (s : State)
+      → SoundState p s
+      → SoundScope s.world (Some scope)
+      → SoundTerm s.world t
+      → SoundMove p (next p scope t s)
   next-sound p scope (done v) s h o k = (h, k)
   next-sound p scope (standing v place) s h o k = (h, k)
   next-sound p scope (part f now later) s h o k =
       around-sound p scope f later s (walk p (scope_in f scope) now s) h o k.0 k.2 (walk-follows p (scope_in f scope) now s)
       (walk-sound p (scope_in f scope) now s h (inner-sound s.world f scope k.0 o) k.1)
 
-  walk-sound : (p : Program) (scope : Addr) (ts : Terms) (s : State) → SoundState p s → SoundScope s.world (Some scope) → SoundTerms s.world ts → SoundWalked p s (walk p scope ts s)
+  walk-sound : (p : Program) (scope : Addr) (ts : Terms) (s : State)
+      → SoundState p s
+      → SoundScope s.world (Some scope)
+      → SoundTerms s.world ts
+      → SoundWalked p s (walk p scope ts s)
   walk-sound p scope end s h o k = tt
   walk-sound p scope (more (done v) ts) s h o k = with_value-sound p s v (walk p scope ts s) k.0 (walk-follows p scope ts s) (walk-sound p scope ts s h o k.1)
   walk-sound p scope (more (standing v place) ts) s h o k = (h, k.0)
@@ -100,11 +130,17 @@ after-sound p (travels c s) h = (h.0, outermost-sound s.world c h.1)
 after-sound p (has_effect s) h = (h, tt)
 after-sound p (is_full what s) h = (h, tt)
 
-pub step-sound : (p : Program) (scope : Addr) (r : Run) → SoundScope (state_of r).world (Some scope) → SoundRun p r → SoundRun p (step_in p scope r)
+pub step-sound : (p : Program) (scope : Addr) (r : Run)
+    → SoundScope (state_of r).world (Some scope)
+    → SoundRun p r
+    → SoundRun p (step_in p scope r)
 step-sound p scope (running t s) o h = after-sound p (next p scope t s) (next-sound p scope t s h.0 o h.1)
 step-sound p scope (over f s) o h = h
 
-pub steps-sound : (k : ℕ) (p : Program) (scope : Addr) (r : Run) → SoundScope (state_of r).world (Some scope) → SoundRun p r → SoundRun p (steps_in k p scope r)
+pub steps-sound : (k : ℕ) (p : Program) (scope : Addr) (r : Run)
+    → SoundScope (state_of r).world (Some scope)
+    → SoundRun p r
+    → SoundRun p (steps_in k p scope r)
 steps-sound zero p scope r o h = h
 steps-sound (suc k) p scope r o h =
     let q : Run = step_in p scope r in

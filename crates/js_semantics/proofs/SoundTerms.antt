@@ -75,7 +75,11 @@ sound-built_ins w v l h = record {
 }
 
 -- the state with a later sound world
-state_later : (p : Program) (s : State) (v : World) → Later s.world v → IsSound v → SoundState p s → SoundState p (with_world s v)
+state_later : (p : Program) (s : State) (v : World)
+    → Later s.world v
+    → IsSound v
+    → SoundState p s
+    → SoundState p (with_world s v)
 state_later p s v l sound h = record {
   world = sound;
   built_ins = sound-built_ins s.world v l h.built_ins;
@@ -122,28 +126,47 @@ either-sound : (w : World) (b : Bool) (t u : Term) → SoundTerm w t → SoundTe
 either-sound w true t u h k = h
 either-sound w false t u h k = k
 
-pub at_test-sound : (w : World) (scope : Option Addr) (later : Terms) → SoundScope w scope → SoundTerms w later → SoundTerm w (at_test scope later)
+pub at_test-sound : (w : World) (scope : Option Addr) (later : Terms)
+    → SoundScope w scope
+    → SoundTerms w later
+    → SoundTerm w (at_test scope later)
 at_test-sound w scope later h k = (h, one-sound w (test_of later) (test-sound w later k), k)
 
-pub at_update-sound : (w : World) (scope : Option Addr) (later : Terms) → SoundScope w scope → SoundTerms w later → SoundTerm w (at_update scope later)
+pub at_update-sound : (w : World) (scope : Option Addr) (later : Terms)
+    → SoundScope w scope
+    → SoundTerms w later
+    → SoundTerm w (at_update scope later)
 at_update-sound w scope later h k =
     either-sound w (is_done (update_of later)) (at_test scope later) (part (loop updating scope) (one (update_of later)) later)
     (at_test-sound w scope later h k) (h, one-sound w (update_of later) (update-sound w later k), k)
 
-behind_body-sound : (w : World) (scope : Option Addr) (later : Terms) → SoundScope w scope → SoundTerms w later → SoundTerm w (behind_body scope later)
+behind_body-sound : (w : World) (scope : Option Addr) (later : Terms)
+    → SoundScope w scope
+    → SoundTerms w later
+    → SoundTerm w (behind_body scope later)
 behind_body-sound w None later h k = at_update-sound w None later tt k
 behind_body-sound w (Some a) later h k = (h, tt, k)
 
-pub at_body-sound : (w : World) (scope : Option Addr) (later : Terms) → SoundScope w scope → SoundTerms w later → SoundTerm w (at_body scope later)
+pub at_body-sound : (w : World) (scope : Option Addr) (later : Terms)
+    → SoundScope w scope
+    → SoundTerms w later
+    → SoundTerm w (at_body scope later)
 at_body-sound w scope later h k =
     either-sound w (is_done (body_of_loop later)) (behind_body scope later) (part (loop body scope) (one (body_of_loop later)) later)
     (behind_body-sound w scope later h k) (h, one-sound w (body_of_loop later) (body-sound w later k), k)
 
-behind_first-sound : (w : World) (scope : Option Addr) (later : Terms) → SoundScope w scope → SoundTerms w later → SoundTerm w (behind_first scope later)
+behind_first-sound : (w : World) (scope : Option Addr) (later : Terms)
+    → SoundScope w scope
+    → SoundTerms w later
+    → SoundTerm w (behind_first scope later)
 behind_first-sound w None later h k = at_test-sound w None later tt k
 behind_first-sound w (Some a) later h k = (h, tt, k)
 
-finished-sound : (w : World) (f : Form) (now later : Terms) → SoundForm w f → SoundTerms w now → SoundTerms w later → SoundTerm w (finished f now later)
+finished-sound : (w : World) (f : Form) (now later : Terms)
+    → SoundForm w f
+    → SoundTerms w now
+    → SoundTerms w later
+    → SoundTerm w (finished f now later)
 finished-sound w scripts now later h n k = tt
 finished-sound w sequence now later h n k = tt
 finished-sound w (scoped a) now later h n k = last-sound w values.Undefined now tt n
@@ -159,7 +182,11 @@ finished-sound w (ending None) now later h n k = tt
 finished-sound w (ending (Some c)) now later h n k = (h, n, k)
 finished-sound w f now later h n k = (h, n, k)
 
-pub settled-sound : (w : World) (f : Form) (now later : Terms) → SoundForm w f → SoundTerms w now → SoundTerms w later → SoundTerm w (settled f now later)
+pub settled-sound : (w : World) (f : Form) (now later : Terms)
+    → SoundForm w f
+    → SoundTerms w now
+    → SoundTerms w later
+    → SoundTerm w (settled f now later)
 settled-sound w f now later h n k = either-sound w (all_done now) (finished f now later) (part f now later) (finished-sound w f now later h n k) (h, n, k)
 
 pub settle-sound : (w : World) (t : Term) → SoundTerm w t → SoundTerm w (settle t)
@@ -174,17 +201,28 @@ SoundTried p s (fine a w) P = SoundState p (with_world s w) × P a w
 SoundTried p s effect P = Unit {0}
 SoundTried p s (full what) P = Unit {0}
 
-full_sound : (p : Program) (b : Bool) (what : Counted) (s : State) → SoundState p s → SoundMove p (if b then is_full what s else raised_at (values.Object heap_full_error) s)
+full_sound : (p : Program) (b : Bool) (what : Counted) (s : State)
+    → SoundState p s
+    → SoundMove p (if b then is_full what s else raised_at (values.Object heap_full_error) s)
 full_sound p true what s h = h
 full_sound p false what s h = let e = h.built_ins in (h, e.full_error)
 
-after_sound : {A : Type 0} (p : Program) (s : State) (t : Tried A) (k : A → State → Move Term) (P : A → World → Type 0) → SoundState p s → SoundTried p s t P → ((a : A) (v : World) → P a v → SoundState p (with_world s v) → SoundMove p (k a (with_world s v))) → SoundMove p (after t s k)
+after_sound : {A : Type 0} (p : Program) (s : State) (t : Tried A) (k : A → State → Move Term) (P : A → World → Type 0)
+    → SoundState p s
+    → SoundTried p s t P
+    → ((a : A) (v : World) → P a v → SoundState p (with_world s v) → SoundMove p (k a (with_world s v)))
+    → SoundMove p (after t s k)
 after_sound p s (fine a v) k P h t rest = rest a v t.1 t.0
 after_sound p s effect k P h t rest = h
 after_sound p s (full what) k P h t rest = full_sound p (is_evaluation s.world) what s h
 
 -- what a call on the world answers: a later sound world
-tried : {A : Type 0} (p : Program) (s : State) (t : Tried A) (P : A → World → Type 0) → SoundState p s → AfterFine t (λ a v. Keeps s.world v) → AfterFine t (λ a v. IsSound v) → AfterFine t P → SoundTried p s t (λ a v. Later s.world v × P a v)
+tried : {A : Type 0} (p : Program) (s : State) (t : Tried A) (P : A → World → Type 0)
+    → SoundState p s
+    → AfterFine t (λ a v. Keeps s.world v)
+    → AfterFine t (λ a v. IsSound v)
+    → AfterFine t P
+    → SoundTried p s t (λ a v. Later s.world v × P a v)
 tried p s (fine a v) P h keeps sound extra = let l = keeps.kinds in (state_later p s v l sound h, (l, extra))
 tried p s effect P h keeps sound extra = tt
 tried p s (full what) P h keeps sound extra = tt
@@ -202,11 +240,17 @@ frames-moved : (w : World) (fs : List Frame) (m : _) → SoundFrames w fs → So
 frames-moved w [] m h = tt
 frames-moved w (f ∷ fs) m h = h
 
-outside_sound : (p : Program) (b : Bool) (s : State) (m : Move Term) → SoundState p s → SoundMove p m → SoundMove p (if b then has_effect s else m)
+outside_sound : (p : Program) (b : Bool) (s : State) (m : Move Term)
+    → SoundState p s
+    → SoundMove p m
+    → SoundMove p (if b then has_effect s else m)
 outside_sound p true s m h k = h
 outside_sound p false s m h k = k
 
-pub perform-sound : (p : Program) (a : Action) (s : State) → SoundState p s → SoundAction s.world a → SoundMove p (perform a s)
+pub perform-sound : (p : Program) (a : Action) (s : State)
+    → SoundState p s
+    → SoundAction s.world a
+    → SoundMove p (perform a s)
 perform-sound p (go t) s h k = (h, k)
 perform-sound p (raise v) s h k = (h, k)
 perform-sound p (leave c) s h k = (h, k)

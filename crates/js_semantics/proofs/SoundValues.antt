@@ -46,14 +46,20 @@ SoundThen w k = (v : World) → Later w v → SoundAction v k
 pub give-sound : (w : World) → SoundK w give
 give-sound w v l x h = h
 
-pub leads-as : (P : Kind → Type 0) (c : Cell) (o : Option Cell) → P (kind_of c) → Leads (λ k. k ≡ kind_of c) o → Leads P o
+pub leads-as : (P : Kind → Type 0) (c : Cell) (o : Option Cell)
+    → P (kind_of c)
+    → Leads (λ k. k ≡ kind_of c) o
+    → Leads P o
 leads-as P c None p h = absurd h
 leads-as P c (Some d) p h = subst P (sym h) p
 
 pub make_text-sound : (w : World) (us : List ℕ) (k : Value → Action) → SoundK w k → SoundAction w (make_text us k)
 make_text-sound w us k h = (tt, λ v a l e. h v l (values.Text a) (leads-as IsTextKind (cells.Text us) (read_cell v a) refl e))
 
-pub make_object-sound : (w : World) (c : Cell) → SoundCell w c → IsObjectKind (kind_of c) → SoundAction w (make c (λ a. give (values.Object a)))
+pub make_object-sound : (w : World) (c : Cell)
+    → SoundCell w c
+    → IsObjectKind (kind_of c)
+    → SoundAction w (make c (λ a. give (values.Object a)))
 make_object-sound w c h p = (h, λ v a l e. leads-as IsObjectKind c (read_cell v a) p e)
 
 pub fail-sound : (w : World) (class : ErrorClass) (message : List ℕ) → SoundAction w (fail class message)
@@ -72,12 +78,18 @@ SoundResult w (a_value v) = SoundValue w v
 SoundResult w (a_text us) = Unit {0}
 SoundResult w (an_error class message) = Unit {0}
 
-pub with_result-sound : (w : World) (r : Result) (k : Value → Action) → SoundResult w r → SoundK w k → SoundAction w (with_result r k)
+pub with_result-sound : (w : World) (r : Result) (k : Value → Action)
+    → SoundResult w r
+    → SoundK w k
+    → SoundAction w (with_result r k)
 with_result-sound w (a_value v) k h s = s w (later-same w) v h
 with_result-sound w (a_text us) k h s = make_text-sound w us k s
 with_result-sound w (an_error class message) k h s = fail-sound w class message
 
-pub result_if : (w : World) (b : Bool) (r q : Result) → SoundResult w r → SoundResult w q → SoundResult w (if b then r else q)
+pub result_if : (w : World) (b : Bool) (r q : Result)
+    → SoundResult w r
+    → SoundResult w q
+    → SoundResult w (if b then r else q)
 result_if w true r q h k = h
 result_if w false r q h k = k
 
@@ -171,15 +183,23 @@ abbrev SoundProperty : World → Option Property → Type 0
 SoundProperty w None = Unit {0}
 SoundProperty w (Some p) = SoundValue w p.value
 
-property_if : (w : World) (b : Bool) (p : Property) (o : Option Property) → SoundValue w p.value → SoundProperty w o → SoundProperty w (if b then Some p else o)
+property_if : (w : World) (b : Bool) (p : Property) (o : Option Property)
+    → SoundValue w p.value
+    → SoundProperty w o
+    → SoundProperty w (if b then Some p else o)
 property_if w true p o h k = h
 property_if w false p o h k = k
 
-property_at-sound : (w : World) (ps : List Property) (key : List ℕ) → SoundProperties w ps → SoundProperty w (property_at ps key)
+property_at-sound : (w : World) (ps : List Property) (key : List ℕ)
+    → SoundProperties w ps
+    → SoundProperty w (property_at ps key)
 property_at-sound w [] key h = tt
 property_at-sound w (p ∷ ps) key h = property_if w (same_units p.key key) p (property_at ps key) h.0 (property_at-sound w ps key h.1)
 
-own_or-sound : (w : World) (o : Option Property) (r : Result) → SoundProperty w o → SoundResult w r → SoundResult w (own_or o r)
+own_or-sound : (w : World) (o : Option Property) (r : Result)
+    → SoundProperty w o
+    → SoundResult w r
+    → SoundResult w (own_or o r)
 own_or-sound w (Some p) r h k = h
 own_or-sound w None r h k = k
 
@@ -188,7 +208,10 @@ get-value w [] i h = tt
 get-value w (v ∷ vs) zero h = h.0
 get-value w (v ∷ vs) (suc i) h = get-value w vs i h.1
 
-value_or-sound : (w : World) (o : Option Value) (r : Result) → SoundIfSome w o → SoundResult w r → SoundResult w (value_or o r)
+value_or-sound : (w : World) (o : Option Value) (r : Result)
+    → SoundIfSome w o
+    → SoundResult w r
+    → SoundResult w (value_or o r)
 value_or-sound w (Some v) r h k = h
 value_or-sound w None r h k = k
 
@@ -214,7 +237,11 @@ string_method-sound w b key =
     (result_if w (same_units key (codes "slice")) (a_value (function_value built_ins.StringSlice)) unit (b.functions built_ins.StringSlice)
     (result_if w (same_units key (codes "charCodeAt")) (a_value (function_value built_ins.StringCharCodeAt)) n (b.functions built_ins.StringCharCodeAt) tt))
 
-element-sound : (w : World) → HasBuiltIns w → (vs : List Value) (key : List ℕ) (o : Option ℕ) → SoundValues w vs → SoundResult w (element_or_method vs key o)
+element-sound : (w : World)
+    → HasBuiltIns w
+    → (vs : List Value) (key : List ℕ) (o : Option ℕ)
+    → SoundValues w vs
+    → SoundResult w (element_or_method vs key o)
 element-sound w b vs key (Some i) h = value_or-sound w (slice_get vs i) (a_value values.Undefined) (get-value w vs i h) tt
 element-sound w b vs key None h = result_if w (same_units key (codes "length")) (a_number (pos (length vs))) (array_method key) tt (array_method-sound w b key)
 
@@ -222,7 +249,10 @@ unit-sound : (w : World) (o : Option ℕ) → SoundResult w (unit_or_undefined o
 unit-sound w (Some u) = tt
 unit-sound w None = tt
 
-text_property-sound : (w : World) → HasBuiltIns w → (us key : List ℕ) (o : Option ℕ) → SoundResult w (unit_or_method us key o)
+text_property-sound : (w : World)
+    → HasBuiltIns w
+    → (us key : List ℕ) (o : Option ℕ)
+    → SoundResult w (unit_or_method us key o)
 text_property-sound w b us key (Some i) = unit-sound w (slice_get us i)
 text_property-sound w b us key None = result_if w (same_units key (codes "length")) (a_number (pos (length us))) (string_method key) tt (string_method-sound w b key)
 
@@ -236,7 +266,11 @@ error_property-sound w class key =
     let rest : Result = if same_units key (codes "message") then a_text [] else a_value values.Undefined in
     result_if w (same_units key (codes "name")) (a_text (class_text class)) rest tt (result_if w (same_units key (codes "message")) (a_text []) (a_value values.Undefined) tt tt)
 
-cell_property-sound : (w : World) → HasBuiltIns w → (o : Option Cell) (key : List ℕ) → ((c : Cell) → o ≡ Some c → SoundCell w c) → SoundResult w (cell_property o key)
+cell_property-sound : (w : World)
+    → HasBuiltIns w
+    → (o : Option Cell) (key : List ℕ)
+    → ((c : Cell) → o ≡ Some c → SoundCell w c)
+    → SoundResult w (cell_property o key)
 cell_property-sound w b None key h = tt
 cell_property-sound w b (Some (cells.Object ps)) key h = own_or-sound w (property_at ps key) (a_value values.Undefined) (property_at-sound w ps key (h (cells.Object ps) refl)) tt
 cell_property-sound w b (Some (cells.Error class ps)) key h = own_or-sound w (property_at ps key) (error_property class key) (property_at-sound w ps key (h (cells.Error class ps) refl)) (error_property-sound w class key)
@@ -245,7 +279,11 @@ cell_property-sound w b (Some (cells.Function code n l s t)) key h = function_pr
 cell_property-sound w b (Some (cells.Text us)) key h = tt
 cell_property-sound w b (Some (cells.Bindings k n o ns)) key h = tt
 
-pub property-sound : (w : World) → IsSound w → HasBuiltIns w → (o : Value) (key : List ℕ) → SoundResult w (property_of w o key)
+pub property-sound : (w : World)
+    → IsSound w
+    → HasBuiltIns w
+    → (o : Value) (key : List ℕ)
+    → SoundResult w (property_of w o key)
 property-sound w s b values.Undefined key = tt
 property-sound w s b values.Null key = tt
 property-sound w s b (values.Bool x) key = tt
@@ -259,11 +297,17 @@ abbrev pub SoundWritten : World → Written → Type 0
 SoundWritten w (a_change a c) = SoundChange w c
 SoundWritten w (refused class message) = Unit {0}
 
-pub with_written-sound : (w : World) (r : Written) (k : Action) → SoundWritten w r → SoundThen w k → SoundAction w (with_written r k)
+pub with_written-sound : (w : World) (r : Written) (k : Action)
+    → SoundWritten w r
+    → SoundThen w k
+    → SoundAction w (with_written r k)
 with_written-sound w (a_change a c) k h s = (h, s)
 with_written-sound w (refused class message) k h s = fail-sound w class message
 
-written_if : (w : World) (b : Bool) (r q : Written) → SoundWritten w r → SoundWritten w q → SoundWritten w (if b then r else q)
+written_if : (w : World) (b : Bool) (r q : Written)
+    → SoundWritten w r
+    → SoundWritten w q
+    → SoundWritten w (if b then r else q)
 written_if w true r q h k = h
 written_if w false r q h k = k
 
@@ -276,11 +320,15 @@ length-sound w a vs (values.Bool b) = tt
 length-sound w a vs (values.Text t) = tt
 length-sound w a vs (values.Object t) = tt
 
-array_change-sound : (w : World) (a : Addr) (vs : List Value) (key : List ℕ) (o : Option ℕ) (x : Value) → SoundValue w x → SoundWritten w (array_change a vs key o x)
+array_change-sound : (w : World) (a : Addr) (vs : List Value) (key : List ℕ) (o : Option ℕ) (x : Value)
+    → SoundValue w x
+    → SoundWritten w (array_change a vs key o x)
 array_change-sound w a vs key (Some i) x h = written_if w (nat_le i (length vs)) _ _ h tt
 array_change-sound w a vs key None x h = written_if w (same_units key (codes "length")) (length_change a vs x) (not_changeable key) (length-sound w a vs x) tt
 
-cell_change-sound : (w : World) (a : Addr) (o : Option Cell) (key : List ℕ) (x : Value) → SoundValue w x → SoundWritten w (cell_change a o key x)
+cell_change-sound : (w : World) (a : Addr) (o : Option Cell) (key : List ℕ) (x : Value)
+    → SoundValue w x
+    → SoundWritten w (cell_change a o key x)
 cell_change-sound w a None key x h = tt
 cell_change-sound w a (Some (cells.Object ps)) key x h = h
 cell_change-sound w a (Some (cells.Error class ps)) key x h = h
@@ -289,7 +337,9 @@ cell_change-sound w a (Some (cells.Function code n l s t)) key x h = tt
 cell_change-sound w a (Some (cells.Text us)) key x h = tt
 cell_change-sound w a (Some (cells.Bindings k n o ns)) key x h = tt
 
-property_written-sound : (w v : World) (o : Value) (key : List ℕ) (x : Value) → SoundValue v x → SoundWritten v (property_written w o key x)
+property_written-sound : (w v : World) (o : Value) (key : List ℕ) (x : Value)
+    → SoundValue v x
+    → SoundWritten v (property_written w o key x)
 property_written-sound w v (values.Object a) key x h = cell_change-sound v a (read_cell w a) key x h
 property_written-sound w v values.Undefined key x h = tt
 property_written-sound w v values.Null key x h = tt
@@ -324,7 +374,10 @@ abbrev SoundOfName : World → Option Binding → Type 0
 SoundOfName w None = Unit {0}
 SoundOfName w (Some b) = SoundIfSome w b.value
 
-name_if : (w : World) (t : Bool) (b : Binding) (o : Option Binding) → SoundIfSome w b.value → SoundOfName w o → SoundOfName w (if t then Some b else o)
+name_if : (w : World) (t : Bool) (b : Binding) (o : Option Binding)
+    → SoundIfSome w b.value
+    → SoundOfName w o
+    → SoundOfName w (if t then Some b else o)
 name_if w true b o h k = h
 name_if w false b o h k = k
 
@@ -332,11 +385,16 @@ binding-sound : (w : World) (bs : List Binding) (n : List ℕ) → SoundNames w 
 binding-sound w [] n h = tt
 binding-sound w (b ∷ bs) n h = name_if w (same_units b.name n) b (binding_of bs n) h.0 (binding-sound w bs n h.1)
 
-here-sound : (w : World) (a : Addr) (o : Option Binding) (further : Option Found) → SoundOfName w o → SoundFound w further → SoundFound w (found_here a o further)
+here-sound : (w : World) (a : Addr) (o : Option Binding) (further : Option Found)
+    → SoundOfName w o
+    → SoundFound w further
+    → SoundFound w (found_here a o further)
 here-sound w a (Some b) further h k = h
 here-sound w a None further h k = k
 
-outward-sound : (w : World) (o : Option Addr) (further : Addr → Option Found) → ((a : Addr) → SoundFound w (further a)) → SoundFound w (found_outward o further)
+outward-sound : (w : World) (o : Option Addr) (further : Addr → Option Found)
+    → ((a : Addr) → SoundFound w (further a))
+    → SoundFound w (found_outward o further)
 outward-sound w None further h = tt
 outward-sound w (Some a) further h = h a
 
@@ -358,34 +416,50 @@ within-sound (suc n) w name s a = in-sound w a (read_cell w a) name (found_withi
 pub found-sound : (w : World) → IsSound w → (scope : Addr) (name : List ℕ) → SoundFound w (found w scope name)
 found-sound w s scope name = within-sound (length w.base + length w.scratch) w name s scope
 
-uninitialized-sound : (w : World) (name : List ℕ) (o : Option Value) → SoundIfSome w o → SoundResult w (value_or_uninitialized name o)
+uninitialized-sound : (w : World) (name : List ℕ) (o : Option Value)
+    → SoundIfSome w o
+    → SoundResult w (value_or_uninitialized name o)
 uninitialized-sound w name (Some v) h = h
 uninitialized-sound w name None h = tt
 
-pub value_of_found-sound : (w : World) (name : List ℕ) (o : Option Found) → SoundFound w o → SoundResult w (value_of_found name o)
+pub value_of_found-sound : (w : World) (name : List ℕ) (o : Option Found)
+    → SoundFound w o
+    → SoundResult w (value_of_found name o)
 value_of_found-sound w name None h = tt
 value_of_found-sound w name (Some f) h = uninitialized-sound w name f.binding.value h
 
-unless-sound : (w : World) (name : List ℕ) (constant : Bool) (o : Option Value) (scope : Addr) (x : Value) → SoundValue w x → SoundWritten w (bound_unless name constant o scope x)
+unless-sound : (w : World) (name : List ℕ) (constant : Bool) (o : Option Value) (scope : Addr) (x : Value)
+    → SoundValue w x
+    → SoundWritten w (bound_unless name constant o scope x)
 unless-sound w name constant None scope x h = tt
 unless-sound w name true (Some u) scope x h = tt
 unless-sound w name false (Some u) scope x h = h
 
-name_written-sound : (w : World) (name : List ℕ) (o : Option Found) (x : Value) → SoundValue w x → SoundWritten w (name_written name o x)
+name_written-sound : (w : World) (name : List ℕ) (o : Option Found) (x : Value)
+    → SoundValue w x
+    → SoundWritten w (name_written name o x)
 name_written-sound w name None x h = tt
 name_written-sound w name (Some f) x h = unless-sound w name f.binding.constant f.binding.value f.scope x h
 
 -- ---- references
 
-pub with_key-sound : (w : World) (o : Option (List ℕ)) (k : List ℕ → Action) → ((key : List ℕ) → SoundAction w (k key)) → SoundAction w (with_key o k)
+pub with_key-sound : (w : World) (o : Option (List ℕ)) (k : List ℕ → Action)
+    → ((key : List ℕ) → SoundAction w (k key))
+    → SoundAction w (with_key o k)
 with_key-sound w None k h = with_result-sound w bad_key give tt (give-sound w)
 with_key-sound w (Some key) k h = h key
 
-keyed_result-sound : (w : World) (o : Option (List ℕ)) (k : List ℕ → Result) → ((key : List ℕ) → SoundResult w (k key)) → SoundResult w (keyed_result o k)
+keyed_result-sound : (w : World) (o : Option (List ℕ)) (k : List ℕ → Result)
+    → ((key : List ℕ) → SoundResult w (k key))
+    → SoundResult w (keyed_result o k)
 keyed_result-sound w None k h = tt
 keyed_result-sound w (Some key) k h = h key
 
-pub read_result-sound : (w : World) → IsSound w → HasBuiltIns w → (scope : Addr) (r : Reference) (vs : List Value) → SoundResult w (read_result w scope r vs)
+pub read_result-sound : (w : World)
+    → IsSound w
+    → HasBuiltIns w
+    → (scope : Addr) (r : Reference) (vs : List Value)
+    → SoundResult w (read_result w scope r vs)
 read_result-sound w s b scope (to_name n) vs = value_of_found-sound w n (found w scope n) (found-sound w s scope n)
 read_result-sound w s b scope (to_member key) [] = tt
 read_result-sound w s b scope (to_member key) (o ∷ vs) = property-sound w s b o key
@@ -393,10 +467,18 @@ read_result-sound w s b scope to_index [] = tt
 read_result-sound w s b scope to_index (o ∷ []) = tt
 read_result-sound w s b scope to_index (o ∷ i ∷ vs) = keyed_result-sound w (key_of w i) (property_of w o) (property-sound w s b o)
 
-pub get-sound : (w : World) → IsSound w → HasBuiltIns w → (scope : Addr) (r : Reference) (vs : List Value) (k : Value → Action) → SoundK w k → SoundAction w (get w scope r vs k)
+pub get-sound : (w : World)
+    → IsSound w
+    → HasBuiltIns w
+    → (scope : Addr) (r : Reference) (vs : List Value) (k : Value → Action)
+    → SoundK w k
+    → SoundAction w (get w scope r vs k)
 get-sound w s b scope r vs k h = with_result-sound w (read_result w scope r vs) k (read_result-sound w s b scope r vs) h
 
-pub put-sound : (w v : World) (scope : Addr) (r : Reference) (vs : List Value) (x : Value) (k : Action) → SoundValue v x → SoundThen v k → SoundAction v (put w scope r vs x k)
+pub put-sound : (w v : World) (scope : Addr) (r : Reference) (vs : List Value) (x : Value) (k : Action)
+    → SoundValue v x
+    → SoundThen v k
+    → SoundAction v (put w scope r vs x k)
 put-sound w v scope (to_name n) vs x k h t = with_written-sound v (name_written n (found w scope n) x) k (name_written-sound v n (found w scope n) x h) t
 put-sound w v scope (to_member key) [] x k h t = tt
 put-sound w v scope (to_member key) (o ∷ vs) x k h t = with_written-sound v (property_written w o key x) k (property_written-sound w v o key x h) t
@@ -404,7 +486,9 @@ put-sound w v scope to_index [] x k h t = tt
 put-sound w v scope to_index (o ∷ []) x k h t = tt
 put-sound w v scope to_index (o ∷ i ∷ vs) x k h t = with_key-sound v (key_of w i) (λ key. with_written (property_written w o key x) k) (λ key. with_written-sound v (property_written w o key x) k (property_written-sound w v o key x h) t)
 
-pub remove-sound : (w v : World) (r : Reference) (vs : List Value) (k : Action) → SoundThen v k → SoundAction v (remove w r vs k)
+pub remove-sound : (w v : World) (r : Reference) (vs : List Value) (k : Action)
+    → SoundThen v k
+    → SoundAction v (remove w r vs k)
 remove-sound w v (to_name n) vs k t = tt
 remove-sound w v (to_member key) [] k t = tt
 remove-sound w v (to_member key) (o ∷ vs) k t = with_written-sound v (property_deleted w o key) k (property_deleted-sound w v o key) t

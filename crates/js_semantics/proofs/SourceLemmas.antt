@@ -41,14 +41,18 @@ scripts-wait : (ss : List Script) → AllWait all_ready (terms_of_scripts ss)
 scripts-wait [] = tt
 scripts-wait (s ∷ ss) = (script-waits s.number (statements_source s.body) (statements-related waiting keeps-waits s.body), scripts-wait ss)
 
-pub scripts-sound : (k : ℕ) (scripts : List Script) (input : List (List ℕ)) → SoundRun (program_of (terms_of_scripts scripts)) (plain_run k (terms_of_scripts scripts) input)
+pub scripts-sound : (k : ℕ) (scripts : List Script) (input : List (List ℕ))
+    → SoundRun (program_of (terms_of_scripts scripts)) (plain_run k (terms_of_scripts scripts) input)
 scripts-sound k scripts input = plain-sound k (terms_of_scripts scripts) input (scripts-untouched scripts)
 
-pub scripts-shaped : (k : ℕ) (scripts : List Script) (input : List (List ℕ)) → ShapedRun (plain_run k (terms_of_scripts scripts) input)
+pub scripts-shaped : (k : ℕ) (scripts : List Script) (input : List (List ℕ))
+    → ShapedRun (plain_run k (terms_of_scripts scripts) input)
 scripts-shaped k scripts input = plain-shaped k (terms_of_scripts scripts) input (scripts-well scripts)
 
-pub scripts-waiting : (k : ℕ) (scripts : List Script) (input : List (List ℕ)) → RunWaits (plain_run k (terms_of_scripts scripts) input)
+pub scripts-waiting : (k : ℕ) (scripts : List Script) (input : List (List ℕ))
+    → RunWaits (plain_run k (terms_of_scripts scripts) input)
 scripts-waiting k scripts input = plain-waits k (terms_of_scripts scripts) input (scripts-wait scripts)
 
-pub scripts-listed : (k : ℕ) (scripts : List Script) (input : List (List ℕ)) → RunListsFrames (plain_run k (terms_of_scripts scripts) input)
+pub scripts-listed : (k : ℕ) (scripts : List Script) (input : List (List ℕ))
+    → RunListsFrames (plain_run k (terms_of_scripts scripts) input)
 scripts-listed k scripts input = plain-listed k (terms_of_scripts scripts) input (scripts-untouched scripts)

@@ -69,7 +69,10 @@ texts-within : (w : World) (at : ℕ → Addr) (a b c d : ℕ) → a ≤ c → d
 texts-within w at a b c d p q h i low high = h i (omega arith) (omega arith)
 
 mutual
-  pub placed-sound : (w : World) (at : ℕ → Addr) (n : ℕ) (t : Term) → IsUntouched t → AreTexts w at n (n + length (literals t)) → SoundTerm w (with_literals at n t)
+  pub placed-sound : (w : World) (at : ℕ → Addr) (n : ℕ) (t : Term)
+      → IsUntouched t
+      → AreTexts w at n (n + length (literals t))
+      → SoundTerm w (with_literals at n t)
   placed-sound w at n (done v) h k = value-sound w v h
   placed-sound w at n (standing v place) h k = absurd h
   placed-sound w at n (part (literal us) now later) h k = k n (omega arith) (omega arith)
@@ -80,7 +83,10 @@ mutual
         (texts-within w at n (n + length (literals_of now ++ literals_of later)) (n + length (literals_of now)) (n + length (literals_of now) + length (literals_of later)) (omega arith) (omega (arith, length-append (literals_of now) (literals_of later))) k),
   )
 
-  all-placed-sound : (w : World) (at : ℕ → Addr) (n : ℕ) (ts : Terms) → AreUntouched ts → AreTexts w at n (n + length (literals_of ts)) → SoundTerms w (all_with_literals at n ts)
+  all-placed-sound : (w : World) (at : ℕ → Addr) (n : ℕ) (ts : Terms)
+      → AreUntouched ts
+      → AreTexts w at n (n + length (literals_of ts))
+      → SoundTerms w (all_with_literals at n ts)
   all-placed-sound w at n end h k = tt
   all-placed-sound w at n (more t ts) h k = (
     placed-sound w at n t h.0 (texts-within w at n (n + length (literals t ++ literals_of ts)) n (n + length (literals t)) (omega arith) (omega (arith, length-append (literals t) (literals_of ts))) k),
@@ -213,11 +219,14 @@ start-sound ts input h =
     (record { world = first-sound (literals_of ts); built_ins = has-built-ins (literals_of ts); program = program-sound w 1 (placed_scripts ts) placed; frames = ((tt, refl), tt); outer = tt })
     (settled-sound w scripts (placed_scripts ts) end tt placed tt)
 
-start-scope : (ts : Terms) (input : List (List ℕ)) (t : Term) → SoundScope (state_of (run_of t (first_state ts input))).world (Some script_scope)
+start-scope : (ts : Terms) (input : List (List ℕ)) (t : Term)
+    → SoundScope (state_of (run_of t (first_state ts input))).world (Some script_scope)
 start-scope ts input (done v) = refl
 start-scope ts input (standing v place) = refl
 start-scope ts input (part f now later) = refl
 
-pub plain-sound : (k : ℕ) (ts : Terms) (input : List (List ℕ)) → AreUntouched ts → SoundRun (program_of ts) (plain k ts input)
+pub plain-sound : (k : ℕ) (ts : Terms) (input : List (List ℕ))
+    → AreUntouched ts
+    → SoundRun (program_of ts) (plain k ts input)
 plain-sound k ts input h =
     steps-sound k (program_of ts) script_scope (start ts input) (start-scope ts input (settled scripts (placed_scripts ts) end)) (start-sound ts input h)

@@ -55,48 +55,101 @@ known_trees P F change = change ((x : Expr) × P.of_expression x) ((x : Property
 -- it holds of a tree whose parts it is known of
 pub record Grows (P : Claims) : Type 0 where
   pub grows_expression : (y : Known P Expr-F) → P.of_expression (views.roll-Expr (known_trees P Expr-F map-Expr y))
-  pub grows_property : (y : Known P PropertyDefinition-F) → P.of_property (views.roll-PropertyDefinition (known_trees P PropertyDefinition-F map-PropertyDefinition y))
-  pub grows_key : (y : Known P PropertyName-F) → P.of_key (views.roll-PropertyName (known_trees P PropertyName-F map-PropertyName y))
+  pub grows_property : (y : Known P PropertyDefinition-F)
+      → P.of_property (views.roll-PropertyDefinition (known_trees P PropertyDefinition-F map-PropertyDefinition y))
+  pub grows_key : (y : Known P PropertyName-F)
+      → P.of_key (views.roll-PropertyName (known_trees P PropertyName-F map-PropertyName y))
   pub grows_statement : (y : Known P Stmt-F) → P.of_statement (views.roll-Stmt (known_trees P Stmt-F map-Stmt y))
-  pub grows_block : (y : Known P layers.Block-F) → P.of_block (views.roll-Block (known_trees P layers.Block-F map-Block y))
-  pub grows_catch : (y : Known P layers.Catch-F) → P.of_catch (views.roll-Catch (known_trees P layers.Catch-F map-Catch y))
-  pub grows_declarator : (y : Known P layers.Declarator-F) → P.of_declarator (views.roll-Declarator (known_trees P layers.Declarator-F map-Declarator y))
-  pub grows_declarators : (y : Known P layers.Declarators-F) → P.of_declarators (views.roll-Declarators (known_trees P layers.Declarators-F map-Declarators y))
-  pub grows_expressions : (y : Known P layers.Exprs-F) → P.of_expressions (views.roll-Exprs (known_trees P layers.Exprs-F map-Exprs y))
-  pub grows_properties : (y : Known P layers.PropertyDefinitions-F) → P.of_properties (views.roll-PropertyDefinitions (known_trees P layers.PropertyDefinitions-F map-PropertyDefinitions y))
-  pub grows_statements : (y : Known P layers.Stmts-F) → P.of_statements (views.roll-Stmts (known_trees P layers.Stmts-F map-Stmts y))
+  pub grows_block : (y : Known P layers.Block-F)
+      → P.of_block (views.roll-Block (known_trees P layers.Block-F map-Block y))
+  pub grows_catch : (y : Known P layers.Catch-F)
+      → P.of_catch (views.roll-Catch (known_trees P layers.Catch-F map-Catch y))
+  pub grows_declarator : (y : Known P layers.Declarator-F)
+      → P.of_declarator (views.roll-Declarator (known_trees P layers.Declarator-F map-Declarator y))
+  pub grows_declarators : (y : Known P layers.Declarators-F)
+      → P.of_declarators (views.roll-Declarators (known_trees P layers.Declarators-F map-Declarators y))
+  pub grows_expressions : (y : Known P layers.Exprs-F)
+      → P.of_expressions (views.roll-Exprs (known_trees P layers.Exprs-F map-Exprs y))
+  pub grows_properties : (y : Known P layers.PropertyDefinitions-F)
+      → P.of_properties (views.roll-PropertyDefinitions (known_trees P layers.PropertyDefinitions-F map-PropertyDefinitions y))
+  pub grows_statements : (y : Known P layers.Stmts-F)
+      → P.of_statements (views.roll-Stmts (known_trees P layers.Stmts-F map-Stmts y))
 
-expression-step : (P : Claims) → Grows P → (x : Level Expr-F) (y : Known P Expr-F) → known_trees P Expr-F map-Expr y ≡ x → P.of_expression (views.roll-Expr x)
+expression-step : (P : Claims)
+    → Grows P
+    → (x : Level Expr-F) (y : Known P Expr-F)
+    → known_trees P Expr-F map-Expr y ≡ x
+    → P.of_expression (views.roll-Expr x)
 expression-step P g x y is = subst (λ (z : Level Expr-F). P.of_expression (views.roll-Expr z)) is (g.grows_expression y)
 
-property-step : (P : Claims) → Grows P → (x : Level PropertyDefinition-F) (y : Known P PropertyDefinition-F) → known_trees P PropertyDefinition-F map-PropertyDefinition y ≡ x → P.of_property (views.roll-PropertyDefinition x)
+property-step : (P : Claims)
+    → Grows P
+    → (x : Level PropertyDefinition-F) (y : Known P PropertyDefinition-F)
+    → known_trees P PropertyDefinition-F map-PropertyDefinition y ≡ x
+    → P.of_property (views.roll-PropertyDefinition x)
 property-step P g x y is = subst (λ (z : Level PropertyDefinition-F). P.of_property (views.roll-PropertyDefinition z)) is (g.grows_property y)
 
-key-step : (P : Claims) → Grows P → (x : Level PropertyName-F) (y : Known P PropertyName-F) → known_trees P PropertyName-F map-PropertyName y ≡ x → P.of_key (views.roll-PropertyName x)
+key-step : (P : Claims)
+    → Grows P
+    → (x : Level PropertyName-F) (y : Known P PropertyName-F)
+    → known_trees P PropertyName-F map-PropertyName y ≡ x
+    → P.of_key (views.roll-PropertyName x)
 key-step P g x y is = subst (λ (z : Level PropertyName-F). P.of_key (views.roll-PropertyName z)) is (g.grows_key y)
 
-statement-step : (P : Claims) → Grows P → (x : Level Stmt-F) (y : Known P Stmt-F) → known_trees P Stmt-F map-Stmt y ≡ x → P.of_statement (views.roll-Stmt x)
+statement-step : (P : Claims)
+    → Grows P
+    → (x : Level Stmt-F) (y : Known P Stmt-F)
+    → known_trees P Stmt-F map-Stmt y ≡ x
+    → P.of_statement (views.roll-Stmt x)
 statement-step P g x y is = subst (λ (z : Level Stmt-F). P.of_statement (views.roll-Stmt z)) is (g.grows_statement y)
 
-block-step : (P : Claims) → Grows P → (x : Level layers.Block-F) (y : Known P layers.Block-F) → known_trees P layers.Block-F map-Block y ≡ x → P.of_block (views.roll-Block x)
+block-step : (P : Claims)
+    → Grows P
+    → (x : Level layers.Block-F) (y : Known P layers.Block-F)
+    → known_trees P layers.Block-F map-Block y ≡ x
+    → P.of_block (views.roll-Block x)
 block-step P g x y is = subst (λ (z : Level layers.Block-F). P.of_block (views.roll-Block z)) is (g.grows_block y)
 
-catch-step : (P : Claims) → Grows P → (x : Level layers.Catch-F) (y : Known P layers.Catch-F) → known_trees P layers.Catch-F map-Catch y ≡ x → P.of_catch (views.roll-Catch x)
+catch-step : (P : Claims)
+    → Grows P
+    → (x : Level layers.Catch-F) (y : Known P layers.Catch-F)
+    → known_trees P layers.Catch-F map-Catch y ≡ x
+    → P.of_catch (views.roll-Catch x)
 catch-step P g x y is = subst (λ (z : Level layers.Catch-F). P.of_catch (views.roll-Catch z)) is (g.grows_catch y)
 
-declarator-step : (P : Claims) → Grows P → (x : Level layers.Declarator-F) (y : Known P layers.Declarator-F) → known_trees P layers.Declarator-F map-Declarator y ≡ x → P.of_declarator (views.roll-Declarator x)
+declarator-step : (P : Claims)
+    → Grows P
+    → (x : Level layers.Declarator-F) (y : Known P layers.Declarator-F)
+    → known_trees P layers.Declarator-F map-Declarator y ≡ x
+    → P.of_declarator (views.roll-Declarator x)
 declarator-step P g x y is = subst (λ (z : Level layers.Declarator-F). P.of_declarator (views.roll-Declarator z)) is (g.grows_declarator y)
 
-declarators-step : (P : Claims) → Grows P → (x : Level layers.Declarators-F) (y : Known P layers.Declarators-F) → known_trees P layers.Declarators-F map-Declarators y ≡ x → P.of_declarators (views.roll-Declarators x)
+declarators-step : (P : Claims)
+    → Grows P
+    → (x : Level layers.Declarators-F) (y : Known P layers.Declarators-F)
+    → known_trees P layers.Declarators-F map-Declarators y ≡ x
+    → P.of_declarators (views.roll-Declarators x)
 declarators-step P g x y is = subst (λ (z : Level layers.Declarators-F). P.of_declarators (views.roll-Declarators z)) is (g.grows_declarators y)
 
-expressions-step : (P : Claims) → Grows P → (x : Level layers.Exprs-F) (y : Known P layers.Exprs-F) → known_trees P layers.Exprs-F map-Exprs y ≡ x → P.of_expressions (views.roll-Exprs x)
+expressions-step : (P : Claims)
+    → Grows P
+    → (x : Level layers.Exprs-F) (y : Known P layers.Exprs-F)
+    → known_trees P layers.Exprs-F map-Exprs y ≡ x
+    → P.of_expressions (views.roll-Exprs x)
 expressions-step P g x y is = subst (λ (z : Level layers.Exprs-F). P.of_expressions (views.roll-Exprs z)) is (g.grows_expressions y)
 
-properties-step : (P : Claims) → Grows P → (x : Level layers.PropertyDefinitions-F) (y : Known P layers.PropertyDefinitions-F) → known_trees P layers.PropertyDefinitions-F map-PropertyDefinitions y ≡ x → P.of_properties (views.roll-PropertyDefinitions x)
+properties-step : (P : Claims)
+    → Grows P
+    → (x : Level layers.PropertyDefinitions-F) (y : Known P layers.PropertyDefinitions-F)
+    → known_trees P layers.PropertyDefinitions-F map-PropertyDefinitions y ≡ x
+    → P.of_properties (views.roll-PropertyDefinitions x)
 properties-step P g x y is = subst (λ (z : Level layers.PropertyDefinitions-F). P.of_properties (views.roll-PropertyDefinitions z)) is (g.grows_properties y)
 
-statements-step : (P : Claims) → Grows P → (x : Level layers.Stmts-F) (y : Known P layers.Stmts-F) → known_trees P layers.Stmts-F map-Stmts y ≡ x → P.of_statements (views.roll-Stmts x)
+statements-step : (P : Claims)
+    → Grows P
+    → (x : Level layers.Stmts-F) (y : Known P layers.Stmts-F)
+    → known_trees P layers.Stmts-F map-Stmts y ≡ x
+    → P.of_statements (views.roll-Stmts x)
 statements-step P g x y is = subst (λ (z : Level layers.Stmts-F). P.of_statements (views.roll-Stmts z)) is (g.grows_statements y)
 
 pub every-expression : (P : Claims) → Grows P → (e : Expr) → P.of_expression e

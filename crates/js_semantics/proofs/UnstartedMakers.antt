@@ -84,7 +84,10 @@ compounded-fresh o (standing v place) e h k = h
 compounded-fresh o (part (read r) now later) e h k = (tt, h.1, (k, tt))
 compounded-fresh o (part f now later) e h k = h
 
-assignment-fresh : (o : Option BinaryOperator) (t e : Term) → IsUnstarted t → IsUnstarted e → IsUnstarted (assignment o t e)
+assignment-fresh : (o : Option BinaryOperator) (t e : Term)
+    → IsUnstarted t
+    → IsUnstarted e
+    → IsUnstarted (assignment o t e)
 assignment-fresh None t e h k = assigned-fresh t e h k
 assignment-fresh (Some o) t e h k = compounded-fresh o t e h k
 
@@ -124,7 +127,10 @@ comma-fresh : (ts : Terms) → AreUnstarted ts → IsUnstarted (comma_term ts)
 comma-fresh end h = tt
 comma-fresh (more t ts) h = (tt, (h.0, tt), h.1)
 
-call-fresh : (m : Mark) (node : ℕ) (t : Term) (args : Terms) → IsUnstarted t → AreUnstarted args → IsUnstarted (call_term m node t args)
+call-fresh : (m : Mark) (node : ℕ) (t : Term) (args : Terms)
+    → IsUnstarted t
+    → AreUnstarted args
+    → IsUnstarted (call_term m node t args)
 call-fresh m node (done v) args h k = (tt, (tt, (h, k)), tt)
 call-fresh m node (standing v place) args h k = (tt, (tt, (h, k)), tt)
 call-fresh m node (part (read r) now later) args h k = (tt, h.1, k)
@@ -135,14 +141,18 @@ call-fresh m node (part f now later) args h k = (tt, (tt, (h, k)), tt)
 body-fresh : (b : Items) (c : Context) → FreshItems b → AreUnstarted (body_terms b c)
 body-fresh b c h = ((tt, h.terms_fresh (within 0 c), tt), h.functions_fresh (within 0 c))
 
-function-fresh : (node : ℕ) (n : Option (List ℕ)) (ps : List (List ℕ)) (b : Items) (c : Context) → FreshItems b → IsUnstarted (function_term node n ps b c)
+function-fresh : (node : ℕ) (n : Option (List ℕ)) (ps : List (List ℕ)) (b : Items) (c : Context)
+    → FreshItems b
+    → IsUnstarted (function_term node n ps b c)
 function-fresh node (Some n) ps b c h = (h.names_declared, tt, body-fresh b c h)
 function-fresh node None ps b c h = (h.names_declared, tt, body-fresh b c h)
 
 returned-fresh : (e : Made) → Fresh e → FreshItems (returned_body e)
 returned-fresh e h = record { names_declared = tt; functions_fresh = λ c. tt; terms_fresh = λ c. ((tt, tt, ((tt, (h (within e.node c), tt), tt), tt)), tt) }
 
-arrow-fresh : (node : ℕ) (n : List ℕ) (ps : List (List ℕ)) (b : Items) (c : Context) → FreshItems b → IsUnstarted (part (function (form_of node c.source n ps b.names true false)) end (body_terms b c))
+arrow-fresh : (node : ℕ) (n : List ℕ) (ps : List (List ℕ)) (b : Items) (c : Context)
+    → FreshItems b
+    → IsUnstarted (part (function (form_of node c.source n ps b.names true false)) end (body_terms b c))
 arrow-fresh node n ps b c h = (h.names_declared, tt, body-fresh b c h)
 
 -- ---- statements
@@ -174,14 +184,20 @@ abbrev pub FreshDeclarators : List DeclaratorMade → Type 0
 FreshDeclarators [] = Unit {0}
 FreshDeclarators (d ∷ ds) = FreshOptional d.initializer × FreshDeclarators ds
 
-entered-fresh : (node : ℕ) (term : Context → Term) → ((c : Context) → IsUnstarted (term c)) → FreshItem (untouched node term)
+entered-fresh : (node : ℕ) (term : Context → Term)
+    → ((c : Context) → IsUnstarted (term c))
+    → FreshItem (untouched node term)
 entered-fresh node term h = record { names_declared = tt; functions_fresh = λ c. tt; term_fresh = λ c. (tt, tt, (h (within node c), tt)) }
 
-initializer-fresh : (n : List ℕ) (e : Option Made) (c : Context) → FreshOptional e → AreUnstarted (initializer_terms n e c)
+initializer-fresh : (n : List ℕ) (e : Option Made) (c : Context)
+    → FreshOptional e
+    → AreUnstarted (initializer_terms n e c)
 initializer-fresh n None c h = tt
 initializer-fresh n (Some e) c h = (h (naming n c), tt)
 
-declarators-fresh : (ds : List DeclaratorMade) (c : Context) → FreshDeclarators ds → AreUnstarted (declarators_terms ds c)
+declarators-fresh : (ds : List DeclaratorMade) (c : Context)
+    → FreshDeclarators ds
+    → AreUnstarted (declarators_terms ds c)
 declarators-fresh [] c h = tt
 declarators-fresh (d ∷ ds) c h = ((tt, initializer-fresh d.name d.initializer c h.0, tt), declarators-fresh ds c h.1)
 
@@ -189,21 +205,34 @@ declared-names : (constant : Bool) (ds : List DeclaratorMade) → AreDeclared (d
 declared-names constant [] = tt
 declared-names constant (d ∷ ds) = (refl, declared-names constant ds)
 
-lexical-fresh : (node : ℕ) (constant : Bool) (ds : List DeclaratorMade) → FreshDeclarators ds → FreshItem (lexical_item node constant ds)
+lexical-fresh : (node : ℕ) (constant : Bool) (ds : List DeclaratorMade)
+    → FreshDeclarators ds
+    → FreshItem (lexical_item node constant ds)
 lexical-fresh node constant ds h = record { names_declared = declared-names constant ds; functions_fresh = λ c. tt; term_fresh = λ c. (tt, tt, ((tt, declarators-fresh ds (within node c) h, tt), tt)) }
 
 optional-terms : (e : Option Made) (c : Context) → FreshOptional e → AreUnstarted (optional_terms e c)
 optional-terms None c h = tt
 optional-terms (Some e) c h = (h (unnamed c), tt)
 
-optional-fresh : (e : Option Made) (c : Context) (t : Term) → FreshOptional e → IsUnstarted t → IsUnstarted (optional_term e c t)
+optional-fresh : (e : Option Made) (c : Context) (t : Term)
+    → FreshOptional e
+    → IsUnstarted t
+    → IsUnstarted (optional_term e c t)
 optional-fresh None c t h k = k
 optional-fresh (Some e) c t h k = h (unnamed c)
 
-parts-fresh : (t u : Option Made) (s : Item) (c : Context) → FreshOptional t → FreshOptional u → FreshItem s → AreUnstarted (for_parts t u s c)
+parts-fresh : (t u : Option Made) (s : Item) (c : Context)
+    → FreshOptional t
+    → FreshOptional u
+    → FreshItem s
+    → AreUnstarted (for_parts t u s c)
 parts-fresh t u s c h k i = (optional-fresh t c (done (values.Bool true)) h tt, (optional-fresh u c (done values.Undefined) k tt, (i.term_fresh c, tt)))
 
-if-fresh : (node : ℕ) (e : Made) (s t : Item) → Fresh e → FreshItem s → FreshItem t → FreshItem (if_item node e s (Some t))
+if-fresh : (node : ℕ) (e : Made) (s t : Item)
+    → Fresh e
+    → FreshItem s
+    → FreshItem t
+    → FreshItem (if_item node e s (Some t))
 if-fresh node e s t h k i = entered-fresh node (λ c. part choose (one (plain e c)) (more (s.term c) (one (t.term c)))) (λ c. (tt, (h (unnamed c), tt), (k.term_fresh c, (i.term_fresh c, tt))))
 
 if_then-fresh : (node : ℕ) (e : Made) (s : Item) → Fresh e → FreshItem s → FreshItem (if_item node e s None)
@@ -215,17 +244,30 @@ while-fresh node e s h k = entered-fresh node (λ c. part (loop first None) end 
 do_while-fresh : (node : ℕ) (s : Item) (e : Made) → FreshItem s → Fresh e → FreshItem (do_while_item node s e)
 do_while-fresh node s e k h = entered-fresh node (λ c. part (loop doing None) end (more (plain e c) (more (done values.Undefined) (one (s.term c))))) (λ c. (refl, tt, (h (unnamed c), (tt, (k.term_fresh c, tt)))))
 
-for-fresh : (node : ℕ) (i t u : Option Made) (s : Item) → FreshOptional i → FreshOptional t → FreshOptional u → FreshItem s → FreshItem (for_item node i t u s)
+for-fresh : (node : ℕ) (i t u : Option Made) (s : Item)
+    → FreshOptional i
+    → FreshOptional t
+    → FreshOptional u
+    → FreshItem s
+    → FreshItem (for_item node i t u s)
 for-fresh node i t u s a b d k = entered-fresh node (λ c. part (loop first None) (optional_terms i c) (for_parts t u s c)) (λ c. (refl, optional-terms i c a, parts-fresh t u s c b d k))
 
-for_lexical-fresh : (node : ℕ) (constant : Bool) (ds : List DeclaratorMade) (t u : Option Made) (s : Item) → FreshDeclarators ds → FreshOptional t → FreshOptional u → FreshItem s → FreshItem (for_lexical_item node constant ds t u s)
+for_lexical-fresh : (node : ℕ) (constant : Bool) (ds : List DeclaratorMade) (t u : Option Made) (s : Item)
+    → FreshDeclarators ds
+    → FreshOptional t
+    → FreshOptional u
+    → FreshItem s
+    → FreshItem (for_lexical_item node constant ds t u s)
 for_lexical-fresh node constant ds t u s h a b k = record {
   names_declared = tt;
   functions_fresh = λ c. tt;
   term_fresh = λ c. (declared-names constant ds, tt, ((tt, declarators-fresh ds (within node c) h, tt), parts-fresh t u s (within node c) a b k));
 }
 
-for_of-fresh : (node : ℕ) (constant : Bool) (n : List ℕ) (e : Made) (s : Item) → Fresh e → FreshItem s → FreshItem (for_of_item node constant n e s)
+for_of-fresh : (node : ℕ) (constant : Bool) (n : List ℕ) (e : Made) (s : Item)
+    → Fresh e
+    → FreshItem s
+    → FreshItem (for_of_item node constant n e s)
 for_of-fresh node constant n e s h k = record { names_declared = tt; functions_fresh = λ c. tt; term_fresh = λ c. (refl, tt, (h (unnamed (within node c)), (k.term_fresh (within node c), tt))) }
 
 return-fresh : (node : ℕ) (e : Option Made) → FreshOptional e → FreshItem (return_item node e)
@@ -239,18 +281,30 @@ abbrev pub FreshFinalizer : Option Items → Type 0
 FreshFinalizer None = Unit {0}
 FreshFinalizer (Some b) = FreshItems b
 
-caught-fresh : (h : Option CatchMade) (t : Term) (c : Context) → FreshHandler h → IsUnstarted t → IsUnstarted (caught h t c)
+caught-fresh : (h : Option CatchMade) (t : Term) (c : Context)
+    → FreshHandler h
+    → IsUnstarted t
+    → IsUnstarted (caught h t c)
 caught-fresh None t c k i = i
 caught-fresh (Some h) t c k i = (tt, (i, tt), (block-fresh h.body c k, tt))
 
-finally-fresh : (f : Option Items) (t : Term) (c : Context) → FreshFinalizer f → IsUnstarted t → IsUnstarted (finally_term f t c)
+finally-fresh : (f : Option Items) (t : Term) (c : Context)
+    → FreshFinalizer f
+    → IsUnstarted t
+    → IsUnstarted (finally_term f t c)
 finally-fresh None t c k i = i
 finally-fresh (Some f) t c k i = (tt, (i, tt), (block-fresh f c k, tt))
 
-try-fresh : (node : ℕ) (b : Items) (h : Option CatchMade) (f : Option Items) → FreshItems b → FreshHandler h → FreshFinalizer f → FreshItem (try_item node b h f)
+try-fresh : (node : ℕ) (b : Items) (h : Option CatchMade) (f : Option Items)
+    → FreshItems b
+    → FreshHandler h
+    → FreshFinalizer f
+    → FreshItem (try_item node b h f)
 try-fresh node b h f i j k = entered-fresh node (λ c. finally_term f (caught h (block_term b c) c) c) (λ c. finally-fresh f (caught h (block_term b c) c) c k (caught-fresh h (block_term b c) c j (block-fresh b c i)))
 
-function_item-fresh : (node : ℕ) (n : List ℕ) (ps : List (List ℕ)) (b : Items) → FreshItems b → FreshItem (function_item node n ps b)
+function_item-fresh : (node : ℕ) (n : List ℕ) (ps : List (List ℕ)) (b : Items)
+    → FreshItems b
+    → FreshItem (function_item node n ps b)
 function_item-fresh node n ps b h = record { names_declared = (refl, tt); functions_fresh = λ c. ((h.names_declared, tt, body-fresh b c h), tt); term_fresh = λ c. tt }
 
 -- ---- object literals
@@ -270,7 +324,10 @@ FreshProperties (m ∷ ms) = FreshProperty m × FreshProperties ms
 abbrev FreshParts : Parts → Type 0
 FreshParts p = AreUnstarted p.now × AreUnstarted p.later
 
-property-fresh : (m : PropertyMade) (c : Context) (p : Parts) → FreshProperty m → FreshParts p → FreshParts (property_parts m c p)
+property-fresh : (m : PropertyMade) (c : Context) (p : Parts)
+    → FreshProperty m
+    → FreshParts p
+    → FreshParts (property_parts m c p)
 property-fresh (value_property (fixed_key k) e) c p h q = ((h.1 (naming k c), q.0), q.1)
 property-fresh (value_property (computed_key k) e) c p h q = ((h.0 (unnamed c), (h.1 (unnamed c), q.0)), q.1)
 property-fresh (method_property node (fixed_key k) ps b) c p h q = let i = h.1 in (((i.names_declared, tt, body-fresh b c h.1), q.0), q.1)
@@ -280,7 +337,9 @@ properties-fresh : (ms : List PropertyMade) (c : Context) → FreshProperties ms
 properties-fresh [] c h = (tt, tt)
 properties-fresh (m ∷ ms) c h = property-fresh m c (properties_parts ms c) h.0 (properties-fresh ms c h.1)
 
-object-fresh : (ms : List PropertyMade) (c : Context) → FreshProperties ms → IsUnstarted (object_term ms (properties_parts ms c))
+object-fresh : (ms : List PropertyMade) (c : Context)
+    → FreshProperties ms
+    → IsUnstarted (object_term ms (properties_parts ms c))
 object-fresh ms c h = let q = properties-fresh ms c h in (tt, q.0, q.1)
 
 -- ---- trees

@@ -93,7 +93,10 @@ behind_first-tight : (scope : Option Addr) (later : Terms) → Tights later → 
 behind_first-tight None later k = at_test-tight None later k
 behind_first-tight (Some a) later k = (λ e. refl, tt, k)
 
-finished-tight : (f : Form) (now later : Terms) → Tights now → ByCase (uncovers f) (RestWaits all_done later) (Tights later) → Tight (finished f now later)
+finished-tight : (f : Form) (now later : Terms)
+    → Tights now
+    → ByCase (uncovers f) (RestWaits all_done later) (Tights later)
+    → Tight (finished f now later)
 finished-tight scripts now later n k = tt
 finished-tight sequence now later n k = tt
 finished-tight (scoped a) now later n k = tt
@@ -113,7 +116,10 @@ contrary : (b : Bool) → b ≡ false → b ≡ true → ⊥
 contrary true e h = absurd cc
 contrary false e h = absurd cc
 
-settled-tight : (f : Form) (now later : Terms) → Tights now → ByCase (uncovers f) (RestWaits all_done later) (Tights later) → Tight (settled f now later)
+settled-tight : (f : Form) (now later : Terms)
+    → Tights now
+    → ByCase (uncovers f) (RestWaits all_done later) (Tights later)
+    → Tight (settled f now later)
 settled-tight f now later n k = tight_if (all_done now) (finished f now later) (part f now later) (λ e. finished-tight f now later n k) (λ e. (λ h. absurd (contrary (all_done now) e h), n, k))
 
 settle-tight : (t : Term) → Loose t → Tight (settle t)
@@ -156,7 +162,9 @@ result-waits (a_value v) k h = h v
 result-waits (a_text us) k h = λ a. h (values.Text a)
 result-waits (an_error class message) k h = fail-waits class message
 
-key-waits : (o : Option (List ℕ)) (k : List ℕ → Action) → ((key : List ℕ) → ActionWaits (k key)) → ActionWaits (with_key o k)
+key-waits : (o : Option (List ℕ)) (k : List ℕ → Action)
+    → ((key : List ℕ) → ActionWaits (k key))
+    → ActionWaits (with_key o k)
 key-waits None k h = fail-waits classes.TypeError (codes "Property key must be a string or a number")
 key-waits (Some key) k h = h key
 
@@ -173,7 +181,8 @@ names-wait : (scope : Addr) (bs : List Binding) (k : Action) → ActionWaits k �
 names-wait scope [] k h = h
 names-wait scope (b ∷ bs) k h = names-wait scope bs k h
 
-full_waits : (b : Bool) (what : Counted) (s : State) (v : Value) → MoveWaits (if b then is_full what s else raised_at v s)
+full_waits : (b : Bool) (what : Counted) (s : State) (v : Value)
+    → MoveWaits (if b then is_full what s else raised_at v s)
 full_waits true what s v = tt
 full_waits false what s v = tt
 
@@ -181,7 +190,9 @@ outside_waits : (b : Bool) (s : State) (m : Move Term) → MoveWaits m → MoveW
 outside_waits true s m h = tt
 outside_waits false s m h = h
 
-after_waits : {A : Type 0} (s : State) (t : Tried A) (k : A → State → Move Term) → ((a : A) (u : State) → MoveWaits (k a u)) → MoveWaits (after t s k)
+after_waits : {A : Type 0} (s : State) (t : Tried A) (k : A → State → Move Term)
+    → ((a : A) (u : State) → MoveWaits (k a u))
+    → MoveWaits (after t s k)
 after_waits s (fine a v) k h = h a (with_world s v)
 after_waits s effect k h = tt
 after_waits s (full what) k h = full_waits (is_evaluation s.world) what s _
@@ -213,7 +224,9 @@ code_if-waits true f (more t ts) h = h.0
 code_if-waits true f end h = tt
 code_if-waits false f later h = tt
 
-here-waits : (f : Form) (node : ℕ) (later : Terms) → ByCase (uncovers f) (RestWaits all_done later) (Tights later) → CodeWaits (code_here f node later)
+here-waits : (f : Form) (node : ℕ) (later : Terms)
+    → ByCase (uncovers f) (RestWaits all_done later) (Tights later)
+    → CodeWaits (code_here f node later)
 here-waits (function f) node later h = code_if-waits (nat_eq f.node node) f later h
 here-waits (method f) node later h = code_if-waits (nat_eq f.node node) f later h
 here-waits _ node later h = tt
@@ -230,7 +243,9 @@ mutual
   function_in_all-waits node end h = tt
   function_in_all-waits node (more t ts) h = first-waits (function_in node t) (function_in_all node ts) (function_in-waits node t (loosened t h.0)) (function_in_all-waits node ts h.1)
 
-  function_in_rest-waits : (b : Bool) (node : ℕ) (ts : Terms) → ByCase b (RestWaits all_done ts) (Tights ts) → CodeWaits (function_in_all node ts)
+  function_in_rest-waits : (b : Bool) (node : ℕ) (ts : Terms)
+      → ByCase b (RestWaits all_done ts) (Tights ts)
+      → CodeWaits (function_in_all node ts)
   function_in_rest-waits b node end h = tt
   function_in_rest-waits true node (more t ts) h = first-waits (function_in node t) (function_in_all node ts) (function_in-waits node t h.0) (function_in_all-waits node ts h.1)
   function_in_rest-waits false node (more t ts) h = first-waits (function_in node t) (function_in_all node ts) (function_in-waits node t (loosened t h.0)) (function_in_all-waits node ts h.1)
@@ -244,7 +259,9 @@ function_at-waits [] source node h = tt
 function_at-waits (t ∷ ts) source node h =
     at_if (same_source t.source source) (function_in node t.tree) (function_at ts source node) (function_in-waits node t.tree (loosened t.tree h.0)) (function_at-waits ts source node h.1)
 
-code-waits : (s : State) (o : Option FunctionCode) (source : Source) (a : Addr) (name : List ℕ) (outer : Option Addr) (x y : Value) (args : List Value) → CodeWaits o → ActionWaits (call_code s o source a name outer x y args)
+code-waits : (s : State) (o : Option FunctionCode) (source : Source) (a : Addr) (name : List ℕ) (outer : Option Addr) (x y : Value) (args : List Value)
+    → CodeWaits o
+    → ActionWaits (call_code s o source a name outer x y args)
 code-waits s None source a name outer x y args h = fail-waits classes.TypeError (codes "Value is not a function")
 code-waits s (Some c) source a name None x y args h = fail-waits classes.TypeError (codes "Value is not a function")
 code-waits s (Some c) source a name (Some outer) x y args h =
@@ -252,7 +269,9 @@ code-waits s (Some c) source a name (Some outer) x y args h =
     (λ b. functions-wait b c.functions (frame_entered c source a (called_this c.form.is_arrow x y) b) (λ e. refl, (settle-tight c.body h, tt), tt))
     (fail-waits classes.RangeError (codes "Maximum call stack size exceeded"))
 
-cell-waits : (p : Program) (s : State) (a : Addr) (o : Option Cell) (y : Value) (args : List Value) → ProgramWaits p → ActionWaits (call_cell p s a o y args)
+cell-waits : (p : Program) (s : State) (a : Addr) (o : Option Cell) (y : Value) (args : List Value)
+    → ProgramWaits p
+    → ActionWaits (call_cell p s a o y args)
 cell-waits p s a None y args h = fail-waits classes.TypeError (codes "Value is not a function")
 cell-waits p s a (Some (cells.Function (code.BuiltIn f) n l outer x)) y args h = gives-waits (built_in_call s.world f y args) (built_in-gives s.world f y args)
 cell-waits p s a (Some (cells.Function (code.Script number node) n l outer x)) y args h =
@@ -265,7 +284,9 @@ cell-waits p s a (Some (cells.Array vs)) y args h = fail-waits classes.TypeError
 cell-waits p s a (Some (cells.Text us)) y args h = fail-waits classes.TypeError (codes "Value is not a function")
 cell-waits p s a (Some (cells.Bindings kind n o ns)) y args h = fail-waits classes.TypeError (codes "Value is not a function")
 
-value-waits : (p : Program) (s : State) (f y : Value) (args : List Value) → ProgramWaits p → ActionWaits (call_value p s f y args)
+value-waits : (p : Program) (s : State) (f y : Value) (args : List Value)
+    → ProgramWaits p
+    → ActionWaits (call_value p s f y args)
 value-waits p s (values.Object a) y args h = cell-waits p s a (read_cell s.world a) y args h
 value-waits p s _ y args h = fail-waits classes.TypeError (codes "Value is not a function")
 
@@ -276,7 +297,9 @@ call-waits p s m (x ∷ f ∷ args) h = value-waits p s f x args h
 
 -- ---- the rows
 
-script-waits : (number : ℕ) (names : List Binding) (later : Terms) → RestWaits all_done later → ActionWaits (script_row number names later)
+script-waits : (number : ℕ) (names : List Binding) (later : Terms)
+    → RestWaits all_done later
+    → ActionWaits (script_row number names later)
 script-waits number names end k = tt
 script-waits number names (more t fs) k = names-wait _ names (with_functions _ fs (go (settle t))) (functions-wait _ fs (go (settle t)) (settle-tight t k.0))
 
@@ -284,7 +307,9 @@ enter-waits : (node : ℕ) (later : Terms) → RestWaits all_done later → Acti
 enter-waits node end k = tt
 enter-waits node (more t ts) k = settle-tight t k.0
 
-block-waits : (scope : Addr) (names : List Binding) (later : Terms) → RestWaits all_done later → ActionWaits (block_row scope names later)
+block-waits : (scope : Addr) (names : List Binding) (later : Terms)
+    → RestWaits all_done later
+    → ActionWaits (block_row scope names later)
 block-waits scope [] end k = tt
 block-waits scope (b ∷ bs) end k = tt
 block-waits scope [] (more t fs) k = settle-tight t k.0
@@ -311,7 +336,9 @@ turn_or_end-tight : (b : Bool) (scope : Option Addr) (later : Terms) → Tights 
 turn_or_end-tight true scope later k = at_body-tight scope later k
 turn_or_end-tight false scope later k = tt
 
-loop-waits : (w : World) (stage : Stage) (scope : Option Addr) (vs : List Value) (later : Terms) → Tights later → ActionWaits (loop_row w stage scope vs later)
+loop-waits : (w : World) (stage : Stage) (scope : Option Addr) (vs : List Value) (later : Terms)
+    → Tights later
+    → ActionWaits (loop_row w stage scope vs later)
 loop-waits w testing scope vs later k = turn_or_end-tight (is_truthy w (only vs)) scope later k
 loop-waits w first (Some a) vs later k = λ b. at_test-tight (Some b) later k
 loop-waits w body (Some a) vs later k = λ b. at_update-tight (Some b) later k
@@ -321,7 +348,9 @@ loop-waits w doing scope vs later k = tt
 loop-waits w updating scope vs later k = tt
 
 -- a loop that begins is no value
-started : (b : Bool) (now later : Terms) → all_done (one (if b then finished (loop first None) now later else part (loop first None) now later)) ≡ true → ⊥
+started : (b : Bool) (now later : Terms)
+    → all_done (one (if b then finished (loop first None) now later else part (loop first None) now later)) ≡ true
+    → ⊥
 started true now later e = absurd cc
 started false now later e = absurd cc
 
@@ -331,7 +360,9 @@ for_in-tight false a end k = tt
 for_in-tight true a (more t ts) k = (λ e. absurd (started (all_done (one (settle t))) (one (settle t)) ts e), (settled-tight (loop first None) (one (settle t)) ts (settle-tight t k.0, tt) k.1, tt), tt)
 for_in-tight false a (more t ts) k = settled-tight (loop first (Some a)) (one (settle t)) ts (settle-tight t k.0, tt) k.1
 
-enter_for_of-waits : (scope : Addr) (node : ℕ) (b : Binding) (later : Terms) → Tights later → ActionWaits (enter_for_of_row scope node b later)
+enter_for_of-waits : (scope : Addr) (node : ℕ) (b : Binding) (later : Terms)
+    → Tights later
+    → ActionWaits (enter_for_of_row scope node b later)
 enter_for_of-waits scope node b end k = tt
 enter_for_of-waits scope node b (more t ts) k = λ a. (λ e. refl, (scoped-tight t a k.0, tt), k.1)
 
@@ -345,7 +376,9 @@ body_part-tight end k = tt
 body_part-tight (more t end) k = tt
 body_part-tight (more t (more u ts)) k = k.1.0
 
-turn-waits : (scope : Addr) (b : Binding) (i : ℕ) (o : Option Value) (later : Terms) → Tights later → ActionWaits (turn_row scope b i o later)
+turn-waits : (scope : Addr) (b : Binding) (i : ℕ) (o : Option Value) (later : Terms)
+    → Tights later
+    → ActionWaits (turn_row scope b i o later)
 turn-waits scope b i None later k = tt
 turn-waits scope b i (Some x) later k =
     λ a. settled-tight (body_of b (i + 1)) (one (settled (scoped a) (one (body_part later)) end)) later (scoped-tight (body_part later) a (body_part-tight later k), tt) k
@@ -355,17 +388,23 @@ comma-waits end k = tt
 comma-waits (more t end) k = k.0
 comma-waits (more t (more u ts)) k = (λ e. refl, (k.0, tt), k.1)
 
-compound-waits : (w : World) (scope : Addr) (o : BinaryOperator) (r : Reference) (vs : List Value) (later : Terms) → Tights later → ActionWaits (compound_row w scope o r vs later)
+compound-waits : (w : World) (scope : Addr) (o : BinaryOperator) (r : Reference) (vs : List Value) (later : Terms)
+    → Tights later
+    → ActionWaits (compound_row w scope o r vs later)
 compound-waits w scope o r vs end k = tt
 compound-waits w scope o r vs (more e ts) k =
     result-waits (read_result w scope r vs) (λ old. go (part (assign r) (joined (dones vs) (one (part (binary o) (more (done old) (one e)) end))) end))
     (λ x. (λ q. refl, joined-tight (dones vs) (one (part (binary o) (more (done x) (one e)) end)) (dones-tight vs) ((λ q. refl, (tt, (k.0, tt)), tt), tt), tt))
 
-callee-waits : (w : World) (scope : Addr) (r : Reference) (m : Mark) (node : ℕ) (vs : List Value) (later : Terms) → Tights later → ActionWaits (callee_row w scope r m node vs later)
+callee-waits : (w : World) (scope : Addr) (r : Reference) (m : Mark) (node : ℕ) (vs : List Value) (later : Terms)
+    → Tights later
+    → ActionWaits (callee_row w scope r m node vs later)
 callee-waits w scope r m node vs later k =
     result-waits (read_result w scope r vs) (λ f. go (part (call m node) (more (done (callee_this r vs)) (more (done f) later)) end)) (λ x. (λ e. refl, (tt, (tt, k)), tt))
 
-object-waits : (w : World) (scope : Addr) (ms : List Member) (vs : List Value) (later : Terms) → Tights later → ActionWaits (object_row w scope ms vs later)
+object-waits : (w : World) (scope : Addr) (ms : List Member) (vs : List Value) (later : Terms)
+    → Tights later
+    → ActionWaits (object_row w scope ms vs later)
 object-waits w scope ms vs end k = gives-waits (object_or_fail (properties_from w [] ms vs)) (made-gives (properties_from w [] ms vs))
 object-waits w scope ms vs (more (part (method f) now later) ts) k =
     key-waits (key_of w (last_of vs)) (λ key. make (function_cell f key scope values.Undefined) (λ a. go (part (object ms) (joined (dones vs) (more (done (values.Object a)) now)) ts)))
@@ -376,7 +415,10 @@ ending-waits : (o : Option Completion) → ActionWaits (ending_row o)
 ending-waits None = tt
 ending-waits (Some c) = tt
 
-row-waits : (p : Program) (s : State) (scope : Addr) (f : Form) (vs : List Value) (later : Terms) → ProgramWaits p → ByCase (uncovers f) (RestWaits all_done later) (Tights later) → ActionWaits (row p s scope f vs later)
+row-waits : (p : Program) (s : State) (scope : Addr) (f : Form) (vs : List Value) (later : Terms)
+    → ProgramWaits p
+    → ByCase (uncovers f) (RestWaits all_done later) (Tights later)
+    → ActionWaits (row p s scope f vs later)
 row-waits p s scope (script number names) vs later g k = script-waits number names later k
 row-waits p s scope (enter node) vs later g k = enter-waits node later k
 row-waits p s scope (enter_debugger node) vs later g k = enter-waits node later k
@@ -408,13 +450,17 @@ row-waits p s scope (call_of r m node) vs later g k = callee-waits s.world scope
 row-waits p s scope (ending kept) vs later g k = ending-waits kept
 row-waits p s scope _ vs later g k = tt
 
-catch-waits : (scope : Addr) (n : Option (List ℕ)) (x : Value) (later : Terms) → Tights later → ActionWaits (catch_row scope n x later)
+catch-waits : (scope : Addr) (n : Option (List ℕ)) (x : Value) (later : Terms)
+    → Tights later
+    → ActionWaits (catch_row scope n x later)
 catch-waits scope None x end k = tt
 catch-waits scope (Some n) x end k = tt
 catch-waits scope None x (more t ts) k = settle-tight t (loosened t k.0)
 catch-waits scope (Some n) x (more t ts) k = λ a. scoped-tight (settle t) a (settle-tight t (loosened t k.0))
 
-taken-waits : (scope : Addr) (f : Form) (c : Completion) (later : Terms) → ByCase (uncovers f) (RestWaits all_done later) (Tights later) → ActionWaits (taken scope f c later)
+taken-waits : (scope : Addr) (f : Form) (c : Completion) (later : Terms)
+    → ByCase (uncovers f) (RestWaits all_done later) (Tights later)
+    → ActionWaits (taken scope f c later)
 taken-waits scope (catching x) (throws v m) later k = catch-waits scope x v later k
 taken-waits scope (catching x) (returns v) later k = tt
 taken-waits scope (catching x) breaks later k = tt
@@ -460,7 +506,11 @@ inside-waits ts (travels c s) k h = tt
 inside-waits ts (has_effect s) k h = tt
 inside-waits ts (is_full what s) k h = tt
 
-around-waits : (p : Program) (scope : Addr) (f : Form) (later : Terms) (s : State) (x : Walked) → ProgramWaits p → ByCase (uncovers f) (RestWaits all_done later) (Tights later) → WalkWaits x → MoveWaits (around p scope f later s x)
+around-waits : (p : Program) (scope : Addr) (f : Form) (later : Terms) (s : State) (x : Walked)
+    → ProgramWaits p
+    → ByCase (uncovers f) (RestWaits all_done later) (Tights later)
+    → WalkWaits x
+    → MoveWaits (around p scope f later s x)
 around-waits p scope f later s (all_values vs) g k h = perform-waits (row p s scope f vs later) s (row-waits p s scope f vs later g k)
 around-waits p scope f later s (moved (goes now t told)) g k h = settled-tight f now later h k
 around-waits p scope f later s (moved (travels c t)) g k h = perform-waits (taken scope f c later) t (taken-waits scope f c later k)
@@ -468,12 +518,18 @@ around-waits p scope f later s (moved (has_effect t)) g k h = tt
 around-waits p scope f later s (moved (is_full what t)) g k h = tt
 
 mutual
-  pub next-waits : (p : Program) (scope : Addr) (t : Term) (s : State) → ProgramWaits p → Waits all_done t → MoveWaits (next p scope t s)
+  pub next-waits : (p : Program) (scope : Addr) (t : Term) (s : State)
+      → ProgramWaits p
+      → Waits all_done t
+      → MoveWaits (next p scope t s)
   next-waits p scope (done v) s g h = tt
   next-waits p scope (standing v place) s g h = tt
   next-waits p scope (part f now later) s g h = around-waits p scope f later s (walk p (scope_in f scope) now s) g h.2 (walk-waits p (scope_in f scope) now s g h.1)
 
-  walk-waits : (p : Program) (scope : Addr) (ts : Terms) (s : State) → ProgramWaits p → Tights ts → WalkWaits (walk p scope ts s)
+  walk-waits : (p : Program) (scope : Addr) (ts : Terms) (s : State)
+      → ProgramWaits p
+      → Tights ts
+      → WalkWaits (walk p scope ts s)
   walk-waits p scope end s g h = tt
   walk-waits p scope (more (done v) ts) s g h = with_value-waits v (walk p scope ts s) (walk-waits p scope ts s g h.1)
   walk-waits p scope (more (standing v place) ts) s g h = tt
@@ -496,7 +552,10 @@ step-waits : (p : Program) (scope : Addr) (r : Run) → ProgramWaits p → RunWa
 step-waits p scope (running t s) g h = after-waits (next p scope t s) (next-waits p scope t s g h)
 step-waits p scope (over f s) g h = tt
 
-steps-wait : (k : ℕ) (p : Program) (scope : Addr) (r : Run) → ProgramWaits p → RunWaits r → RunWaits (steps_in k p scope r)
+steps-wait : (k : ℕ) (p : Program) (scope : Addr) (r : Run)
+    → ProgramWaits p
+    → RunWaits r
+    → RunWaits (steps_in k p scope r)
 steps-wait zero p scope r g h = h
 steps-wait (suc k) p scope r g h = steps-wait k p scope (step_in p scope r) g (step-waits p scope r g h)
 
@@ -517,17 +576,23 @@ mutual
   placed-waits at n (part f now later) h =
       (λ e. h.0 (sym (ready-placed at n now) ∙ e), all-placed-wait at n now h.1, case-placed-waits (uncovers f) at (n + length (literals_of now)) later h.2)
 
-  all-placed-wait : (at : ℕ → Addr) (n : ℕ) (ts : Terms) → AllWait all_ready ts → AllWait all_done (all_with_literals at n ts)
+  all-placed-wait : (at : ℕ → Addr) (n : ℕ) (ts : Terms)
+      → AllWait all_ready ts
+      → AllWait all_done (all_with_literals at n ts)
   all-placed-wait at n end h = tt
   all-placed-wait at n (more t ts) h = (placed-waits at n t h.0, all-placed-wait at (n + length (literals t)) ts h.1)
 
-  parts-placed-wait : (at : ℕ → Addr) (n : ℕ) (t : Term) → PartsWait all_ready t → PartsWait all_done (with_literals at n t)
+  parts-placed-wait : (at : ℕ → Addr) (n : ℕ) (t : Term)
+      → PartsWait all_ready t
+      → PartsWait all_done (with_literals at n t)
   parts-placed-wait at n (done v) h = tt
   parts-placed-wait at n (standing v place) h = tt
   parts-placed-wait at n (part (literal us) now later) h = tt
   parts-placed-wait at n (part f now later) h = (all-placed-wait at n now h.0, case-placed-waits (uncovers f) at (n + length (literals_of now)) later h.1)
 
-  case-placed-waits : (b : Bool) (at : ℕ → Addr) (n : ℕ) (ts : Terms) → ByCase b (RestWaits all_ready ts) (AllWait all_ready ts) → ByCase b (RestWaits all_done (all_with_literals at n ts)) (AllWait all_done (all_with_literals at n ts))
+  case-placed-waits : (b : Bool) (at : ℕ → Addr) (n : ℕ) (ts : Terms)
+      → ByCase b (RestWaits all_ready ts) (AllWait all_ready ts)
+      → ByCase b (RestWaits all_done (all_with_literals at n ts)) (AllWait all_done (all_with_literals at n ts))
   case-placed-waits true at n end h = tt
   case-placed-waits false at n end h = tt
   case-placed-waits true at n (more t ts) h = (parts-placed-wait at n t h.0, all-placed-wait at (n + length (literals t)) ts h.1)

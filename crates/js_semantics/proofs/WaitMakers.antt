@@ -65,7 +65,10 @@ compounded-waits o (standing v place) e h k = h
 compounded-waits o (part (read r) now later) e h k = (λ q. refl, h.1, (k, tt))
 compounded-waits o (part f now later) e h k = h
 
-assignment-waits : (o : Option BinaryOperator) (t e : Term) → Waits all_ready t → Waits all_ready e → Waits all_ready (assignment o t e)
+assignment-waits : (o : Option BinaryOperator) (t e : Term)
+    → Waits all_ready t
+    → Waits all_ready e
+    → Waits all_ready (assignment o t e)
 assignment-waits None t e h k = assigned-waits t e h k
 assignment-waits (Some o) t e h k = compounded-waits o t e h k
 
@@ -96,7 +99,10 @@ unary-waits unaries.Minus t h = (λ q. refl, (h, tt), tt)
 unary-waits unaries.BitwiseNot t h = (λ q. refl, (h, tt), tt)
 unary-waits unaries.LogicalNot t h = (λ q. refl, (h, tt), tt)
 
-binary-waits : (o : BinaryOperator) (l r : Term) → Waits all_ready l → Waits all_ready r → Waits all_ready (binary_term o l r)
+binary-waits : (o : BinaryOperator) (l r : Term)
+    → Waits all_ready l
+    → Waits all_ready r
+    → Waits all_ready (binary_term o l r)
 binary-waits binaries.LogicalAnd l r h k = (λ q. refl, (h, tt), (k, tt))
 binary-waits binaries.LogicalOr l r h k = (λ q. refl, (h, tt), (k, tt))
 binary-waits o l r h k = (λ q. refl, (h, (k, tt)), tt)
@@ -105,7 +111,10 @@ comma-waits : (ts : Terms) → AllWait all_ready ts → Waits all_ready (comma_t
 comma-waits end h = tt
 comma-waits (more t ts) h = (λ q. refl, (h.0, tt), h.1)
 
-call-waits : (m : Mark) (node : ℕ) (t : Term) (args : Terms) → Waits all_ready t → AllWait all_ready args → Waits all_ready (call_term m node t args)
+call-waits : (m : Mark) (node : ℕ) (t : Term) (args : Terms)
+    → Waits all_ready t
+    → AllWait all_ready args
+    → Waits all_ready (call_term m node t args)
 call-waits m node (done v) args h k = (λ q. refl, (tt, (h, k)), tt)
 call-waits m node (standing v place) args h k = (λ q. refl, (tt, (h, k)), tt)
 call-waits m node (part (read r) now later) args h k = (λ q. refl, h.1, k)
@@ -116,14 +125,18 @@ call-waits m node (part f now later) args h k = (λ q. refl, (tt, (h, k)), tt)
 body-waits : (b : Items) (c : Context) → ItemsWait b → RestWaits all_ready (body_terms b c)
 body-waits b c h = ((h.terms_wait (within 0 c), tt), h.functions_wait (within 0 c))
 
-function-waits : (node : ℕ) (n : Option (List ℕ)) (ps : List (List ℕ)) (b : Items) (c : Context) → ItemsWait b → Waits all_ready (function_term node n ps b c)
+function-waits : (node : ℕ) (n : Option (List ℕ)) (ps : List (List ℕ)) (b : Items) (c : Context)
+    → ItemsWait b
+    → Waits all_ready (function_term node n ps b c)
 function-waits node (Some n) ps b c h = (λ q. refl, tt, body-waits b c h)
 function-waits node None ps b c h = (λ q. refl, tt, body-waits b c h)
 
 returned-waits : (e : Made) → MadeWaits e → ItemsWait (returned_body e)
 returned-waits e h = record { functions_wait = λ c. tt; terms_wait = λ c. ((λ q. refl, tt, (((h (within e.node c), tt), tt), tt)), tt) }
 
-arrow-waits : (node : ℕ) (n : List ℕ) (ps : List (List ℕ)) (b : Items) (c : Context) → ItemsWait b → Waits all_ready (part (function (form_of node c.source n ps b.names true false)) end (body_terms b c))
+arrow-waits : (node : ℕ) (n : List ℕ) (ps : List (List ℕ)) (b : Items) (c : Context)
+    → ItemsWait b
+    → Waits all_ready (part (function (form_of node c.source n ps b.names true false)) end (body_terms b c))
 arrow-waits node n ps b c h = (λ q. refl, tt, body-waits b c h)
 
 -- ---- statements
@@ -159,7 +172,9 @@ declarators-wait : (ds : List DeclaratorMade) (c : Context) → DeclaratorsWait 
 declarators-wait [] c h = tt
 declarators-wait (d ∷ ds) c h = ((λ q. refl, initializer-waits d.name d.initializer c h.0, tt), declarators-wait ds c h.1)
 
-lexical-waits : (node : ℕ) (constant : Bool) (ds : List DeclaratorMade) → DeclaratorsWait ds → ItemWaits (lexical_item node constant ds)
+lexical-waits : (node : ℕ) (constant : Bool) (ds : List DeclaratorMade)
+    → DeclaratorsWait ds
+    → ItemWaits (lexical_item node constant ds)
 lexical-waits node constant ds h = record { functions_wait = λ c. tt; term_waits = λ c. (λ q. refl, tt, ((declarators-wait ds (within node c) h, tt), tt)) }
 
 optional_terms-wait : (e : Option Made) (c : Context) → OptionalWaits e → Tights (optional_terms e c)
@@ -170,10 +185,18 @@ optional-waits : (e : Option Made) (c : Context) (t : Term) → OptionalWaits e 
 optional-waits None c t h k = k
 optional-waits (Some e) c t h k = h (unnamed c)
 
-parts-wait : (t u : Option Made) (s : Item) (c : Context) → OptionalWaits t → OptionalWaits u → ItemWaits s → Tights (for_parts t u s c)
+parts-wait : (t u : Option Made) (s : Item) (c : Context)
+    → OptionalWaits t
+    → OptionalWaits u
+    → ItemWaits s
+    → Tights (for_parts t u s c)
 parts-wait t u s c h k i = (optional-waits t c (done (values.Bool true)) h tt, (optional-waits u c (done values.Undefined) k tt, (i.term_waits c, tt)))
 
-if-waits : (node : ℕ) (e : Made) (s t : Item) → MadeWaits e → ItemWaits s → ItemWaits t → ItemWaits (if_item node e s (Some t))
+if-waits : (node : ℕ) (e : Made) (s t : Item)
+    → MadeWaits e
+    → ItemWaits s
+    → ItemWaits t
+    → ItemWaits (if_item node e s (Some t))
 if-waits node e s t h k i = entered-waits node (λ c. part choose (one (plain e c)) (more (s.term c) (one (t.term c)))) (λ c. ((h (unnamed c), tt), (k.term_waits c, (i.term_waits c, tt))))
 
 if_then-waits : (node : ℕ) (e : Made) (s : Item) → MadeWaits e → ItemWaits s → ItemWaits (if_item node e s None)
@@ -185,13 +208,26 @@ while-waits node e s h k = entered-waits node (λ c. part (loop first None) end 
 do_while-waits : (node : ℕ) (s : Item) (e : Made) → ItemWaits s → MadeWaits e → ItemWaits (do_while_item node s e)
 do_while-waits node s e k h = entered-waits node (λ c. part (loop doing None) end (more (plain e c) (more (done values.Undefined) (one (s.term c))))) (λ c. (tt, (h (unnamed c), (tt, (k.term_waits c, tt)))))
 
-for-waits : (node : ℕ) (i t u : Option Made) (s : Item) → OptionalWaits i → OptionalWaits t → OptionalWaits u → ItemWaits s → ItemWaits (for_item node i t u s)
+for-waits : (node : ℕ) (i t u : Option Made) (s : Item)
+    → OptionalWaits i
+    → OptionalWaits t
+    → OptionalWaits u
+    → ItemWaits s
+    → ItemWaits (for_item node i t u s)
 for-waits node i t u s a b d k = entered-waits node (λ c. part (loop first None) (optional_terms i c) (for_parts t u s c)) (λ c. (optional_terms-wait i c a, parts-wait t u s c b d k))
 
-for_lexical-waits : (node : ℕ) (constant : Bool) (ds : List DeclaratorMade) (t u : Option Made) (s : Item) → DeclaratorsWait ds → OptionalWaits t → OptionalWaits u → ItemWaits s → ItemWaits (for_lexical_item node constant ds t u s)
+for_lexical-waits : (node : ℕ) (constant : Bool) (ds : List DeclaratorMade) (t u : Option Made) (s : Item)
+    → DeclaratorsWait ds
+    → OptionalWaits t
+    → OptionalWaits u
+    → ItemWaits s
+    → ItemWaits (for_lexical_item node constant ds t u s)
 for_lexical-waits node constant ds t u s h a b k = record { functions_wait = λ c. tt; term_waits = λ c. (λ q. refl, tt, ((declarators-wait ds (within node c) h, tt), parts-wait t u s (within node c) a b k)) }
 
-for_of-waits : (node : ℕ) (constant : Bool) (n : List ℕ) (e : Made) (s : Item) → MadeWaits e → ItemWaits s → ItemWaits (for_of_item node constant n e s)
+for_of-waits : (node : ℕ) (constant : Bool) (n : List ℕ) (e : Made) (s : Item)
+    → MadeWaits e
+    → ItemWaits s
+    → ItemWaits (for_of_item node constant n e s)
 for_of-waits node constant n e s h k = record { functions_wait = λ c. tt; term_waits = λ c. (λ q. refl, tt, (h (unnamed (within node c)), (k.term_waits (within node c), tt))) }
 
 return-waits : (node : ℕ) (e : Option Made) → OptionalWaits e → ItemWaits (return_item node e)
@@ -206,7 +242,10 @@ FinalizerWaits None = Unit {0}
 FinalizerWaits (Some b) = ItemsWait b
 
 -- a block is no value, so a `try` around one waits
-caught-waits : (h : Option CatchMade) (b : Items) (c : Context) → HandlerWaits h → ItemsWait b → Tight (caught h (block_term b c) c)
+caught-waits : (h : Option CatchMade) (b : Items) (c : Context)
+    → HandlerWaits h
+    → ItemsWait b
+    → Tight (caught h (block_term b c) c)
 caught-waits None b c k i = block-waits b c i
 caught-waits (Some h) b c k i = (λ q. absurd cc, (block-waits b c i, tt), (block-waits h.body c k, tt))
 
@@ -214,10 +253,16 @@ finally-waits : (f : Option Items) (t : Term) (c : Context) → FinalizerWaits f
 finally-waits None t c k i = made-loosened t i
 finally-waits (Some f) t c k i = ((i, tt), (block-waits f c k, tt))
 
-try-waits : (node : ℕ) (b : Items) (h : Option CatchMade) (f : Option Items) → ItemsWait b → HandlerWaits h → FinalizerWaits f → ItemWaits (try_item node b h f)
+try-waits : (node : ℕ) (b : Items) (h : Option CatchMade) (f : Option Items)
+    → ItemsWait b
+    → HandlerWaits h
+    → FinalizerWaits f
+    → ItemWaits (try_item node b h f)
 try-waits node b h f i j k = entered-waits node (λ c. finally_term f (caught h (block_term b c) c) c) (λ c. finally-waits f (caught h (block_term b c) c) c k (caught-waits h b c j i))
 
-function_item-waits : (node : ℕ) (n : List ℕ) (ps : List (List ℕ)) (b : Items) → ItemsWait b → ItemWaits (function_item node n ps b)
+function_item-waits : (node : ℕ) (n : List ℕ) (ps : List (List ℕ)) (b : Items)
+    → ItemsWait b
+    → ItemWaits (function_item node n ps b)
 function_item-waits node n ps b h = record { functions_wait = λ c. ((λ q. refl, tt, body-waits b c h), tt); term_waits = λ c. tt }
 
 -- ---- object literals
@@ -237,7 +282,10 @@ PropertiesWait (m ∷ ms) = PropertyWaits m × PropertiesWait ms
 abbrev PartsTight : Parts → Type 0
 PartsTight p = Tights p.now × Tights p.later
 
-property-waits : (m : PropertyMade) (c : Context) (p : Parts) → PropertyWaits m → PartsTight p → PartsTight (property_parts m c p)
+property-waits : (m : PropertyMade) (c : Context) (p : Parts)
+    → PropertyWaits m
+    → PartsTight p
+    → PartsTight (property_parts m c p)
 property-waits (value_property (fixed_key k) e) c p h q = ((h.1 (naming k c), q.0), q.1)
 property-waits (value_property (computed_key k) e) c p h q = ((h.0 (unnamed c), (h.1 (unnamed c), q.0)), q.1)
 property-waits (method_property node (fixed_key k) ps b) c p h q = (((λ e. refl, tt, body-waits b c h.1), q.0), q.1)
@@ -247,7 +295,9 @@ properties-wait : (ms : List PropertyMade) (c : Context) → PropertiesWait ms �
 properties-wait [] c h = (tt, tt)
 properties-wait (m ∷ ms) c h = property-waits m c (properties_parts ms c) h.0 (properties-wait ms c h.1)
 
-object-waits : (ms : List PropertyMade) (c : Context) → PropertiesWait ms → Waits all_ready (object_term ms (properties_parts ms c))
+object-waits : (ms : List PropertyMade) (c : Context)
+    → PropertiesWait ms
+    → Waits all_ready (object_term ms (properties_parts ms c))
 object-waits ms c h = let q = properties-wait ms c h in (λ e. refl, q.0, q.1)
 
 -- ---- trees

@@ -179,7 +179,15 @@ abbrev pub with_arguments : Value → List Argument → Tried Term → Tried Ter
 with_arguments receiver args t = after_try t (λ callee w. after_try (make_arguments w args) (λ vs v. fine (call_with_values receiver callee vs) v))
 
 -- calls a source's function with a `this` and arguments
-abbrev pub evaluate_call : Program → World → ScratchSpace → List ℕ → List (List ℕ) → Made → Value → List Argument → Answer
+abbrev pub evaluate_call : Program
+    → World
+    → ScratchSpace
+    → List ℕ
+    → List (List ℕ)
+    → Made
+    → Value
+    → List Argument
+    → Answer
 evaluate_call p w x source order callee receiver args =
     answered (with_arguments receiver args (prepared w x source order callee)) (evaluated (with_source p x callee) script_scope values.Undefined)
 

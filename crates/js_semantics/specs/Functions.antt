@@ -146,7 +146,16 @@ abbrev pub frame_limit : ℕ
 frame_limit = 1000
 
 -- a call of a function whose code stands in a source, with the `this` that it was made with and the one that is given
-abbrev pub call_code : State → Option FunctionCode → Source → Addr → List ℕ → Option Addr → Value → Value → List Value → Action
+abbrev pub call_code : State
+    → Option FunctionCode
+    → Source
+    → Addr
+    → List ℕ
+    → Option Addr
+    → Value
+    → Value
+    → List Value
+    → Action
 call_code s (Some c) source a name (Some outer) made given args =
     if nat_lt (length s.frames) frame_limit then entered c source a name outer (called_this c.form.is_arrow made given) args else too_deep
 call_code s _ source a name outer made given args = not_a_function

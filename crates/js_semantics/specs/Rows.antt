@@ -203,7 +203,11 @@ callee_row w scope r place node vs later =
 -- ---- object literals (13.2.5)
 
 -- the properties in order; None where a computed key is no key
-abbrev pub with_computed : Option (List ℕ) → List Property → Value → (List Property → Option (List Property)) → Option (List Property)
+abbrev pub with_computed : Option (List ℕ)
+    → List Property
+    → Value
+    → (List Property → Option (List Property))
+    → Option (List Property)
 with_computed None ps v k = None
 with_computed (Some key) ps v k = k (put_property ps key v)
 

@@ -21,7 +21,8 @@ use Rattle.js_semantics.specs.Terms.{Term, Terms, end, more}
 use Rattle.js_semantics.specs.Makers.{parameter_names, Made, Item, Items, PropertyKey, fixed_key, computed_key, PropertyMade, value_property, method_property, DeclaratorMade, CatchMade, value_made, number_made, string_made, this_made, name_made, array_made, parenthesized_made, member_made, index_made, assign_made, update_made, unary_made, binary_made, conditional_made, comma_made, call_made, function_made, returned_body, arrow_made, object_made, items_of, block_item, empty_item, expression_item, lexical_item, if_item, while_item, do_while_item, for_item, for_lexical_item, for_of_item, continue_item, break_item, return_item, throw_item, try_item, debugger_item, function_item, script_term}
 
 -- what is made of each type of tree
-abbrev pub Layer : (Type 0 → Type 0 → Type 0 → Type 0 → Type 0 → Type 0 → Type 0 → Type 0 → Type 0 → Type 0 → Type 0 → Type 0) → Type 0
+abbrev pub Layer : (Type 0 → Type 0 → Type 0 → Type 0 → Type 0 → Type 0 → Type 0 → Type 0 → Type 0 → Type 0 → Type 0 → Type 0)
+    → Type 0
 Layer F = F Made PropertyMade PropertyKey Item Items CatchMade DeclaratorMade (List DeclaratorMade) (List Made) (List PropertyMade) Items
 
 -- one level of an expression, with what is made of its parts

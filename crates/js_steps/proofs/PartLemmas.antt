@@ -11,7 +11,8 @@ use Rattle.js_code.proofs.TreeLemmas.{kids-some, kids-none, kids-end}
 
 -- ---- values and parts
 
-pub joined-value : (vs : List Value) (v : Value) (us : Terms) → joined (dones (vs ++ v ∷ [])) us ≡ joined (dones vs) (more (done v) us)
+pub joined-value : (vs : List Value) (v : Value) (us : Terms)
+    → joined (dones (vs ++ v ∷ [])) us ≡ joined (dones vs) (more (done v) us)
 joined-value [] v us = refl
 joined-value (x ∷ vs) v us = ap (more (done x)) (joined-value vs v us)
 
@@ -21,23 +22,45 @@ joined-end (x ∷ vs) = ap (more (done x)) (joined-end vs)
 
 -- ---- one part after the other
 
-value_at_place : (ts : List (List ℕ)) (t : NodeTable) (at mid k : ℕ) (vs : List Value) (v : Value) → at < mid → slice_get t.kids.items at ≡ Some k → tree ts t k ≡ done v → joined (dones (vs ++ v ∷ [])) (trees ts t (at + 1) mid) ≡ joined (dones vs) (trees ts t at mid)
+value_at_place : (ts : List (List ℕ)) (t : NodeTable) (at mid k : ℕ) (vs : List Value) (v : Value)
+    → at < mid
+    → slice_get t.kids.items at ≡ Some k
+    → tree ts t k ≡ done v
+    → joined (dones (vs ++ v ∷ [])) (trees ts t (at + 1) mid) ≡ joined (dones vs) (trees ts t at mid)
 value_at_place ts t at mid k vs v h e d =
     joined-value vs v (trees ts t (at + 1) mid)
     ∙ ap (λ x. joined (dones vs) (more x (trees ts t (at + 1) mid))) (sym d)
     ∙ ap (λ ks. joined (dones vs) (terms (tree ts t) ks)) (sym (kids-some t at mid k h e))
 
-below_some : (t : NodeTable) (at mid k m : ℕ) → at < mid → slice_get t.kids.items at ≡ Some k → EachBelow m (kids_between t at mid) → EachBelow m (k ∷ kids_between t (at + 1) mid)
+below_some : (t : NodeTable) (at mid k m : ℕ)
+    → at < mid
+    → slice_get t.kids.items at ≡ Some k
+    → EachBelow m (kids_between t at mid)
+    → EachBelow m (k ∷ kids_between t (at + 1) mid)
 below_some t at mid k m h e b = let P : List ℕ → Type 0 = EachBelow m in subst P (kids-some t at mid k h e) b
 
-taken_value_of : (t : NodeTable) (w : Wide) (ws : List Wide) (at k : ℕ) (vs us : List Value) (v : Value) → ((ts : List (List ℕ)) → joined (dones vs) (trees ts t at w.mid) ≡ parts_of ts t (w ∷ ws)) → ((m : ℕ) → EachBelow m (kids_between t w.at w.mid) → EachBelow m (kids_between t at w.mid)) → at < w.mid → slice_get t.kids.items at ≡ Some k → ((ts : List (List ℕ)) → tree ts t k ≡ done v) → us ≡ vs ++ v ∷ [] → IsTaken t (w ∷ ws) (record w { values = us } ∷ ws) (at + 1)
+taken_value_of : (t : NodeTable) (w : Wide) (ws : List Wide) (at k : ℕ) (vs us : List Value) (v : Value)
+    → ((ts : List (List ℕ)) → joined (dones vs) (trees ts t at w.mid) ≡ parts_of ts t (w ∷ ws))
+    → ((m : ℕ) → EachBelow m (kids_between t w.at w.mid) → EachBelow m (kids_between t at w.mid))
+    → at < w.mid
+    → slice_get t.kids.items at ≡ Some k
+    → ((ts : List (List ℕ)) → tree ts t k ≡ done v)
+    → us ≡ vs ++ v ∷ []
+    → IsTaken t (w ∷ ws) (record w { values = us } ∷ ws) (at + 1)
 taken_value_of t w ws at k vs us v parts below h e d u = record {
   same = refl;
   parts = λ ts. ap (λ x. joined (dones x) (trees ts t (at + 1) w.mid)) u ∙ value_at_place ts t at w.mid k vs v h e (d ts) ∙ parts ts;
   below = λ m b. (below_some t at w.mid k m h e (below m b)).1;
 }
 
-pub taken-value : (t : NodeTable) (old new next : List Wide) (at mid k : ℕ) (v : Value) → IsTaken t old new at → mid ≡ mid_of old → at < mid → slice_get t.kids.items at ≡ Some k → ((ts : List (List ℕ)) → tree ts t k ≡ done v) → next ≡ with_value v new → IsTaken t old next (at + 1)
+pub taken-value : (t : NodeTable) (old new next : List Wide) (at mid k : ℕ) (v : Value)
+    → IsTaken t old new at
+    → mid ≡ mid_of old
+    → at < mid
+    → slice_get t.kids.items at ≡ Some k
+    → ((ts : List (List ℕ)) → tree ts t k ≡ done v)
+    → next ≡ with_value v new
+    → IsTaken t old next (at + 1)
 taken-value t [] new next at mid k v i q h e d n = absurd (omega arith)
 taken-value t (w ∷ ws) new next at mid k v i q h e d n =
     let f : next ≡ record w { values = values_of new ++ v ∷ [] } ∷ ws = n ∙ ap (with_value v) i.same in
@@ -46,28 +69,49 @@ taken-value t (w ∷ ws) new next at mid k v i q h e d n =
 
 -- ---- the next part, or none
 
-part_of : (t : NodeTable) (w : Wide) (ws : List Wide) (at k : ℕ) (vs : List Value) → ((ts : List (List ℕ)) → joined (dones vs) (trees ts t at w.mid) ≡ parts_of ts t (w ∷ ws)) → ((m : ℕ) → EachBelow m (kids_between t w.at w.mid) → EachBelow m (kids_between t at w.mid)) → at < w.mid → slice_get t.kids.items at ≡ Some k → IsOpen (slice_get t.nodes.items k) → IsNextPart t (w ∷ ws) (record w { values = vs; at = at + 1 } ∷ ws) (Some k)
+part_of : (t : NodeTable) (w : Wide) (ws : List Wide) (at k : ℕ) (vs : List Value)
+    → ((ts : List (List ℕ)) → joined (dones vs) (trees ts t at w.mid) ≡ parts_of ts t (w ∷ ws))
+    → ((m : ℕ) → EachBelow m (kids_between t w.at w.mid) → EachBelow m (kids_between t at w.mid))
+    → at < w.mid
+    → slice_get t.kids.items at ≡ Some k
+    → IsOpen (slice_get t.nodes.items k)
+    → IsNextPart t (w ∷ ws) (record w { values = vs; at = at + 1 } ∷ ws) (Some k)
 part_of t w ws at k vs parts below h e o = record {
   same = refl;
   parts = λ ts. sym (parts ts) ∙ ap (λ ks. joined (dones vs) (terms (tree ts t) ks)) (kids-some t at w.mid k h e);
   part = record { form = o; below = λ m b. (below_some t at w.mid k m h e (below m b)).0 };
 }
 
-pub taken-part : (t : NodeTable) (old new next : List Wide) (at mid k : ℕ) → IsTaken t old new at → mid ≡ mid_of old → at < mid → slice_get t.kids.items at ≡ Some k → IsOpen (slice_get t.nodes.items k) → next ≡ at_part (at + 1) new → IsNextPart t old next (Some k)
+pub taken-part : (t : NodeTable) (old new next : List Wide) (at mid k : ℕ)
+    → IsTaken t old new at
+    → mid ≡ mid_of old
+    → at < mid
+    → slice_get t.kids.items at ≡ Some k
+    → IsOpen (slice_get t.nodes.items k)
+    → next ≡ at_part (at + 1) new
+    → IsNextPart t old next (Some k)
 taken-part t [] new next at mid k i q h e o n = absurd (omega arith)
 taken-part t (w ∷ ws) new next at mid k i q h e o n =
     let f : next ≡ record w { values = values_of new; at = at + 1 } ∷ ws = n ∙ ap (at_part (at + 1)) i.same in
     let P : List Wide → Type 0 = λ xs. IsNextPart t (w ∷ ws) xs (Some k) in
     subst P (sym f) (part_of t w ws at k (values_of new) i.parts i.below (omega arith) e o)
 
-end_of : (t : NodeTable) (w : Wide) (ws : List Wide) (at : ℕ) (vs : List Value) → ((ts : List (List ℕ)) → joined (dones vs) (trees ts t at w.mid) ≡ parts_of ts t (w ∷ ws)) → kids_between t at w.mid ≡ [] → IsNextPart t (w ∷ ws) (record w { values = vs; at = w.mid } ∷ ws) None
+end_of : (t : NodeTable) (w : Wide) (ws : List Wide) (at : ℕ) (vs : List Value)
+    → ((ts : List (List ℕ)) → joined (dones vs) (trees ts t at w.mid) ≡ parts_of ts t (w ∷ ws))
+    → kids_between t at w.mid ≡ []
+    → IsNextPart t (w ∷ ws) (record w { values = vs; at = w.mid } ∷ ws) None
 end_of t w ws at vs parts e = record {
   same = refl;
   parts = λ ts. sym (parts ts) ∙ ap (λ ks. joined (dones vs) (terms (tree ts t) ks)) e ∙ joined-end vs;
   part = refl;
 }
 
-pub taken-end : (t : NodeTable) (old new next : List Wide) (at mid : ℕ) → IsTaken t old new at → mid ≡ mid_of old → kids_between t at mid ≡ [] → next ≡ at_part mid new → IsNextPart t old next None
+pub taken-end : (t : NodeTable) (old new next : List Wide) (at mid : ℕ)
+    → IsTaken t old new at
+    → mid ≡ mid_of old
+    → kids_between t at mid ≡ []
+    → next ≡ at_part mid new
+    → IsNextPart t old next None
 taken-end t [] new next at mid i q e n =
     let f : next ≡ [] = n ∙ ap (at_part mid) i.same in
     let P : List Wide → Type 0 = λ xs. IsNextPart t [] xs None in
@@ -78,8 +122,18 @@ taken-end t (w ∷ ws) new next at mid i q e n =
     let g : kids_between t at w.mid ≡ [] = ap (λ x. kids_between t at x) (sym q) ∙ e in
     subst P (sym f) (end_of t w ws at (values_of new) i.parts g)
 
-pub taken-none : (t : NodeTable) (old new next : List Wide) (at mid : ℕ) → IsTaken t old new at → mid ≡ mid_of old → slice_get t.kids.items at ≡ None → next ≡ at_part mid new → IsNextPart t old next None
+pub taken-none : (t : NodeTable) (old new next : List Wide) (at mid : ℕ)
+    → IsTaken t old new at
+    → mid ≡ mid_of old
+    → slice_get t.kids.items at ≡ None
+    → next ≡ at_part mid new
+    → IsNextPart t old next None
 taken-none t old new next at mid i q e n = taken-end t old new next at mid i q (kids-none t at mid e) n
 
-pub taken-all : (t : NodeTable) (old new next : List Wide) (at mid : ℕ) → IsTaken t old new at → mid ≡ mid_of old → mid ≤ at → next ≡ at_part mid new → IsNextPart t old next None
+pub taken-all : (t : NodeTable) (old new next : List Wide) (at mid : ℕ)
+    → IsTaken t old new at
+    → mid ≡ mid_of old
+    → mid ≤ at
+    → next ≡ at_part mid new
+    → IsNextPart t old next None
 taken-all t old new next at mid i q h n = taken-end t old new next at mid i q (kids-end t at mid h) n

@@ -35,7 +35,9 @@ ends_silent (goes t u told) f s h = absurd h
 ends_silent (has_effect u) f s h = absurd h
 ends_silent (is_full what u) f s h = absurd h
 
-told_prints : (m : Move Term) (stepped : Stepped) (t : Term) (s : State) → Tells m stepped t s → PrintsBy (why_of stepped) (values_moved m)
+told_prints : (m : Move Term) (stepped : Stepped) (t : Term) (s : State)
+    → Tells m stepped t s
+    → PrintsBy (why_of stepped) (values_moved m)
 told_prints m steppeds.Went t s h = ap values_moved h
 told_prints m steppeds.Raised t s h = ap values_moved h
 told_prints m (steppeds.Printed vs) t s h = ap values_moved h
@@ -44,17 +46,26 @@ told_prints m steppeds.Effect t s h = ap values_moved h
 told_prints m (steppeds.Full what) t s h = ap values_moved h
 told_prints m steppeds.Memory t s h = tt
 
-printed_of : (p : Program) (a : Addr) (t : Term) (s : State) → is_done t ≡ false → values_printed p a (run_of t s) ≡ values_moved (next p a t s)
+printed_of : (p : Program) (a : Addr) (t : Term) (s : State)
+    → is_done t ≡ false
+    → values_printed p a (run_of t s) ≡ values_moved (next p a t s)
 printed_of p a (done v) s h = cc
 printed_of p a (standing v place) s h = refl
 printed_of p a (part f now later) s h = refl
 
 -- ---- the last step
 
-last_more : (k : ℕ) (p : Program) (a : Addr) (r : Run) → last_printed (k + 1) p a r ≡ values_printed p a (steps_in k p a r)
+last_more : (k : ℕ) (p : Program) (a : Addr) (r : Run)
+    → last_printed (k + 1) p a r ≡ values_printed p a (steps_in k p a r)
 last_more k p a r = ap (λ n. last_printed n p a r) (add-one k)
 
-prints_by : (ts : List (List ℕ)) (t : NodeTable) (root : Addr) (ws : List Wide) (p : Point) (w : World) (c : Context) (k : ℕ) (vs us : List Wide) (q o : Point) (v x : World) (d e : Context) (stepped : Stepped) (b : Option Why) → HasRun ts t root ws p w c k vs q v d → IsGoing q → why_of stepped ≡ b → (taken : List (List ℕ)) → Tells (next (program_of ts t) root (term_at ts t vs q) (state_of v d taken)) stepped (term_at ts t us o) (state_of x e taken) → PrintsBy b (last_printed (k + 1) (program_of ts t) root (run_of (term_at ts t ws p) (state_of w c taken)))
+prints_by : (ts : List (List ℕ)) (t : NodeTable) (root : Addr) (ws : List Wide) (p : Point) (w : World) (c : Context) (k : ℕ) (vs us : List Wide) (q o : Point) (v x : World) (d e : Context) (stepped : Stepped) (b : Option Why)
+    → HasRun ts t root ws p w c k vs q v d
+    → IsGoing q
+    → why_of stepped ≡ b
+    → (taken : List (List ℕ))
+    → Tells (next (program_of ts t) root (term_at ts t vs q) (state_of v d taken)) stepped (term_at ts t us o) (state_of x e taken)
+    → PrintsBy b (last_printed (k + 1) (program_of ts t) root (run_of (term_at ts t ws p) (state_of w c taken)))
 prints_by ts t root ws p w c k vs us q o v x d e stepped b h g y taken told =
     let f =
     last_more k (program_of ts t) root (run_of (term_at ts t ws p) (state_of w c taken))
@@ -65,11 +76,23 @@ prints_by ts t root ws p w c k vs us q o v x d e stepped b h g y taken told =
     subst Q y (subst P (sym f) (told_prints (next (program_of ts t) root (term_at ts t vs q) (state_of v d taken)) stepped (term_at ts t us o) (state_of x e taken) told))
 
 -- a step after which it stops
-pub stop-prints : (ts : List (List ℕ)) (t : NodeTable) (root : Addr) (ws : List Wide) (p : Point) (w : World) (c : Context) (k : ℕ) (vs us : List Wide) (q o : Point) (v x : World) (d e : Context) (stepped : Stepped) (why : Why) → HasRun ts t root ws p w c k vs q v d → IsGoing q → why_of stepped ≡ Some why → (taken : List (List ℕ)) → Tells (next (program_of ts t) root (term_at ts t vs q) (state_of v d taken)) stepped (term_at ts t us o) (state_of x e taken) → PrintsAs why (last_printed (k + 1) (program_of ts t) root (run_of (term_at ts t ws p) (state_of w c taken)))
+pub stop-prints : (ts : List (List ℕ)) (t : NodeTable) (root : Addr) (ws : List Wide) (p : Point) (w : World) (c : Context) (k : ℕ) (vs us : List Wide) (q o : Point) (v x : World) (d e : Context) (stepped : Stepped) (why : Why)
+    → HasRun ts t root ws p w c k vs q v d
+    → IsGoing q
+    → why_of stepped ≡ Some why
+    → (taken : List (List ℕ))
+    → Tells (next (program_of ts t) root (term_at ts t vs q) (state_of v d taken)) stepped (term_at ts t us o) (state_of x e taken)
+    → PrintsAs why (last_printed (k + 1) (program_of ts t) root (run_of (term_at ts t ws p) (state_of w c taken)))
 stop-prints ts t root ws p w c k vs us q o v x d e stepped why h g y taken told = prints_by ts t root ws p w c k vs us q o v x d e stepped (Some why) h g y taken told
 
 -- a step after which it goes on
-pub next-silent : (ts : List (List ℕ)) (t : NodeTable) (root : Addr) (ws : List Wide) (p : Point) (w : World) (c : Context) (k : ℕ) (vs us : List Wide) (q o : Point) (v x : World) (d e : Context) (stepped : Stepped) → HasRun ts t root ws p w c k vs q v d → IsGoing q → why_of stepped ≡ None → (taken : List (List ℕ)) → Tells (next (program_of ts t) root (term_at ts t vs q) (state_of v d taken)) stepped (term_at ts t us o) (state_of x e taken) → last_printed (k + 1) (program_of ts t) root (run_of (term_at ts t ws p) (state_of w c taken)) ≡ None
+pub next-silent : (ts : List (List ℕ)) (t : NodeTable) (root : Addr) (ws : List Wide) (p : Point) (w : World) (c : Context) (k : ℕ) (vs us : List Wide) (q o : Point) (v x : World) (d e : Context) (stepped : Stepped)
+    → HasRun ts t root ws p w c k vs q v d
+    → IsGoing q
+    → why_of stepped ≡ None
+    → (taken : List (List ℕ))
+    → Tells (next (program_of ts t) root (term_at ts t vs q) (state_of v d taken)) stepped (term_at ts t us o) (state_of x e taken)
+    → last_printed (k + 1) (program_of ts t) root (run_of (term_at ts t ws p) (state_of w c taken)) ≡ None
 next-silent ts t root ws p w c k vs us q o v x d e stepped h g y taken told = prints_by ts t root ws p w c k vs us q o v x d e stepped None h g y taken told
 
 -- ---- the steps before it
@@ -77,7 +100,10 @@ next-silent ts t root ws p w c k vs us q o v x d e stepped h g y taken told = pr
 pub none-silent : (p : Program) (a : Addr) (r : Run) → IsSilent 0 p a r
 none-silent p a r = record { none = λ j below. absurd (omega arith) }
 
-pub more-silent : (k : ℕ) (p : Program) (a : Addr) (r : Run) → IsSilent k p a r → last_printed (k + 1) p a r ≡ None → IsSilent (k + 1) p a r
+pub more-silent : (k : ℕ) (p : Program) (a : Addr) (r : Run)
+    → IsSilent k p a r
+    → last_printed (k + 1) p a r ≡ None
+    → IsSilent (k + 1) p a r
 more-silent k p a r h e =
     let P : ℕ → Type 0 = λ j. values_printed p a (steps_in j p a r) ≡ None in
     record { none = λ j below. below_more P k h.none (sym (last_more k p a r) ∙ e) j below }

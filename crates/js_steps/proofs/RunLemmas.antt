@@ -44,7 +44,10 @@ leaf_open : (o : Option Node) → IsLeafAt o → IsOpen o
 leaf_open None h = h
 leaf_open (Some node) h = h.value
 
-pub at-open : (ts : List (List ℕ)) (t : NodeTable) (ws : List Wide) (p : Point) → IsAt t ws p → IsGoing p → is_done (term_at ts t ws p) ≡ false
+pub at-open : (ts : List (List ℕ)) (t : NodeTable) (ws : List Wide) (p : Point)
+    → IsAt t ws p
+    → IsGoing p
+    → is_done (term_at ts t ws p) ≡ false
 unfolding term_at
 at-open ts t [] points.Row h g = absurd h
 at-open ts t (w ∷ ws) points.Row h g = plugged_open (gaps_of ts t ws) (redex_of ts t w) refl
@@ -52,7 +55,9 @@ at-open ts t ws (points.Leaf n) h g = plugged_open (gaps_of ts t ws) (tree ts t 
 at-open ts t ws (points.Stands v place) h g = plugged_open (gaps_of ts t ws) (standing v place) refl
 at-open ts t ws (points.Done v) h g = absurd g
 
-pub step-of : (p : Program) (a : Addr) (t : Term) (s : State) → is_done t ≡ false → step_in p a (run_of t s) ≡ run_after (next p a t s)
+pub step-of : (p : Program) (a : Addr) (t : Term) (s : State)
+    → is_done t ≡ false
+    → step_in p a (run_of t s) ≡ run_after (next p a t s)
 step-of p a (done v) s h = cc
 step-of p a (standing v place) s h = refl
 step-of p a (part f now later) s h = refl
@@ -62,7 +67,10 @@ open_runs (done v) s h = absurd cc
 open_runs (standing v place) s h = tt
 open_runs (part f now later) s h = tt
 
-left_more : (k : ℕ) (p : Program) (a : Addr) (r : Run) → RunsFor k p a r → IsRunning (steps_in k p a r) → RunsFor (suc k) p a r
+left_more : (k : ℕ) (p : Program) (a : Addr) (r : Run)
+    → RunsFor k p a r
+    → IsRunning (steps_in k p a r)
+    → RunsFor (suc k) p a r
 left_more zero p a r h i = (i, tt)
 left_more (suc k) p a r h i = (h.0, left_more k p a (step_in p a r) h.1 i)
 
@@ -84,7 +92,9 @@ ends_run (goes t u told) f s h = absurd h
 ends_run (has_effect u) f s h = absurd h
 ends_run (is_full what u) f s h = absurd h
 
-pub told-runs : (m : Move Term) (stepped : Stepped) (t : Term) (s : State) → Tells m stepped t s → RunsBy (run_after m) (why_of stepped) t s
+pub told-runs : (m : Move Term) (stepped : Stepped) (t : Term) (s : State)
+    → Tells m stepped t s
+    → RunsBy (run_after m) (why_of stepped) t s
 told-runs m steppeds.Went t s h = ap run_after h
 told-runs m steppeds.Raised t s h = ap run_after h
 told-runs m (steppeds.Printed vs) t s h = ap run_after h
@@ -95,10 +105,18 @@ told-runs m steppeds.Memory t s h = tt
 
 -- ---- the loop
 
-pub runs-init : (ts : List (List ℕ)) (t : NodeTable) (root : Addr) (ws : List Wide) (p : Point) (w : World) (c : Context) → StandsIn t root ws p → HasRun ts t root ws p w c 0 ws p w c
+pub runs-init : (ts : List (List ℕ)) (t : NodeTable) (root : Addr) (ws : List Wide) (p : Point) (w : World) (c : Context)
+    → StandsIn t root ws p
+    → HasRun ts t root ws p w c 0 ws p w c
 runs-init ts t root ws p w c h = record { runs = λ taken. refl; left = λ taken. tt; stands = h }
 
-runs_by : (ts : List (List ℕ)) (t : NodeTable) (root : Addr) (ws : List Wide) (p : Point) (w : World) (c : Context) (k : ℕ) (vs us : List Wide) (q o : Point) (v x : World) (d e : Context) (stepped : Stepped) (b : Option Why) → HasRun ts t root ws p w c k vs q v d → IsGoing q → why_of stepped ≡ b → (taken : List (List ℕ)) → Tells (next (program_of ts t) root (term_at ts t vs q) (state_of v d taken)) stepped (term_at ts t us o) (state_of x e taken) → RunsBy (steps_in (k + 1) (program_of ts t) root (run_of (term_at ts t ws p) (state_of w c taken))) b (term_at ts t us o) (state_of x e taken)
+runs_by : (ts : List (List ℕ)) (t : NodeTable) (root : Addr) (ws : List Wide) (p : Point) (w : World) (c : Context) (k : ℕ) (vs us : List Wide) (q o : Point) (v x : World) (d e : Context) (stepped : Stepped) (b : Option Why)
+    → HasRun ts t root ws p w c k vs q v d
+    → IsGoing q
+    → why_of stepped ≡ b
+    → (taken : List (List ℕ))
+    → Tells (next (program_of ts t) root (term_at ts t vs q) (state_of v d taken)) stepped (term_at ts t us o) (state_of x e taken)
+    → RunsBy (steps_in (k + 1) (program_of ts t) root (run_of (term_at ts t ws p) (state_of w c taken))) b (term_at ts t us o) (state_of x e taken)
 runs_by ts t root ws p w c k vs us q o v x d e stepped b h g y taken told =
     let P : Option Why → Type 0 = λ z. RunsBy (steps_in (k + 1) (program_of ts t) root (run_of (term_at ts t ws p) (state_of w c taken))) z (term_at ts t us o) (state_of x e taken) in
     let Q : Run → Type 0 = λ r. RunsBy r (why_of stepped) (term_at ts t us o) (state_of x e taken) in
@@ -106,7 +124,11 @@ runs_by ts t root ws p w c k vs us q o v x d e stepped b h g y taken told =
     subst P y (subst Q (sym f) (told-runs (next (program_of ts t) root (term_at ts t vs q) (state_of v d taken)) stepped (term_at ts t us o) (state_of x e taken) told))
 
 -- one more step of a run that isn't over
-pub more-left : (ts : List (List ℕ)) (t : NodeTable) (root : Addr) (ws : List Wide) (p : Point) (w : World) (c : Context) (k : ℕ) (vs : List Wide) (q : Point) (v : World) (d : Context) → HasRun ts t root ws p w c k vs q v d → IsGoing q → (taken : List (List ℕ)) → RunsFor (k + 1) (program_of ts t) root (run_of (term_at ts t ws p) (state_of w c taken))
+pub more-left : (ts : List (List ℕ)) (t : NodeTable) (root : Addr) (ws : List Wide) (p : Point) (w : World) (c : Context) (k : ℕ) (vs : List Wide) (q : Point) (v : World) (d : Context)
+    → HasRun ts t root ws p w c k vs q v d
+    → IsGoing q
+    → (taken : List (List ℕ))
+    → RunsFor (k + 1) (program_of ts t) root (run_of (term_at ts t ws p) (state_of w c taken))
 more-left ts t root ws p w c k vs q v d h g taken =
     let r : Run = run_of (term_at ts t ws p) (state_of w c taken) in
     let P : Run → Type 0 = IsRunning in
@@ -116,7 +138,13 @@ more-left ts t root ws p w c k vs q v d h g taken =
     subst Q e (left_more k (program_of ts t) root r (h.left taken) i)
 
 -- a step after which it stops
-pub stop-runs : (ts : List (List ℕ)) (t : NodeTable) (root : Addr) (ws : List Wide) (p : Point) (w : World) (c : Context) (k : ℕ) (vs us : List Wide) (q o : Point) (v x : World) (d e : Context) (stepped : Stepped) (why : Why) → HasRun ts t root ws p w c k vs q v d → IsGoing q → why_of stepped ≡ Some why → (taken : List (List ℕ)) → Tells (next (program_of ts t) root (term_at ts t vs q) (state_of v d taken)) stepped (term_at ts t us o) (state_of x e taken) → RunsTo (steps_in (k + 1) (program_of ts t) root (run_of (term_at ts t ws p) (state_of w c taken))) why (term_at ts t us o) (state_of x e taken)
+pub stop-runs : (ts : List (List ℕ)) (t : NodeTable) (root : Addr) (ws : List Wide) (p : Point) (w : World) (c : Context) (k : ℕ) (vs us : List Wide) (q o : Point) (v x : World) (d e : Context) (stepped : Stepped) (why : Why)
+    → HasRun ts t root ws p w c k vs q v d
+    → IsGoing q
+    → why_of stepped ≡ Some why
+    → (taken : List (List ℕ))
+    → Tells (next (program_of ts t) root (term_at ts t vs q) (state_of v d taken)) stepped (term_at ts t us o) (state_of x e taken)
+    → RunsTo (steps_in (k + 1) (program_of ts t) root (run_of (term_at ts t ws p) (state_of w c taken))) why (term_at ts t us o) (state_of x e taken)
 stop-runs ts t root ws p w c k vs us q o v x d e stepped why h g y taken told = runs_by ts t root ws p w c k vs us q o v x d e stepped (Some why) h g y taken told
 
 none_at : (o : Option Why) → is_some o ≡ false → o ≡ None
@@ -136,7 +164,13 @@ went_stands (steppeds.Full what) P e h = cc
 went_stands steppeds.Memory P e h = cc
 
 -- a step after which it goes on
-pub next-runs : (ts : List (List ℕ)) (t : NodeTable) (root : Addr) (ws : List Wide) (p : Point) (w : World) (c : Context) (k : ℕ) (vs us : List Wide) (q o : Point) (v x : World) (d e : Context) (stepped : Stepped) → HasRun ts t root ws p w c k vs q v d → IsGoing q → why_of stepped ≡ None → ((taken : List (List ℕ)) → Tells (next (program_of ts t) root (term_at ts t vs q) (state_of v d taken)) stepped (term_at ts t us o) (state_of x e taken)) → IfGoesOn stepped (StandsIn t root us o) → HasRun ts t root ws p w c (k + 1) us o x e
+pub next-runs : (ts : List (List ℕ)) (t : NodeTable) (root : Addr) (ws : List Wide) (p : Point) (w : World) (c : Context) (k : ℕ) (vs us : List Wide) (q o : Point) (v x : World) (d e : Context) (stepped : Stepped)
+    → HasRun ts t root ws p w c k vs q v d
+    → IsGoing q
+    → why_of stepped ≡ None
+    → ((taken : List (List ℕ)) → Tells (next (program_of ts t) root (term_at ts t vs q) (state_of v d taken)) stepped (term_at ts t us o) (state_of x e taken))
+    → IfGoesOn stepped (StandsIn t root us o)
+    → HasRun ts t root ws p w c (k + 1) us o x e
 next-runs ts t root ws p w c k vs us q o v x d e stepped h g y told s = record {
   runs = λ taken. runs_by ts t root ws p w c k vs us q o v x d e stepped None h g y taken (told taken);
   left = more-left ts t root ws p w c k vs q v d h g;
@@ -156,7 +190,10 @@ goes_by steppeds.Effect P h = tt
 goes_by (steppeds.Full what) P h = tt
 goes_by steppeds.Memory P h = tt
 
-pub stop-stands : (t : NodeTable) (root : Addr) (ws : List Wide) (p : Point) (stepped : Stepped) (why : Why) → why_of stepped ≡ Some why → IfGoesOn stepped (StandsIn t root ws p) → IfGoes why (StandsIn t root ws p)
+pub stop-stands : (t : NodeTable) (root : Addr) (ws : List Wide) (p : Point) (stepped : Stepped) (why : Why)
+    → why_of stepped ≡ Some why
+    → IfGoesOn stepped (StandsIn t root ws p)
+    → IfGoes why (StandsIn t root ws p)
 stop-stands t root ws p stepped why e h =
     let Q : Option Why → Type 0 = λ x. IfGoesBy x (StandsIn t root ws p) in
     subst Q e (goes_by stepped (StandsIn t root ws p) h)
@@ -166,7 +203,11 @@ unfolding term_at
 done_at ts t v = refl
 
 -- nothing is left to reduce
-pub done-runs : (ts : List (List ℕ)) (t : NodeTable) (root : Addr) (ws : List Wide) (p : Point) (w : World) (c : Context) (k : ℕ) (vs : List Wide) (q : Point) (v : World) (d : Context) (value : Value) → HasRun ts t root ws p w c k vs q v d → q ≡ points.Done value → (taken : List (List ℕ)) → steps_in k (program_of ts t) root (run_of (term_at ts t ws p) (state_of w c taken)) ≡ over (finish_of (finishes.Ended value)) (state_of v d taken)
+pub done-runs : (ts : List (List ℕ)) (t : NodeTable) (root : Addr) (ws : List Wide) (p : Point) (w : World) (c : Context) (k : ℕ) (vs : List Wide) (q : Point) (v : World) (d : Context) (value : Value)
+    → HasRun ts t root ws p w c k vs q v d
+    → q ≡ points.Done value
+    → (taken : List (List ℕ))
+    → steps_in k (program_of ts t) root (run_of (term_at ts t ws p) (state_of w c taken)) ≡ over (finish_of (finishes.Ended value)) (state_of v d taken)
 done-runs ts t root ws p w c k vs q v d value h e taken =
     let P : Point → Type 0 = IsAt t vs in
     h.runs taken
@@ -179,19 +220,31 @@ done-runs ts t root ws p w c k vs q v d value h e taken =
 pub none-passed : (f : Term → List Frame → Bool) (p : Program) (a : Addr) (r : Run) → HasPassed f 0 p a r
 none-passed f p a r = record { none = λ j lo hi. absurd (omega arith) }
 
-pub more-passed : (f : Term → List Frame → Bool) (k : ℕ) (p : Program) (a : Addr) (r : Run) → HasPassed f k p a r → asks_at f (steps_in (k + 1) p a r) ≡ false → HasPassed f (k + 1) p a r
+pub more-passed : (f : Term → List Frame → Bool) (k : ℕ) (p : Program) (a : Addr) (r : Run)
+    → HasPassed f k p a r
+    → asks_at f (steps_in (k + 1) p a r) ≡ false
+    → HasPassed f (k + 1) p a r
 more-passed f k p a r h e =
     let P : ℕ → Type 0 = λ j. 0 < j → asks_at f (steps_in j p a r) ≡ false in
     let below : (j : ℕ) → j < k + 1 → P j = λ (j : ℕ) (hi : j < k + 1) (lo : 0 < j). h.none j lo (omega arith) in
     record { none = λ j lo hi. below_more P (k + 1) below (λ (lo : 0 < k + 1). e) j (omega arith) lo }
 
-pub first-passed : (f : Term → List Frame → Bool) (k : ℕ) (p : Program) (a : Addr) (r : Run) → HasPassed f k p a r → HasPassed f (k - 1) p a r
+pub first-passed : (f : Term → List Frame → Bool) (k : ℕ) (p : Program) (a : Addr) (r : Run)
+    → HasPassed f k p a r
+    → HasPassed f (k - 1) p a r
 first-passed f k p a r h = record { none = λ j lo hi. h.none j lo (omega arith) }
 
-pub passed-but-last : (f : Term → List Frame → Bool) (k : ℕ) (p : Program) (a : Addr) (r : Run) → HasPassed f k p a r → HasPassed f (k + 1 - 1) p a r
+pub passed-but-last : (f : Term → List Frame → Bool) (k : ℕ) (p : Program) (a : Addr) (r : Run)
+    → HasPassed f k p a r
+    → HasPassed f (k + 1 - 1) p a r
 passed-but-last f k p a r h = record { none = λ j lo hi. h.none j lo (omega arith) }
 
-pub asked-so : (f : Term → List Frame → Bool) (r q : Run) (b : Bool) → r ≡ q → b ≡ asks_at f q → {c : Bool} → b ≡ c → asks_at f r ≡ c
+pub asked-so : (f : Term → List Frame → Bool) (r q : Run) (b : Bool)
+    → r ≡ q
+    → b ≡ asks_at f q
+    → {c : Bool}
+    → b ≡ c
+    → asks_at f r ≡ c
 asked-so f r q b e h i = ap (asks_at f) e ∙ sym h ∙ i
 
 -- a step after which it stops
@@ -225,7 +278,9 @@ asks_by f steppeds.Effect r = tt
 asks_by f (steppeds.Full what) r = tt
 asks_by f steppeds.Memory r = tt
 
-pub stop-asked : (f : Term → List Frame → Bool) (stepped : Stepped) (why : Why) (r : Run) → why_of stepped ≡ Some why → IsAsked f why r
+pub stop-asked : (f : Term → List Frame → Bool) (stepped : Stepped) (why : Why) (r : Run)
+    → why_of stepped ≡ Some why
+    → IsAsked f why r
 stop-asked f stepped why r e = let P : Option Why → Type 0 = λ x. AsksBy f x r in subst P e (asks_by f stepped r)
 
 abbrev passed_by : Option Why → ℕ → ℕ
@@ -241,7 +296,10 @@ one_less steppeds.Effect k = refl
 one_less (steppeds.Full what) k = refl
 one_less steppeds.Memory k = refl
 
-pub stop-passed : (f : Term → List Frame → Bool) (stepped : Stepped) (why : Why) (k : ℕ) (p : Program) (a : Addr) (r : Run) → why_of stepped ≡ Some why → HasPassed f k p a r → HasPassed f (passed_steps why (k + 1)) p a r
+pub stop-passed : (f : Term → List Frame → Bool) (stepped : Stepped) (why : Why) (k : ℕ) (p : Program) (a : Addr) (r : Run)
+    → why_of stepped ≡ Some why
+    → HasPassed f k p a r
+    → HasPassed f (passed_steps why (k + 1)) p a r
 stop-passed f stepped why k p a r e h =
     let P : ℕ → Type 0 = λ n. HasPassed f n p a r in
     let same : k + 1 - 1 ≡ passed_steps why (k + 1) = sym (one_less stepped (k + 1)) ∙ ap (λ o. passed_by o (k + 1)) e in
@@ -249,17 +307,25 @@ stop-passed f stepped why k p a r e h =
 
 -- ---- the question where the machine stands
 
-pub done-asks : (f : Term → List Frame → Bool) (ts : List (List ℕ)) (t : NodeTable) (ws : List Wide) (p : Point) (v : Value) (s : State) → p ≡ points.Done v → IsAt t ws p → false ≡ asks_at f (run_of (term_at ts t ws p) s)
+pub done-asks : (f : Term → List Frame → Bool) (ts : List (List ℕ)) (t : NodeTable) (ws : List Wide) (p : Point) (v : Value) (s : State)
+    → p ≡ points.Done v
+    → IsAt t ws p
+    → false ≡ asks_at f (run_of (term_at ts t ws p) s)
 done-asks f ts t ws p v s e at =
     let P : Point → Type 0 = IsAt t ws in
     sym (ap (λ x. asks_at f (run_of (term_at ts t ws x) s)) e
     ∙ ap (λ x. asks_at f (run_of (term_at ts t x (points.Done v)) s)) (subst P e at)
     ∙ ap (λ x. asks_at f (run_of x s)) (done_at ts t v))
 
-open_asks : (f : Term → List Frame → Bool) (t : Term) (s : State) → is_done t ≡ false → f t s.frames ≡ asks_at f (run_of t s)
+open_asks : (f : Term → List Frame → Bool) (t : Term) (s : State)
+    → is_done t ≡ false
+    → f t s.frames ≡ asks_at f (run_of t s)
 open_asks f (done v) s h = absurd cc
 open_asks f (standing v place) s h = refl
 open_asks f (part g now later) s h = refl
 
-pub going-asks : (f : Term → List Frame → Bool) (ts : List (List ℕ)) (t : NodeTable) (ws : List Wide) (p : Point) (s : State) → IsAt t ws p → IsGoing p → f (term_at ts t ws p) s.frames ≡ asks_at f (run_of (term_at ts t ws p) s)
+pub going-asks : (f : Term → List Frame → Bool) (ts : List (List ℕ)) (t : NodeTable) (ws : List Wide) (p : Point) (s : State)
+    → IsAt t ws p
+    → IsGoing p
+    → f (term_at ts t ws p) s.frames ≡ asks_at f (run_of (term_at ts t ws p) s)
 going-asks f ts t ws p s at g = open_asks f (term_at ts t ws p) s (at-open ts t ws p at g)

@@ -30,18 +30,26 @@ has_scope ops.LoopBody info = not (nat_eq info 0)
 has_scope ops.LoopUpdating info = not (nat_eq info 0)
 has_scope op info = false
 
-plain_by : (b : Bool) (stage : Stage) (inner outer : Addr) → not b ≡ false → scope_in (loop stage (if b then None else Some inner)) outer ≡ outer
+plain_by : (b : Bool) (stage : Stage) (inner outer : Addr)
+    → not b ≡ false
+    → scope_in (loop stage (if b then None else Some inner)) outer ≡ outer
 plain_by true stage inner outer h = refl
 plain_by false stage inner outer h = cc
 
-own_by : (b : Bool) (stage : Stage) (inner outer : Addr) → not b ≡ true → scope_in (loop stage (if b then None else Some inner)) outer ≡ inner
+own_by : (b : Bool) (stage : Stage) (inner outer : Addr)
+    → not b ≡ true
+    → scope_in (loop stage (if b then None else Some inner)) outer ≡ inner
 own_by true stage inner outer h = cc
 own_by false stage inner outer h = refl
 
-loop_plain : (info : ℕ) (inner outer : Addr) → not (nat_eq info 0) ≡ false → scope_in (loop stages.First (turn_scope info inner)) outer ≡ outer
+loop_plain : (info : ℕ) (inner outer : Addr)
+    → not (nat_eq info 0) ≡ false
+    → scope_in (loop stages.First (turn_scope info inner)) outer ≡ outer
 loop_plain info inner outer h = plain_by (nat_eq info 0) stages.First inner outer h
 
-loop_own : (info : ℕ) (inner outer : Addr) → not (nat_eq info 0) ≡ true → scope_in (loop stages.First (turn_scope info inner)) outer ≡ inner
+loop_own : (info : ℕ) (inner outer : Addr)
+    → not (nat_eq info 0) ≡ true
+    → scope_in (loop stages.First (turn_scope info inner)) outer ≡ inner
 loop_own info inner outer h = own_by (nat_eq info 0) stages.First inner outer h
 
 script_plain : (ts : List (List ℕ)) (outer : Addr) (o : Option ScriptEntry) → scope_in (script_form ts o) outer ≡ outer
@@ -64,11 +72,13 @@ list_plain : (ts : List (List ℕ)) (outer : Addr) (o : Option ForOfEntry) → s
 list_plain ts outer (Some x) = refl
 list_plain ts outer None = refl
 
-function_plain : (ts : List (List ℕ)) (outer : Addr) (o : Option FunctionEntry) → scope_in (function_form ts o) outer ≡ outer
+function_plain : (ts : List (List ℕ)) (outer : Addr) (o : Option FunctionEntry)
+    → scope_in (function_form ts o) outer ≡ outer
 function_plain ts outer (Some x) = refl
 function_plain ts outer None = refl
 
-method_plain : (ts : List (List ℕ)) (outer : Addr) (o : Option FunctionEntry) → scope_in (method_form ts o) outer ≡ outer
+method_plain : (ts : List (List ℕ)) (outer : Addr) (o : Option FunctionEntry)
+    → scope_in (method_form ts o) outer ≡ outer
 method_plain ts outer (Some x) = refl
 method_plain ts outer None = refl
 
@@ -76,32 +86,40 @@ call_plain : (ts : List (List ℕ)) (outer : Addr) (o : Option CallEntry) → sc
 call_plain ts outer (Some x) = refl
 call_plain ts outer None = refl
 
-name_call_plain : (ts : List (List ℕ)) (outer : Addr) (o : Option CallEntry) → scope_in (name_call_form ts o) outer ≡ outer
+name_call_plain : (ts : List (List ℕ)) (outer : Addr) (o : Option CallEntry)
+    → scope_in (name_call_form ts o) outer ≡ outer
 name_call_plain ts outer (Some x) = refl
 name_call_plain ts outer None = refl
 
-member_call_plain : (ts : List (List ℕ)) (outer : Addr) (o : Option CallEntry) → scope_in (member_call_form ts o) outer ≡ outer
+member_call_plain : (ts : List (List ℕ)) (outer : Addr) (o : Option CallEntry)
+    → scope_in (member_call_form ts o) outer ≡ outer
 member_call_plain ts outer (Some x) = refl
 member_call_plain ts outer None = refl
 
-index_call_plain : (ts : List (List ℕ)) (outer : Addr) (o : Option CallEntry) → scope_in (index_call_form o) outer ≡ outer
+index_call_plain : (ts : List (List ℕ)) (outer : Addr) (o : Option CallEntry)
+    → scope_in (index_call_form o) outer ≡ outer
 index_call_plain ts outer (Some x) = refl
 index_call_plain ts outer None = refl
 
-object_plain : (ts : List (List ℕ)) (outer : Addr) (o : Option (List MemberEntry)) → scope_in (object_form ts o) outer ≡ outer
+object_plain : (ts : List (List ℕ)) (outer : Addr) (o : Option (List MemberEntry))
+    → scope_in (object_form ts o) outer ≡ outer
 object_plain ts outer (Some x) = refl
 object_plain ts outer None = refl
 
-turn_plain : (ts : List (List ℕ)) (outer : Addr) (i : ℕ) (o : Option ForOfEntry) → scope_in (turn_form ts o i) outer ≡ outer
+turn_plain : (ts : List (List ℕ)) (outer : Addr) (i : ℕ) (o : Option ForOfEntry)
+    → scope_in (turn_form ts o i) outer ≡ outer
 turn_plain ts outer i (Some x) = refl
 turn_plain ts outer i None = refl
 
-body_plain : (ts : List (List ℕ)) (outer : Addr) (i : ℕ) (o : Option ForOfEntry) → scope_in (body_form ts o i) outer ≡ outer
+body_plain : (ts : List (List ℕ)) (outer : Addr) (i : ℕ) (o : Option ForOfEntry)
+    → scope_in (body_form ts o i) outer ≡ outer
 body_plain ts outer i (Some x) = refl
 body_plain ts outer i None = refl
 
 -- a form without one has its parts in the scope around it
-pub plain-scope : (ts : List (List ℕ)) (t : NodeTable) (op : Op) (info : ℕ) (inner : Addr) (e : Option Extra) (outer : Addr) → has_scope op info ≡ false → scope_in (form_in ts t op info inner e) outer ≡ outer
+pub plain-scope : (ts : List (List ℕ)) (t : NodeTable) (op : Op) (info : ℕ) (inner : Addr) (e : Option Extra) (outer : Addr)
+    → has_scope op info ≡ false
+    → scope_in (form_in ts t op info inner e) outer ≡ outer
 unfolding form_of
 plain-scope ts t ops.Literal info inner e outer h = refl
 plain-scope ts t ops.Scripts info inner e outer h = refl
@@ -165,7 +183,9 @@ plain-scope ts t ops.CallOfMember info inner e outer h = member_call_plain ts ou
 plain-scope ts t ops.CallOfIndex info inner e outer h = index_call_plain ts outer (slice_get t.calls.items info)
 
 -- a form with one has them there
-pub own-scope : (ts : List (List ℕ)) (t : NodeTable) (op : Op) (info : ℕ) (inner : Addr) (e : Option Extra) (outer : Addr) → has_scope op info ≡ true → scope_in (form_in ts t op info inner e) outer ≡ inner
+pub own-scope : (ts : List (List ℕ)) (t : NodeTable) (op : Op) (info : ℕ) (inner : Addr) (e : Option Extra) (outer : Addr)
+    → has_scope op info ≡ true
+    → scope_in (form_in ts t op info inner e) outer ≡ inner
 unfolding form_of
 own-scope ts t ops.Literal info inner e outer h = cc
 own-scope ts t ops.Scripts info inner e outer h = cc
@@ -231,20 +251,35 @@ own-scope ts t ops.CallOfIndex info inner e outer h = cc
 -- ---- tasks in their scopes
 
 -- a task with a scope of its own
-pub scopes-own : (t : NodeTable) (root : Addr) (w : Wide) (ws : List Wide) → has_scope w.op w.info ≡ true → InScopes t root ws → InScopes t root (w ∷ ws)
+pub scopes-own : (t : NodeTable) (root : Addr) (w : Wide) (ws : List Wide)
+    → has_scope w.op w.info ≡ true
+    → InScopes t root ws
+    → InScopes t root (w ∷ ws)
 unfolding task_form
 scopes-own t root w ws o h = (λ ts. own-scope ts t w.op w.info w.inner w.extra (scope_of root ws) o, h)
 
 -- one without, in the scope around it
-pub scopes-plain : (t : NodeTable) (root : Addr) (w : Wide) (ws : List Wide) → has_scope w.op w.info ≡ false → w.inner ≡ scope_of root ws → InScopes t root ws → InScopes t root (w ∷ ws)
+pub scopes-plain : (t : NodeTable) (root : Addr) (w : Wide) (ws : List Wide)
+    → has_scope w.op w.info ≡ false
+    → w.inner ≡ scope_of root ws
+    → InScopes t root ws
+    → InScopes t root (w ∷ ws)
 unfolding task_form
 scopes-plain t root w ws o e h = (λ ts. plain-scope ts t w.op w.info w.inner w.extra (scope_of root ws) o ∙ sym e, h)
 
 -- the scope of a task without one is that around it
-pub scope-around : (t : NodeTable) (root : Addr) (w : Wide) (ws : List Wide) → has_scope w.op w.info ≡ false → InScopes t root (w ∷ ws) → w.inner ≡ scope_of root ws
+pub scope-around : (t : NodeTable) (root : Addr) (w : Wide) (ws : List Wide)
+    → has_scope w.op w.info ≡ false
+    → InScopes t root (w ∷ ws)
+    → w.inner ≡ scope_of root ws
 unfolding task_form
 scope-around t root w ws o h = sym (h.0 []) ∙ plain-scope [] t w.op w.info w.inner w.extra (scope_of root ws) o
 
 -- one in place of another, neither with a scope of its own
-pub scopes-same : (t : NodeTable) (root : Addr) (w v : Wide) (ws : List Wide) → has_scope w.op w.info ≡ false → has_scope v.op v.info ≡ false → v.inner ≡ w.inner → InScopes t root (w ∷ ws) → InScopes t root (v ∷ ws)
+pub scopes-same : (t : NodeTable) (root : Addr) (w v : Wide) (ws : List Wide)
+    → has_scope w.op w.info ≡ false
+    → has_scope v.op v.info ≡ false
+    → v.inner ≡ w.inner
+    → InScopes t root (w ∷ ws)
+    → InScopes t root (v ∷ ws)
 scopes-same t root w v ws o p e h = scopes-plain t root v ws p (e ∙ scope-around t root w ws o h) h.1

@@ -22,21 +22,28 @@ MovePrints before (travels c t) = t.printed ≡ before
 MovePrints before (has_effect t) = t.printed ≡ before
 MovePrints before (is_full what t) = t.printed ≡ before
 
-move_inside : {T S : Type 0} (f : T → S) (before : List (List ℕ)) (m : Move T) → MovePrints before m → MovePrints before (inside f m)
+move_inside : {T S : Type 0} (f : T → S) (before : List (List ℕ)) (m : Move T)
+    → MovePrints before m
+    → MovePrints before (inside f m)
 move_inside f before (goes x t told) h = h
 move_inside f before (travels c t) h = h
 move_inside f before (has_effect t) h = h
 move_inside f before (is_full what t) h = h
 
-full_prints : (b : Bool) (what : Counted) (s : State) (v : Value) → MovePrints s.printed (if b then is_full what s else raised_at v s)
+full_prints : (b : Bool) (what : Counted) (s : State) (v : Value)
+    → MovePrints s.printed (if b then is_full what s else raised_at v s)
 full_prints true what s v = refl
 full_prints false what s v = refl
 
-outside_prints : (b : Bool) (s : State) (m : Move Term) → MovePrints s.printed m → MovePrints s.printed (if b then has_effect s else m)
+outside_prints : (b : Bool) (s : State) (m : Move Term)
+    → MovePrints s.printed m
+    → MovePrints s.printed (if b then has_effect s else m)
 outside_prints true s m h = refl
 outside_prints false s m h = h
 
-after_prints : {A : Type 0} (s : State) (t : Tried A) (k : A → State → Move Term) → ((a : A) (u : State) → MovePrints u.printed (k a u)) → MovePrints s.printed (after t s k)
+after_prints : {A : Type 0} (s : State) (t : Tried A) (k : A → State → Move Term)
+    → ((a : A) (u : State) → MovePrints u.printed (k a u))
+    → MovePrints s.printed (after t s k)
 after_prints s (fine a v) k rest = rest a (with_world s v)
 after_prints s effect k rest = refl
 after_prints s (full what) k rest = full_prints (is_evaluation s.world) what s _
@@ -61,11 +68,15 @@ abbrev WalkPrints : List (List ℕ) → Walked → Type 0
 WalkPrints before (all_values vs) = Unit {0}
 WalkPrints before (moved m) = MovePrints before m
 
-with_value_prints : (before : List (List ℕ)) (v : Value) (x : Walked) → WalkPrints before x → WalkPrints before (with_value v x)
+with_value_prints : (before : List (List ℕ)) (v : Value) (x : Walked)
+    → WalkPrints before x
+    → WalkPrints before (with_value v x)
 with_value_prints before v (all_values vs) h = tt
 with_value_prints before v (moved m) h = move_inside (λ ts. more (done v) ts) before m h
 
-around_prints : (p : Program) (scope : Addr) (f : Form) (later : Terms) (s : State) (x : Walked) → WalkPrints s.printed x → MovePrints s.printed (around p scope f later s x)
+around_prints : (p : Program) (scope : Addr) (f : Form) (later : Terms) (s : State) (x : Walked)
+    → WalkPrints s.printed x
+    → MovePrints s.printed (around p scope f later s x)
 around_prints p scope f later s (all_values vs) h = perform_prints (row p s scope f vs later) s
 around_prints p scope f later s (moved (goes now t told)) h = h
 around_prints p scope f later s (moved (travels c t)) h =
@@ -88,7 +99,9 @@ mutual
 
 -- ---- runs
 
-after_run : (before : List (List ℕ)) (m : Move Term) → MovePrints before m → PrintsOneText (values_moved m) before (printed_of (run_after m))
+after_run : (before : List (List ℕ)) (m : Move Term)
+    → MovePrints before m
+    → PrintsOneText (values_moved m) before (printed_of (run_after m))
 after_run before (goes (done v) t told) h = h
 after_run before (goes (standing v place) t told) h = h
 after_run before (goes (part f now later) t told) h = h
@@ -96,6 +109,7 @@ after_run before (travels c t) h = h
 after_run before (has_effect t) h = h
 after_run before (is_full what t) h = h
 
-pub step-text : (p : Program) (scope : Addr) (r : Run) → PrintsOneText (values_printed p scope r) (printed_of r) (printed_of (step_in p scope r))
+pub step-text : (p : Program) (scope : Addr) (r : Run)
+    → PrintsOneText (values_printed p scope r) (printed_of r) (printed_of (step_in p scope r))
 step-text p scope (running t s) = after_run s.printed (next p scope t s) (next_prints p scope t s)
 step-text p scope (over f s) = refl

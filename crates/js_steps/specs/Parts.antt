@@ -45,7 +45,9 @@ moved at vs (w ∷ ws) = record w { at = at; values = vs } ∷ ws
 pub record IsTaken (t : NodeTable) (old new : List Wide) (at : ℕ) : Type 0 where
   pub same : new ≡ moved (at_of old) (values_of new) old
   pub parts : (ts : List (List ℕ)) → joined (dones (values_of new)) (trees ts t at (mid_of old)) ≡ parts_of ts t old
-  pub below : (m : ℕ) → EachBelow m (kids_between t (at_of old) (mid_of old)) → EachBelow m (kids_between t at (mid_of old))
+  pub below : (m : ℕ)
+      → EachBelow m (kids_between t (at_of old) (mid_of old))
+      → EachBelow m (kids_between t at (mid_of old))
 
 -- the next part that is no value: a node that is one of those that came
 pub record IsPart (t : NodeTable) (old : List Wide) (n : ℕ) : Type 0 where

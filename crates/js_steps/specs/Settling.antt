@@ -209,7 +209,8 @@ pub record Enters (t : NodeTable) (old new : List Wide) (inner : Addr) (n : ℕ)
 
 -- on the way inward from a node of the old tasks to this one
 pub record IsOnWay (t : NodeTable) (old : List Wide) (node : ℕ) (around : Addr) (now : List Wide) (n : ℕ) : Type 0 where
-  pub term : (ts : List (List ℕ)) → plugged (gaps_of ts t now) (tree ts t n) ≡ plugged (gaps_of ts t old) (tree ts t node)
+  pub term : (ts : List (List ℕ))
+      → plugged (gaps_of ts t now) (tree ts t n) ≡ plugged (gaps_of ts t old) (tree ts t node)
   pub form : IsOpen (slice_get t.nodes.items n)
   pub inward : Inward t old now around
 

@@ -117,9 +117,28 @@ abbrev pub Raises : Value → Context → Stepped → Point → Type 0
 Raises v c stepped p = (stepped ≡ steppeds.Raised) × (p ≡ points.Stands v (top_spot c.frames))
 
 -- the step tells of a move of the part in the innermost gap
-abbrev pub TellsWithin : List (List ℕ) → NodeTable → Addr → List Wide → Move Term → Stepped → List Wide → Point → State → Type 0
+abbrev pub TellsWithin : List (List ℕ)
+    → NodeTable
+    → Addr
+    → List Wide
+    → Move Term
+    → Stepped
+    → List Wide
+    → Point
+    → State
+    → Type 0
 TellsWithin ts t root old m stepped new p s = Tells (all_risen root (gaps_of ts t old) m) stepped (term_at ts t new p) s
 
 -- the step tells of the definition's step, from one machine's tasks and point to another's
-abbrev pub Steps : List (List ℕ) → NodeTable → Addr → List Wide → Point → State → Stepped → List Wide → Point → State → Type 0
+abbrev pub Steps : List (List ℕ)
+    → NodeTable
+    → Addr
+    → List Wide
+    → Point
+    → State
+    → Stepped
+    → List Wide
+    → Point
+    → State
+    → Type 0
 Steps ts t root old q s stepped new p u = Tells (next (program_of ts t) root (term_at ts t old q) s) stepped (term_at ts t new p) u

@@ -49,13 +49,17 @@ pub start_function : (o : Option Token) → start o ≡ function_word → IsNext
 start_function None e = absurd cc
 start_function (Some t) e = function_by t.kind t.string_value t.numeric_value e
 
-pub boolean_by : (c : Bool) (k : TokenKind) (s : List ℕ) (v : ℕ) → start_by k s v ≡ a_boolean c → k ≡ cond c kinds.True kinds.False
+pub boolean_by : (c : Bool) (k : TokenKind) (s : List ℕ) (v : ℕ)
+    → start_by k s v ≡ a_boolean c
+    → k ≡ cond c kinds.True kinds.False
 boolean_by true kinds.True s v e = refl
 boolean_by false kinds.False s v e = refl
 boolean_by true _ s v e = absurd cc
 boolean_by false _ s v e = absurd cc
 
-pub start_boolean : (c : Bool) (o : Option Token) → start o ≡ a_boolean c → IsNext (fixed (cond c kinds.True kinds.False)) o
+pub start_boolean : (c : Bool) (o : Option Token)
+    → start o ≡ a_boolean c
+    → IsNext (fixed (cond c kinds.True kinds.False)) o
 start_boolean c None e = absurd cc
 start_boolean c (Some t) e = boolean_by c t.kind t.string_value t.numeric_value e
 
@@ -67,7 +71,9 @@ pub start_name : (n : List ℕ) (o : Option Token) → start o ≡ a_name n → 
 start_name n None e = absurd cc
 start_name n (Some t) e = name_by n t.kind t.string_value t.numeric_value e
 
-pub number_by : (n : ℕ) (k : TokenKind) (s : List ℕ) (v : ℕ) → start_by k s v ≡ a_number n → (k ≡ kinds.Number) × (v ≡ n)
+pub number_by : (n : ℕ) (k : TokenKind) (s : List ℕ) (v : ℕ)
+    → start_by k s v ≡ a_number n
+    → (k ≡ kinds.Number) × (v ≡ n)
 number_by n kinds.Number s v e = (refl, cc)
 number_by n _ s v e = absurd cc
 
@@ -75,7 +81,9 @@ pub start_number : (n : ℕ) (o : Option Token) → start o ≡ a_number n → I
 start_number n None e = absurd cc
 start_number n (Some t) e = number_by n t.kind t.string_value t.numeric_value e
 
-pub string_by : (n : List ℕ) (k : TokenKind) (s : List ℕ) (v : ℕ) → start_by k s v ≡ a_string n → (k ≡ kinds.String) × (s ≡ n)
+pub string_by : (n : List ℕ) (k : TokenKind) (s : List ℕ) (v : ℕ)
+    → start_by k s v ≡ a_string n
+    → (k ≡ kinds.String) × (s ≡ n)
 string_by n kinds.String s v e = (refl, cc)
 string_by n _ s v e = absurd cc
 
@@ -170,7 +178,9 @@ kind_of kinds.Divide = refl
 kind_of kinds.Remainder = refl
 kind_of _ = tt
 
-pub operator_next : (o : BinaryOperator) (next : Option Token) → operator next ≡ Some o → IsNext (fixed (binary_kind o)) next
+pub operator_next : (o : BinaryOperator) (next : Option Token)
+    → operator next ≡ Some o
+    → IsNext (fixed (binary_kind o)) next
 operator_next o None e = absurd cc
 operator_next o (Some t) e = subst (λ (p : Option BinaryOperator). KindOf p t.kind) e (kind_of t.kind)
 
@@ -179,7 +189,9 @@ from_test p o true e = e
 from_test p o false e = absurd cc
 
 -- an operator that binds at least so tightly
-pub from_next : (m : ℕ) (o : BinaryOperator) (next : Option Token) → operator_from m (operator next) ≡ Some o → IsNext (fixed (binary_kind o)) next
+pub from_next : (m : ℕ) (o : BinaryOperator) (next : Option Token)
+    → operator_from m (operator next) ≡ Some o
+    → IsNext (fixed (binary_kind o)) next
 from_next m o next e = operator_next o next (from_is (operator next) e)
   where
     from_is : (p : Option BinaryOperator) → operator_from m p ≡ Some o → p ≡ Some o
@@ -188,11 +200,15 @@ from_next m o next e = operator_next o next (from_is (operator next) e)
 
 -- ---- keys
 
-pub word_test : (b : Bool) (w s : List ℕ) → cond b (classes.a_word_key s) classes.no_key ≡ classes.a_word_key w → (b ≡ true) × (s ≡ w)
+pub word_test : (b : Bool) (w s : List ℕ)
+    → cond b (classes.a_word_key s) classes.no_key ≡ classes.a_word_key w
+    → (b ≡ true) × (s ≡ w)
 word_test true w s e = (refl, cc)
 word_test false w s e = absurd cc
 
-pub key_word_by : (w : List ℕ) (k : TokenKind) (s : List ℕ) (v : ℕ) → key_start_by k s v ≡ classes.a_word_key w → (is_word k ≡ true) × (s ≡ w)
+pub key_word_by : (w : List ℕ) (k : TokenKind) (s : List ℕ) (v : ℕ)
+    → key_start_by k s v ≡ classes.a_word_key w
+    → (is_word k ≡ true) × (s ≡ w)
 key_word_by w kinds.String s v e = absurd cc
 key_word_by w kinds.Number s v e = absurd cc
 key_word_by w kinds.LeftBracket s v e = absurd cc
@@ -202,7 +218,9 @@ pub key_word : (w : List ℕ) (o : Option Token) → key_start o ≡ classes.a_w
 key_word w None e = absurd cc
 key_word w (Some t) e = key_word_by w t.kind t.string_value t.numeric_value e
 
-pub key_string_by : (w : List ℕ) (k : TokenKind) (s : List ℕ) (v : ℕ) → key_start_by k s v ≡ classes.a_string_key w → (k ≡ kinds.String) × (s ≡ w)
+pub key_string_by : (w : List ℕ) (k : TokenKind) (s : List ℕ) (v : ℕ)
+    → key_start_by k s v ≡ classes.a_string_key w
+    → (k ≡ kinds.String) × (s ≡ w)
 key_string_by w kinds.String s v e = (refl, cc)
 key_string_by w _ s v e = absurd cc
 
@@ -210,7 +228,9 @@ pub key_string : (w : List ℕ) (o : Option Token) → key_start o ≡ classes.a
 key_string w None e = absurd cc
 key_string w (Some t) e = key_string_by w t.kind t.string_value t.numeric_value e
 
-pub key_number_by : (w : ℕ) (k : TokenKind) (s : List ℕ) (v : ℕ) → key_start_by k s v ≡ classes.a_number_key w → (k ≡ kinds.Number) × (v ≡ w)
+pub key_number_by : (w : ℕ) (k : TokenKind) (s : List ℕ) (v : ℕ)
+    → key_start_by k s v ≡ classes.a_number_key w
+    → (k ≡ kinds.Number) × (v ≡ w)
 key_number_by w kinds.Number s v e = (refl, cc)
 key_number_by w _ s v e = absurd cc
 

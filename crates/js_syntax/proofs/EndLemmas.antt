@@ -17,14 +17,18 @@ use Rattle.js_tree.proofs.ViewLemmas.{view_expressions, view_declarator}
 pub of_expressions : (es : Exprs) → expressions_view es ≡ expressions (map expression_view es.items.items)
 of_expressions es = view_expressions es.items
 
-pub of_declarators : (ds : Declarators) → declarators_view ds ≡ declarators (map declarator_view (out-Declarators ds).items.items)
+pub of_declarators : (ds : Declarators)
+    → declarators_view ds ≡ declarators (map declarator_view (out-Declarators ds).items.items)
 unfolding expression_view property_view key_view statement_view block_view catch_view declarator_view declarators_view expressions_view properties_view statements_view
 of_declarators ds = fold_out-Declarators Expression Property Key Statement Statements Handler trees.Declarator trees.Declarators Expressions Properties Statements expression_step property_step key_step statement_step block_step catch_step declarator_step declarators_step expressions_step properties_step statements_step ds
 
 pub of_declarator : (d : Declarator) → declarator_view d ≡ trees.declarator d.name (optional_view d.initializer)
 of_declarator d = view_declarator d.name d.initializer
 
-last_at : (xs : List Expr) (i : ℕ) (x : Expr) → suc i ≡ length xs → slice_get xs i ≡ Some x → edge_of_last (expressions (map expression_view xs)) ≡ edge (expression_view x)
+last_at : (xs : List Expr) (i : ℕ) (x : Expr)
+    → suc i ≡ length xs
+    → slice_get xs i ≡ Some x
+    → edge_of_last (expressions (map expression_view xs)) ≡ edge (expression_view x)
 last_at [] i x l e = absurd (omega arith)
 last_at (y ∷ []) zero x l e = let p : y ≡ x = cc in ap (λ z. edge (expression_view z)) p
 last_at (y ∷ []) (suc i) x l e = absurd (omega arith)
@@ -32,11 +36,15 @@ last_at (y ∷ z ∷ ys) zero x l e = absurd (omega arith)
 last_at (y ∷ z ∷ ys) (suc i) x l e = last_at (z ∷ ys) i x (omega arith) e
 
 -- the edge of the last expression
-pub last_edge : (xs : List Expr) (x : Expr) → slice_get xs (length xs - 1) ≡ Some x → edge_of_last (expressions (map expression_view xs)) ≡ edge (expression_view x)
+pub last_edge : (xs : List Expr) (x : Expr)
+    → slice_get xs (length xs - 1) ≡ Some x
+    → edge_of_last (expressions (map expression_view xs)) ≡ edge (expression_view x)
 last_edge [] x e = absurd cc
 last_edge (y ∷ ys) x e = last_at (y ∷ ys) (length (y ∷ ys) - 1) x (omega arith) e
 
-pub no_edge : (xs : List Expr) → slice_get xs (length xs - 1) ≡ None → edge_of_last (expressions (map expression_view xs)) ≡ plain
+pub no_edge : (xs : List Expr)
+    → slice_get xs (length xs - 1) ≡ None
+    → edge_of_last (expressions (map expression_view xs)) ≡ plain
 no_edge [] e = refl
 no_edge (y ∷ ys) e = let p = slice_get-get_or (y ∷ ys) (length (y ∷ ys) - 1) y (omega arith) in absurd cc
 
@@ -49,11 +57,15 @@ one_end : (d : trees.Declarator) → end_of_declarators (trees.a_declarator d tr
 one_end (trees.declarator n trees.omitted) = refl
 one_end (trees.declarator n (trees.present e)) = refl
 
-later_end : (d c : trees.Declarator) (ds : trees.Declarators) → end_of_declarators (trees.a_declarator d (trees.a_declarator c ds)) ≡ end_of_declarators (trees.a_declarator c ds)
+later_end : (d c : trees.Declarator) (ds : trees.Declarators)
+    → end_of_declarators (trees.a_declarator d (trees.a_declarator c ds)) ≡ end_of_declarators (trees.a_declarator c ds)
 later_end (trees.declarator n trees.omitted) c ds = refl
 later_end (trees.declarator n (trees.present e)) c ds = refl
 
-last_end_at : (xs : List Declarator) (i : ℕ) (x : Declarator) → suc i ≡ length xs → slice_get xs i ≡ Some x → end_of_declarators (declarators (map declarator_view xs)) ≡ end_of_one (declarator_view x)
+last_end_at : (xs : List Declarator) (i : ℕ) (x : Declarator)
+    → suc i ≡ length xs
+    → slice_get xs i ≡ Some x
+    → end_of_declarators (declarators (map declarator_view xs)) ≡ end_of_one (declarator_view x)
 last_end_at [] i x l e = absurd (omega arith)
 last_end_at (y ∷ []) zero x l e = let p : y ≡ x = cc in one_end (declarator_view y) ∙ ap (λ z. end_of_one (declarator_view z)) p
 last_end_at (y ∷ []) (suc i) x l e = absurd (omega arith)
@@ -61,15 +73,21 @@ last_end_at (y ∷ z ∷ ys) zero x l e = absurd (omega arith)
 last_end_at (y ∷ z ∷ ys) (suc i) x l e = later_end (declarator_view y) (declarator_view z) (declarators (map declarator_view ys)) ∙ last_end_at (z ∷ ys) i x (omega arith) e
 
 -- what the last declared name ends in
-pub last_end : (xs : List Declarator) (x : Declarator) → slice_get xs (length xs - 1) ≡ Some x → end_of_declarators (declarators (map declarator_view xs)) ≡ end_of_one (declarator_view x)
+pub last_end : (xs : List Declarator) (x : Declarator)
+    → slice_get xs (length xs - 1) ≡ Some x
+    → end_of_declarators (declarators (map declarator_view xs)) ≡ end_of_one (declarator_view x)
 last_end [] x e = absurd cc
 last_end (y ∷ ys) x e = last_end_at (y ∷ ys) (length (y ∷ ys) - 1) x (omega arith) e
 
-pub no_end : (xs : List Declarator) → slice_get xs (length xs - 1) ≡ None → end_of_declarators (declarators (map declarator_view xs)) ≡ after_word
+pub no_end : (xs : List Declarator)
+    → slice_get xs (length xs - 1) ≡ None
+    → end_of_declarators (declarators (map declarator_view xs)) ≡ after_word
 no_end [] e = refl
 no_end (y ∷ ys) e = let p = slice_get-get_or (y ∷ ys) (length (y ∷ ys) - 1) y (omega arith) in absurd cc
 
-pub one_present : (d : Declarator) (e : Expr) → d.initializer ≡ Some e → end_of_one (declarator_view d) ≡ after_expression (edge (expression_view e))
+pub one_present : (d : Declarator) (e : Expr)
+    → d.initializer ≡ Some e
+    → end_of_one (declarator_view d) ≡ after_expression (edge (expression_view e))
 one_present d e h = rw (of_declarator d, h) refl
 
 pub one_omitted : (d : Declarator) → d.initializer ≡ None → end_of_one (declarator_view d) ≡ after_word

@@ -16,7 +16,10 @@ pub kind_again : (k : TokenKind) (t : Token) → t.kind ≡ k → is_kind k (Som
 kind_again k t e = true_same the_type t.kind k e
 
 -- a token of one kind is of no other
-pub kind_not : (k j : TokenKind) (next : Option Token) → is_kind k next ≡ true → is_same_kind k j ≡ false → is_kind j next ≡ false
+pub kind_not : (k j : TokenKind) (next : Option Token)
+    → is_kind k next ≡ true
+    → is_same_kind k j ≡ false
+    → is_kind j next ≡ false
 kind_not k j None e apart = refl
 kind_not k j (Some t) e apart = rw (kind_is k t e) apart
 

@@ -32,7 +32,10 @@ Short r = (ts : List Token) → Leaves (length ts) (r ts)
 abbrev pub Weak : {A : Type 0} → Reader A → Type 0
 Weak r = (ts : List Token) → Leaves (suc (length ts)) (r ts)
 
-after_that : {A B : Type 0} (m n : ℕ) (read : Read A) (f : A × List Token → Read B) → Leaves m read → ((x : A × List Token) → length x.1 < m → Leaves n (f x)) → Leaves n (read >>= f)
+after_that : {A B : Type 0} (m n : ℕ) (read : Read A) (f : A × List Token → Read B)
+    → Leaves m read
+    → ((x : A × List Token) → length x.1 < m → Leaves n (f x))
+    → Leaves n (read >>= f)
 after_that m n (Ok x) f h g = g x h
 after_that m n (Err e) f h g = tt
 
@@ -81,7 +84,10 @@ the_name_short n (t ∷ ts) = choose (length (t ∷ ts)) (is_name n (Some t)) (O
 
 -- ---- lists
 
-go_after_leaves : {A : Type 0} (n : ℕ) (go : Reader (List A)) (a : After) (ts : List Token) → length ts < n → Weak go → Leaves n (go_after go a ts)
+go_after_leaves : {A : Type 0} (n : ℕ) (go : Reader (List A)) (a : After) (ts : List Token)
+    → length ts < n
+    → Weak go
+    → Leaves n (go_after go a ts)
 go_after_leaves n go goes_on ts l h = wider (suc (length (tail_of ts))) n (go (tail_of ts)) (h (tail_of ts)) (omega (arith, tail_shorter ts))
 go_after_leaves n go ends ts l h = omega (arith, tail_shorter ts)
 go_after_leaves n go neither ts l h = tt
@@ -89,33 +95,54 @@ go_after_leaves n go neither ts l h = tt
 weaken : {A : Type 0} (r : Reader A) → Short r → Weak r
 weaken r h ts = wider (length ts) (suc (length ts)) (r ts) (h ts) (omega arith)
 
-elements_rest : {S A : Type 0} (one : S → Reader A) (next : S → A → S) (closer : TokenKind) (go : S → Reader (List A)) (s : S) (ts : List Token) → Short (one s) → ((s : S) → Weak (go s)) → Leaves (length ts) (elements_by one next go closer s false ts)
+elements_rest : {S A : Type 0} (one : S → Reader A) (next : S → A → S) (closer : TokenKind) (go : S → Reader (List A)) (s : S) (ts : List Token)
+    → Short (one s)
+    → ((s : S) → Weak (go s))
+    → Leaves (length ts) (elements_by one next go closer s false ts)
 elements_rest one next closer go s ts h g = after_that (length ts) (length ts) (one s ts) _ (h ts) (λ x l. after_that (length ts) (length ts) (go_after (go (next s x.0)) (after closer (head_of x.1)) x.1) _ (go_after_leaves (length ts) (go (next s x.0)) (after closer (head_of x.1)) x.1 l (g (next s x.0))) (λ y k. k))
 
-elements_whole : {S A : Type 0} (one : S → Reader A) (next : S → A → S) (closer : TokenKind) (go : S → Reader (List A)) (s : S) (t : Token) (ts : List Token) (c : Bool) → Short (one s) → ((s : S) → Weak (go s)) → Leaves (length (t ∷ ts)) (elements_by one next go closer s c (t ∷ ts))
+elements_whole : {S A : Type 0} (one : S → Reader A) (next : S → A → S) (closer : TokenKind) (go : S → Reader (List A)) (s : S) (t : Token) (ts : List Token) (c : Bool)
+    → Short (one s)
+    → ((s : S) → Weak (go s))
+    → Leaves (length (t ∷ ts)) (elements_by one next go closer s c (t ∷ ts))
 elements_whole one next closer go s t ts true h g = omega arith
 elements_whole one next closer go s t ts false h g = elements_rest one next closer go s (t ∷ ts) h g
 
-elements_short : {S A : Type 0} (one : S → Reader A) (next : S → A → S) (closer : TokenKind) → ((s : S) → Short (one s)) → (k : ℕ) (s : S) → Short (elements one next closer k s)
+elements_short : {S A : Type 0} (one : S → Reader A) (next : S → A → S) (closer : TokenKind)
+    → ((s : S) → Short (one s))
+    → (k : ℕ) (s : S)
+    → Short (elements one next closer k s)
 unfolding elements
 elements_short one next closer h zero s ts = tt
 elements_short one next closer h (suc k) s [] = elements_rest one next closer (λ s r. elements one next closer k s r) s [] (h s) (λ s. weaken (elements one next closer k s) (elements_short one next closer h k s))
 elements_short one next closer h (suc k) s (t ∷ ts) = elements_whole one next closer (λ s r. elements one next closer k s r) s t ts (is_kind closer (Some t)) (h s) (λ s. weaken (elements one next closer k s) (elements_short one next closer h k s))
 
-others_rest : {S A : Type 0} (one : S → Reader A) (next : S → A → S) (go : S → Reader (List A)) (s : S) (ts : List Token) (c : Bool) → Short (one s) → ((s : S) → Weak (go s)) → Leaves (suc (length ts)) (others_by one next go s c ts)
+others_rest : {S A : Type 0} (one : S → Reader A) (next : S → A → S) (go : S → Reader (List A)) (s : S) (ts : List Token) (c : Bool)
+    → Short (one s)
+    → ((s : S) → Weak (go s))
+    → Leaves (suc (length ts)) (others_by one next go s c ts)
 others_rest one next go s ts false h g = omega arith
 others_rest one next go s ts true h g = after_that (length (tail_of ts)) (suc (length ts)) (one s (tail_of ts)) _ (h (tail_of ts)) (λ x l. after_that (suc (length x.1)) (suc (length ts)) (go (next s x.0) x.1) _ (g (next s x.0) x.1) (λ y k. omega (arith, tail_shorter ts)))
 
-others_weak : {S A : Type 0} (one : S → Reader A) (next : S → A → S) → ((s : S) → Short (one s)) → (k : ℕ) (s : S) → Weak (others one next k s)
+others_weak : {S A : Type 0} (one : S → Reader A) (next : S → A → S)
+    → ((s : S) → Short (one s))
+    → (k : ℕ) (s : S)
+    → Weak (others one next k s)
 unfolding others
 others_weak one next h zero s ts = tt
 others_weak one next h (suc k) s ts = others_rest one next (λ s r. others one next k s r) s ts (is_kind kinds.Comma (head_of ts)) (h s) (λ s. others_weak one next h k s)
 
-items_rest : {S A : Type 0} (one : S → Reader A) (next : S → A → S) (go : S → Reader (List A)) (s : S) (ts : List Token) (c : Bool) → Short (one s) → ((s : S) → Weak (go s)) → Leaves (suc (length ts)) (items_by one next go s c ts)
+items_rest : {S A : Type 0} (one : S → Reader A) (next : S → A → S) (go : S → Reader (List A)) (s : S) (ts : List Token) (c : Bool)
+    → Short (one s)
+    → ((s : S) → Weak (go s))
+    → Leaves (suc (length ts)) (items_by one next go s c ts)
 items_rest one next go s ts true h g = omega arith
 items_rest one next go s ts false h g = after_that (length ts) (suc (length ts)) (one s ts) _ (h ts) (λ x l. after_that (suc (length x.1)) (suc (length ts)) (go (next s x.0) x.1) _ (g (next s x.0) x.1) (λ y k. omega arith))
 
-items_weak : {S A : Type 0} (one : S → Reader A) (next : S → A → S) → ((s : S) → Short (one s)) → (k : ℕ) (s : S) → Weak (items one next k s)
+items_weak : {S A : Type 0} (one : S → Reader A) (next : S → A → S)
+    → ((s : S) → Short (one s))
+    → (k : ℕ) (s : S)
+    → Weak (items one next k s)
 unfolding items
 items_weak one next h zero s ts = tt
 items_weak one next h (suc k) s ts = items_rest one next (λ s r. items one next k s r) s ts (ends_list (head_of ts)) (h s) (λ s. items_weak one next h k s)
@@ -163,20 +190,24 @@ code_short : (b : Below) (h : ShortBelow b) → Short (code_at b)
 unfolding code_at
 code_short b h ts = after_that (length ts) (length ts) (parameters_at ts) _ (parameters_short ts) (λ ps l. after_that (length ps.1) (length ts) _ _ (braces_short b h _ _ ps.1) (λ x k. omega arith))
 
-initializer_weak : (b : Below) (h : ShortBelow b) (constant : Bool) (n : Identifier) (c : Bool) → Weak (initializer_by b constant n c)
+initializer_weak : (b : Below) (h : ShortBelow b) (constant : Bool) (n : Identifier) (c : Bool)
+    → Weak (initializer_by b constant n c)
 initializer_weak b h constant n true ts = after_that (length (tail_of ts)) (suc (length ts)) (b.assignment (tail_of ts)) _ (h.assignment (tail_of ts)) (λ x l. omega (arith, tail_shorter ts))
 initializer_weak b h true n false ts = tt
 initializer_weak b h false n false ts = omega arith
 
-declarator_short : (b : Below) (h : ShortBelow b) (constant : Bool) (taken : List Identifier) → Short (declarator_at b constant taken)
+declarator_short : (b : Below) (h : ShortBelow b) (constant : Bool) (taken : List Identifier)
+    → Short (declarator_at b constant taken)
 unfolding declarator_at
 declarator_short b h constant taken ts = after_that (length ts) (length ts) (fresh_name taken ts) _ (fresh_short taken ts) (λ n l. wider (suc (length n.1)) (length ts) _ (initializer_weak b h constant n.0 (is_kind kinds.Assign (head_of n.1)) n.1) (omega arith))
 
-declarators_short : (b : Below) (h : ShortBelow b) (constant : Bool) (taken : List Identifier) → Short (declarators_at b constant taken)
+declarators_short : (b : Below) (h : ShortBelow b) (constant : Bool) (taken : List Identifier)
+    → Short (declarators_at b constant taken)
 unfolding declarators_at
 declarators_short b h constant taken ts = after_that (length ts) (length ts) (declarator_at b constant taken ts) _ (declarator_short b h constant taken ts) (λ d l. after_that (suc (length d.1)) (length ts) _ _ (others_weak (λ names r. declarator_at b constant names r) with_declarator (declarator_short b h constant) (suc (length d.1)) (with_declarator taken d.0) d.1) (λ x k. omega arith))
 
-optional_by_short : (b : Below) (h : ShortBelow b) (closer : TokenKind) (t : Token) (ts : List Token) (c : Bool) → Leaves (length (t ∷ ts)) (optional_by b closer c (t ∷ ts))
+optional_by_short : (b : Below) (h : ShortBelow b) (closer : TokenKind) (t : Token) (ts : List Token) (c : Bool)
+    → Leaves (length (t ∷ ts)) (optional_by b closer c (t ∷ ts))
 optional_by_short b h closer t ts true = omega arith
 optional_by_short b h closer t ts false = after_that (length (t ∷ ts)) (length (t ∷ ts)) (b.expression (t ∷ ts)) _ (h.expression (t ∷ ts)) (λ x l. after_that (length x.1) (length (t ∷ ts)) (expect closer x.1) _ (expect_short closer x.1) (λ y k. omega arith))
 
@@ -228,15 +259,20 @@ seq_short : (b : Below) (h : ShortBelow b) (is : List Item) → reads_first is �
 seq_short b h [] e ts = absurd cc
 seq_short b h (i ∷ is) e ts = after_that (length ts) (length ts) (item b i ts) _ (item_short b h i e ts) (λ x l. after_that (suc (length x.1)) (length ts) (seq b is x.1) _ (seq_weak b h is x.1) (λ y k. omega arith))
 
-made_short : {A : Type 0} (b : Below) (h : ShortBelow b) (is : List Item) (make : productions.Values is → A) → reads_first is ≡ true → Short (made b is make)
+made_short : {A : Type 0} (b : Below) (h : ShortBelow b) (is : List Item) (make : productions.Values is → A)
+    → reads_first is ≡ true
+    → Short (made b is make)
 made_short b h is make e ts = after_that (length ts) (length ts) (seq b is ts) _ (seq_short b h is e ts) (λ x l. l)
 
-low_leaves : {A : Type 0} (m : ℕ) (height n : ℕ) (ts : List Token) (read : Read A) → Leaves m read → Leaves m (if_low height n ts read)
+low_leaves : {A : Type 0} (m : ℕ) (height n : ℕ) (ts : List Token) (read : Read A)
+    → Leaves m read
+    → Leaves m (if_low height n ts read)
 low_leaves m height n ts read h = choose m (nat_le height n) read (Err (deep (length (tail_of ts)))) h tt
 
 -- ---- object literals
 
-key_by_short : (b : Below) (h : ShortBelow b) (t : Token) (ts : List Token) (k : KeyStart) → Leaves (length (t ∷ ts)) (parsing.key_by b k (t ∷ ts))
+key_by_short : (b : Below) (h : ShortBelow b) (t : Token) (ts : List Token) (k : KeyStart)
+    → Leaves (length (t ∷ ts)) (parsing.key_by b k (t ∷ ts))
 key_by_short b h t ts (classes.a_word_key w) = omega arith
 key_by_short b h t ts (classes.a_string_key s) = omega arith
 key_by_short b h t ts (classes.a_number_key v) = omega arith
@@ -275,7 +311,8 @@ function_short : (b : Below) (h : ShortBelow b) → Short (parsing.function_at b
 unfolding parsing.function_at
 function_short b h ts = function_by_short b h (parsing.is_name_next (head_of ts)) ts
 
-primary_by_short : (b : Below) (h : ShortBelow b) (n : ℕ) (t : Token) (ts : List Token) (s : Start) → Leaves (length (t ∷ ts)) (parsing.primary_by b n s (t ∷ ts))
+primary_by_short : (b : Below) (h : ShortBelow b) (n : ℕ) (t : Token) (ts : List Token) (s : Start)
+    → Leaves (length (t ∷ ts)) (parsing.primary_by b n s (t ∷ ts))
 primary_by_short b h n t ts classes.this_word = omega arith
 primary_by_short b h n t ts (classes.a_name s) = omega arith
 primary_by_short b h n t ts (classes.a_number v) = omega arith
@@ -299,7 +336,9 @@ linked_weak b h e classes.key ts = weaken _ (made_short b h (tok kinds.LeftBrack
 linked_weak b h e classes.arguments ts = weaken _ (made_short b h (tok kinds.LeftParenthesis ∷ arguments kinds.RightParenthesis ∷ []) (λ v. trees.call e v.1.0) refl) ts
 linked_weak b h e classes.no_link ts = tt
 
-links_then : (b : Below) (h : ShortBelow b) (n : ℕ) (go : Expression → Reader Expression) (e : Expression) (l : Link) → ((f : Expression) → Weak (go f)) → Weak (parsing.links_by b n go e l)
+links_then : (b : Below) (h : ShortBelow b) (n : ℕ) (go : Expression → Reader Expression) (e : Expression) (l : Link)
+    → ((f : Expression) → Weak (go f))
+    → Weak (parsing.links_by b n go e l)
 links_then b h n go e classes.no_link g ts = omega arith
 links_then b h n go e classes.dot g ts = low_leaves _ _ n ts _ (after_that (suc (length ts)) (suc (length ts)) (parsing.linked_by b e classes.dot ts) _ (linked_weak b h e classes.dot ts) (λ x l. wider (suc (length x.1)) (suc (length ts)) _ (g x.0 x.1) (omega arith)))
 links_then b h n go e classes.key g ts = low_leaves _ _ n ts _ (after_that (suc (length ts)) (suc (length ts)) (parsing.linked_by b e classes.key ts) _ (linked_weak b h e classes.key ts) (λ x l. wider (suc (length x.1)) (suc (length ts)) _ (g x.0 x.1) (omega arith)))
@@ -334,7 +373,9 @@ unary_short : (b : Below) (h : ShortBelow b) (n : ℕ) → Short (parsing.unary 
 unfolding parsing.unary
 unary_short b h n ts = unary_by_short b h n (prefix (head_of ts)) ts
 
-chain_then : (b : Below) (h : ShortBelow b) (n : ℕ) (go : Expression → Reader Expression) (e : Expression) (o : Option _) → ((f : Expression) → Weak (go f)) → Weak (parsing.chain_by b n go e o)
+chain_then : (b : Below) (h : ShortBelow b) (n : ℕ) (go : Expression → Reader Expression) (e : Expression) (o : Option _)
+    → ((f : Expression) → Weak (go f))
+    → Weak (parsing.chain_by b n go e o)
 chain_then b h n go e None g ts = omega arith
 chain_then b h n go e (Some o) g ts = low_leaves _ _ n ts _ (after_that (length (tail_of ts)) (suc (length ts)) (b.operation (suc (strength o)) (tail_of ts)) _ (h.operation (suc (strength o)) (tail_of ts)) (λ x l. wider (suc (length x.1)) (suc (length ts)) _ (g (trees.binary o e x.0) x.1) (omega (arith, tail_shorter ts))))
 
@@ -349,11 +390,13 @@ operation_short b h n m ts = after_that (length ts) (length ts) (parsing.unary b
 
 -- ---- arrow functions
 
-arrow_body_short : (b : Below) (h : ShortBelow b) (ps : Parameters) (names : List Identifier) (c : Bool) → Short (parsing.arrow_body_by b ps names c)
+arrow_body_short : (b : Below) (h : ShortBelow b) (ps : Parameters) (names : List Identifier) (c : Bool)
+    → Short (parsing.arrow_body_by b ps names c)
 arrow_body_short b h ps names true ts = made_short b h (in_braces function_body (with_names [] names) ∷ []) (λ v. trees.arrow_block ps v.0) refl ts
 arrow_body_short b h ps names false ts = made_short b h (an_assignment ∷ []) (λ v. trees.arrow ps v.0) refl ts
 
-arrow_short : (b : Below) (h : ShortBelow b) (ps : Parameters) (names : List Identifier) → Short (parsing.arrow_rest b ps names)
+arrow_short : (b : Below) (h : ShortBelow b) (ps : Parameters) (names : List Identifier)
+    → Short (parsing.arrow_rest b ps names)
 unfolding parsing.arrow_rest
 arrow_short b h ps names ts = after_that (length ts) (length ts) (expect_near kinds.Arrow ts) _ (near_short kinds.Arrow ts) (λ a l. wider (length a.1) (length ts) _ (arrow_body_short b h ps names (is_kind kinds.LeftBrace (head_of a.1)) a.1) (omega arith))
 
@@ -361,7 +404,8 @@ arrow_of_one_short : (b : Below) (h : ShortBelow b) → Short (parsing.arrow_of_
 unfolding parsing.arrow_of_one
 arrow_of_one_short b h ts = after_that (length ts) (length ts) (name_at ts) _ (name_short ts) (λ x l. wider (length x.1) (length ts) _ (arrow_short b h (trees.one_name x.0) (x.0 ∷ []) x.1) (omega arith))
 
-arrow_of_names_short : (b : Below) (h : ShortBelow b) (only : Bool) (names : List Identifier) → Short (parsing.arrow_of_names b only names)
+arrow_of_names_short : (b : Below) (h : ShortBelow b) (only : Bool) (names : List Identifier)
+    → Short (parsing.arrow_of_names b only names)
 arrow_of_names_short b h only names ts = choose (length ts) (parsing.are_fresh [] names) _ _ (arrow_short b h (trees.name_list names) names ts) (choose (length ts) only _ _ tt tt)
 
 arrow_of_list_short : (b : Below) (h : ShortBelow b) (only : Bool) → Short (parsing.arrow_of_list b only)
@@ -395,7 +439,8 @@ expression_short b h n ts = after_that (length ts) (length ts) (parsing.assignme
 
 -- ---- statements
 
-else_weak : (b : Below) (h : ShortBelow b) (c : Context) (e : Expression) (s : Statement) (o : Bool) → Weak (parsing.else_by b c e s o)
+else_weak : (b : Below) (h : ShortBelow b) (c : Context) (e : Expression) (s : Statement) (o : Bool)
+    → Weak (parsing.else_by b c e s o)
 else_weak b h c e s true ts = weaken _ (made_short b h (tok kinds.Else ∷ a_statement c ∷ []) (λ v. trees.if_else e s v.1.0) refl) ts
 else_weak b h c e s false ts = omega arith
 
@@ -428,7 +473,8 @@ handler_by_weak : (b : Below) (h : ShortBelow b) (c : Context) (o : Bool) → We
 handler_by_weak b h c true ts = wider (length (tail_of ts)) (suc (length ts)) _ (catch_short b h c (is_kind kinds.LeftParenthesis (head_of (tail_of ts))) (tail_of ts)) (omega (arith, tail_shorter ts))
 handler_by_weak b h c false ts = omega arith
 
-finalizer_by_weak : (b : Below) (h : ShortBelow b) (c : Context) (a : Handler) (o : Bool) → Weak (parsing.finalizer_by b c a o)
+finalizer_by_weak : (b : Below) (h : ShortBelow b) (c : Context) (a : Handler) (o : Bool)
+    → Weak (parsing.finalizer_by b c a o)
 finalizer_by_weak b h c a true ts = weaken _ (made_short b h (tok kinds.Finally ∷ a_block c [] ∷ []) (λ v. trees.finally v.1.0) refl) ts
 finalizer_by_weak b h c trees.no_catch false ts = tt
 finalizer_by_weak b h c (trees.catch n ss) false ts = omega arith
@@ -437,7 +483,8 @@ try_short : (b : Below) (h : ShortBelow b) (c : Context) → Short (parsing.try_
 unfolding parsing.try_at parsing.handler_at parsing.finalizer_at
 try_short b h c ts = after_that (length ts) (length ts) (seq b (tok kinds.Try ∷ a_block c [] ∷ []) ts) _ (seq_short b h (tok kinds.Try ∷ a_block c [] ∷ []) refl ts) (λ x l. after_that (suc (length x.1)) (length ts) (parsing.handler_at b c x.1) _ (handler_by_weak b h c (is_kind kinds.Catch (head_of x.1)) x.1) (λ a k. after_that (suc (length a.1)) (length ts) (parsing.finalizer_at b c a.0 a.1) _ (finalizer_by_weak b h c a.0 (is_kind kinds.Finally (head_of a.1)) a.1) (λ f m. omega arith)))
 
-statement_by_short : (b : Below) (h : ShortBelow b) (c : Context) (t : Token) (ts : List Token) (f : First) → Leaves (length (t ∷ ts)) (parsing.statement_by b c f (t ∷ ts))
+statement_by_short : (b : Below) (h : ShortBelow b) (c : Context) (t : Token) (ts : List Token) (f : First)
+    → Leaves (length (t ∷ ts)) (parsing.statement_by b c f (t ∷ ts))
 statement_by_short b h c t ts classes.a_block = made_short b h (in_braces c [] ∷ []) (λ v. trees.block v.0) refl (t ∷ ts)
 statement_by_short b h c t ts (classes.a_lexical constant) = tt
 statement_by_short b h c t ts classes.a_semicolon = omega arith
@@ -459,7 +506,8 @@ unfolding parsing.statement
 statement_short b h c [] = made_short b h (ended ∷ []) (λ v. trees.expression v.0) refl []
 statement_short b h c (t ∷ ts) = statement_by_short b h c t ts (first (Some t))
 
-lexical_short : (b : Below) (h : ShortBelow b) (constant : Bool) (taken : List Identifier) → Short (parsing.lexical_at b constant taken)
+lexical_short : (b : Below) (h : ShortBelow b) (constant : Bool) (taken : List Identifier)
+    → Short (parsing.lexical_at b constant taken)
 unfolding parsing.lexical_at
 lexical_short b h constant taken ts = after_that (length (tail_of ts)) (length ts) (declarators_at b constant taken (tail_of ts)) _ (declarators_short b h constant taken (tail_of ts)) (λ d l. after_that (suc (length d.1)) (length ts) (semicolon_at _ d.1) _ (semicolon_weak _ d.1) (λ x k. omega (arith, tail_shorter ts)))
 
@@ -467,7 +515,8 @@ declaration_short : (b : Below) (h : ShortBelow b) (taken : List Identifier) →
 unfolding parsing.declaration_at
 declaration_short b h taken ts = after_that (length (tail_of ts)) (length ts) (fresh_name taken (tail_of ts)) _ (fresh_short taken (tail_of ts)) (λ n l. after_that (length n.1) (length ts) (code_at b n.1) _ (code_short b h n.1) (λ x k. omega (arith, tail_shorter ts)))
 
-item_by_short : (b : Below) (h : ShortBelow b) (c : Context) (taken : List Identifier) (f : First) → Short (parsing.item_by b c taken f)
+item_by_short : (b : Below) (h : ShortBelow b) (c : Context) (taken : List Identifier) (f : First)
+    → Short (parsing.item_by b c taken f)
 item_by_short b h c taken (classes.a_lexical constant) ts = lexical_short b h constant taken ts
 item_by_short b h c taken classes.a_function ts = declaration_short b h taken ts
 item_by_short b h c taken _ ts = statement_short b h c ts
@@ -504,5 +553,8 @@ short (suc n) = record {
 }
 
 -- what a reader answers is shorter than what it got
-pub shorter : {A : Type 0} (r : Reader A) (ts : List Token) (x : A) (rest : List Token) → Short r → r ts ≡ Ok (x, rest) → length rest < length ts
+pub shorter : {A : Type 0} (r : Reader A) (ts : List Token) (x : A) (rest : List Token)
+    → Short r
+    → r ts ≡ Ok (x, rest)
+    → length rest < length ts
 shorter r ts x rest h e = let k : Leaves (length ts) (Ok (x, rest)) = rw e at (h ts) in k

@@ -20,7 +20,8 @@ use Rattle.js_syntax.proofs.LoopStepLemmas.{Elements, Others, elements_begin, el
 
 -- ---- expressions
 
-heights_push : (xs : List Expression) (x : Expression) → height_of_expressions (expressions (xs ++ (x ∷ []))) ≡ max (height_of_expressions (expressions xs)) (height x)
+heights_push : (xs : List Expression) (x : Expression)
+    → height_of_expressions (expressions (xs ++ (x ∷ []))) ≡ max (height_of_expressions (expressions xs)) (height x)
 heights_push [] x = omega arith
 heights_push (y ∷ xs) x = omega (arith, heights_push xs x)
 
@@ -37,7 +38,14 @@ elements_init room closer ts = record {
   low = omega arith;
 }
 
-pub elements_next : (room : ℕ) (closer : TokenKind) (ts : List Token) (xs : List Expr) (high : ℕ) (rest : List Token) (x : Expr) (h : ℕ) (later : List Token) → ReadsElements room closer ts xs high rest → is_kind closer (head_of rest) ≡ false → (below room).assignment rest ≡ Ok (expression_view x, later) → h ≡ height (expression_view x) → h ≤ room → after closer (head_of later) ≡ goes_on → ReadsElements room closer ts (xs ++ (x ∷ [])) (max high h) (tail_of later)
+pub elements_next : (room : ℕ) (closer : TokenKind) (ts : List Token) (xs : List Expr) (high : ℕ) (rest : List Token) (x : Expr) (h : ℕ) (later : List Token)
+    → ReadsElements room closer ts xs high rest
+    → is_kind closer (head_of rest) ≡ false
+    → (below room).assignment rest ≡ Ok (expression_view x, later)
+    → h ≡ height (expression_view x)
+    → h ≤ room
+    → after closer (head_of later) ≡ goes_on
+    → ReadsElements room closer ts (xs ++ (x ∷ [])) (max high h) (tail_of later)
 elements_next room closer ts xs high rest x h later r c o d l g = record {
   reads = rw map_push (elements_more (one_of (below room).assignment) no_state closer _ _ tt rest (expression_view x) later (shorter (below room).assignment rest (expression_view x) later (short room).assignment o) r.reads c o g);
   is_height = rw map_push (omega (arith, heights_push (map expression_view xs) (expression_view x), r.is_height));
@@ -57,7 +65,13 @@ others_init room ts = record {
   low = omega arith;
 }
 
-pub others_next : (room : ℕ) (ts : List Token) (xs : List Expr) (high : ℕ) (rest : List Token) (x : Expr) (h : ℕ) (later : List Token) → ReadsOthers room ts xs high rest → is_kind kinds.Comma (head_of rest) ≡ true → (below room).assignment (tail_of rest) ≡ Ok (expression_view x, later) → h ≡ height (expression_view x) → h ≤ room → ReadsOthers room ts (xs ++ (x ∷ [])) (max high h) later
+pub others_next : (room : ℕ) (ts : List Token) (xs : List Expr) (high : ℕ) (rest : List Token) (x : Expr) (h : ℕ) (later : List Token)
+    → ReadsOthers room ts xs high rest
+    → is_kind kinds.Comma (head_of rest) ≡ true
+    → (below room).assignment (tail_of rest) ≡ Ok (expression_view x, later)
+    → h ≡ height (expression_view x)
+    → h ≤ room
+    → ReadsOthers room ts (xs ++ (x ∷ [])) (max high h) later
 others_next room ts xs high rest x h later r c o d l = record {
   reads = rw map_push (others_more (one_of (below room).assignment) no_state _ _ tt rest (expression_view x) later (shorter (below room).assignment (tail_of rest) (expression_view x) later (short room).assignment o) r.reads c o);
   is_height = rw map_push (omega (arith, heights_push (map expression_view xs) (expression_view x), r.is_height));
@@ -66,7 +80,8 @@ others_next room ts xs high rest x h later r c o d l = record {
 
 -- ---- members of an object literal
 
-properties_push : (xs : List Property) (x : Property) → height_of_properties (properties (xs ++ (x ∷ []))) ≡ max (height_of_properties (properties xs)) (height_of_property x)
+properties_push : (xs : List Property) (x : Property)
+    → height_of_properties (properties (xs ++ (x ∷ []))) ≡ max (height_of_properties (properties xs)) (height_of_property x)
 properties_push [] x = omega arith
 properties_push (y ∷ xs) x = omega (arith, properties_push xs x)
 
@@ -82,10 +97,19 @@ members_init room ts = record {
   low = omega arith;
 }
 
-pub member_shorter : (room : ℕ) (rest : List Token) (x : Property) (later : List Token) → property_at (below room) room rest ≡ Ok (x, later) → length later < length rest
+pub member_shorter : (room : ℕ) (rest : List Token) (x : Property) (later : List Token)
+    → property_at (below room) room rest ≡ Ok (x, later)
+    → length later < length rest
 member_shorter room rest x later o = shorter (λ r. property_at (below room) room r) rest x later (property_short (below room) (short room) room) o
 
-pub members_next : (room : ℕ) (ts : List Token) (xs : List PropertyDefinition) (high : ℕ) (rest : List Token) (x : PropertyDefinition) (h : ℕ) (later : List Token) → ReadsMembers room ts xs high rest → is_kind kinds.RightBrace (head_of rest) ≡ false → property_at (below room) room rest ≡ Ok (property_view x, later) → h ≡ height_of_property (property_view x) → h ≤ room → after kinds.RightBrace (head_of later) ≡ goes_on → ReadsMembers room ts (xs ++ (x ∷ [])) (max high h) (tail_of later)
+pub members_next : (room : ℕ) (ts : List Token) (xs : List PropertyDefinition) (high : ℕ) (rest : List Token) (x : PropertyDefinition) (h : ℕ) (later : List Token)
+    → ReadsMembers room ts xs high rest
+    → is_kind kinds.RightBrace (head_of rest) ≡ false
+    → property_at (below room) room rest ≡ Ok (property_view x, later)
+    → h ≡ height_of_property (property_view x)
+    → h ≤ room
+    → after kinds.RightBrace (head_of later) ≡ goes_on
+    → ReadsMembers room ts (xs ++ (x ∷ [])) (max high h) (tail_of later)
 members_next room ts xs high rest x h later r c o d l g = record {
   reads = rw map_push (elements_more (one_of (λ r. property_at (below room) room r)) no_state kinds.RightBrace _ _ tt rest (property_view x) later (member_shorter room rest (property_view x) later o) r.reads c o g);
   is_height = rw map_push (omega (arith, properties_push (map property_view xs) (property_view x), r.is_height));
@@ -93,13 +117,21 @@ members_next room ts xs high rest x h later r c o d l g = record {
 }
 
 -- the heights of what ends a list
-pub last_height : (xs : List Expr) (x : Expr) (high h : ℕ) → high ≡ height_of_expressions (expressions (map expression_view xs)) → h ≡ height (expression_view x) → max high h ≡ height_of_expressions (expressions (map expression_view (xs ++ (x ∷ []))))
+pub last_height : (xs : List Expr) (x : Expr) (high h : ℕ)
+    → high ≡ height_of_expressions (expressions (map expression_view xs))
+    → h ≡ height (expression_view x)
+    → max high h ≡ height_of_expressions (expressions (map expression_view (xs ++ (x ∷ []))))
 last_height xs x high h d e = rw map_push (omega (arith, heights_push (map expression_view xs) (expression_view x)))
 
-pub last_property_height : (xs : List PropertyDefinition) (x : PropertyDefinition) (high h : ℕ) → high ≡ height_of_properties (properties (map property_view xs)) → h ≡ height_of_property (property_view x) → max high h ≡ height_of_properties (properties (map property_view (xs ++ (x ∷ []))))
+pub last_property_height : (xs : List PropertyDefinition) (x : PropertyDefinition) (high h : ℕ)
+    → high ≡ height_of_properties (properties (map property_view xs))
+    → h ≡ height_of_property (property_view x)
+    → max high h ≡ height_of_properties (properties (map property_view (xs ++ (x ∷ []))))
 last_property_height xs x high h d e = rw map_push (omega (arith, properties_push (map property_view xs) (property_view x)))
 
-pub others_smaller : (room : ℕ) (rest later : List lexer.Token) (x : Expression) → (below room).assignment (tail_of (tokens_view rest)) ≡ Ok (x, tokens_view later) → length later < length rest
+pub others_smaller : (room : ℕ) (rest later : List lexer.Token) (x : Expression)
+    → (below room).assignment (tail_of (tokens_view rest)) ≡ Ok (x, tokens_view later)
+    → length later < length rest
 others_smaller room rest later x o =
     let l : length (tokens_view later) < length (tail_of (tokens_view rest)) = shorter (below room).assignment (tail_of (tokens_view rest)) x (tokens_view later) (short room).assignment o in
     less_in_view rest later (omega (arith, tail_shorter (tokens_view rest)))

@@ -10,11 +10,17 @@ use Rattle.js_syntax.specs.Classes.{is_name}
 use Rattle.js_syntax.specs.Views.{string_value_of, tokens_view}
 use Rattle.js_syntax.proofs.KindLemmas.{same_kind}
 
-name_alone : (k : TokenKind) (text n : List ℕ) → k ≡ kinds.Name → (is_same_kind k kinds.Name && pointwise nat_eq (string_value_of k text) n) ≡ pointwise nat_eq text n
+name_alone : (k : TokenKind) (text n : List ℕ)
+    → k ≡ kinds.Name
+    → (is_same_kind k kinds.Name && pointwise nat_eq (string_value_of k text) n) ≡ pointwise nat_eq text n
 name_alone k text n e = rw e refl
 
 -- a first token that is a name is this one if its text is
-pub first_name : (n : List ℕ) (ts : List Token) (t : Token) → 1 ≤ length ts → t ≡ get_or ts 0 t → is_same_kind t.kind kinds.Name ≡ true → pointwise nat_eq t.text.now n ≡ is_name n (head_of (tokens_view ts))
+pub first_name : (n : List ℕ) (ts : List Token) (t : Token)
+    → 1 ≤ length ts
+    → t ≡ get_or ts 0 t
+    → is_same_kind t.kind kinds.Name ≡ true
+    → pointwise nat_eq t.text.now n ≡ is_name n (head_of (tokens_view ts))
 first_name n [] t some is named = absurd (omega arith)
 first_name n (u ∷ us) t some is named =
     let e : t ≡ u = is in

@@ -32,7 +32,8 @@ with_last : (ps : List (List Place)) (p : List Place) → with_commas (ps ++ p �
 with_last [] p = append_nil p
 with_last (q ∷ ps) p = ap (λ qs. q ++ qs) (behind_last ps p) ∙ sym (append_assoc q (comma ∷ before_commas ps) p)
 
-before_more : (ps : List (List Place)) (p : List Place) → before_commas (ps ++ p ∷ []) ≡ (before_commas ps ++ p) ++ comma ∷ []
+before_more : (ps : List (List Place)) (p : List Place)
+    → before_commas (ps ++ p ∷ []) ≡ (before_commas ps ++ p) ++ comma ∷ []
 before_more [] p = refl
 before_more (q ∷ ps) p =
     ap (λ qs. q ++ (comma ∷ qs)) (before_more ps p)
@@ -58,7 +59,9 @@ turn_more (q ∷ ps) p = ap (λ qs. q ++ qs) (turn_more ps p) ∙ sym (append_as
 -- ---- elements and arguments
 
 -- a comma that is there may be there
-maybe_there : (spans : List Span) (k : TokenKind) (ps : List Place) (before : ℕ) (ts left : List Token) → AreSpans spans (ps ++ stands (fixed k) ∷ []) before ts left → AreSpans spans (ps ++ stands_maybe k ∷ []) before ts left
+maybe_there : (spans : List Span) (k : TokenKind) (ps : List Place) (before : ℕ) (ts left : List Token)
+    → AreSpans spans (ps ++ stands (fixed k) ∷ []) before ts left
+    → AreSpans spans (ps ++ stands_maybe k ∷ []) before ts left
 maybe_there spans k [] before ts left p = inl p
 maybe_there spans k (opens n ∷ ps) before ts left p = (p.0, maybe_there spans k ps before ts left p.1)
 maybe_there spans k (closes n ∷ ps) before ts left p = (p.0, maybe_there spans k ps before ts left p.1)
@@ -66,14 +69,18 @@ maybe_there spans k (stands s ∷ ps) before ts left p = (p.0, maybe_there spans
 maybe_there spans k (stands_maybe j ∷ ps) before ts left (inl p) = inl (p.0, maybe_there spans k ps (end_of (head_of ts)) (tail_of ts) left p.1)
 maybe_there spans k (stands_maybe j ∷ ps) before ts left (inr p) = inr (p.0, maybe_there spans k ps before ts left p.1)
 
-numbered_maybe : (k : TokenKind) (ps : List Place) (first next : ℕ) → AreNumbered first (ps ++ stands (fixed k) ∷ []) next → AreNumbered first (ps ++ stands_maybe k ∷ []) next
+numbered_maybe : (k : TokenKind) (ps : List Place) (first next : ℕ)
+    → AreNumbered first (ps ++ stands (fixed k) ∷ []) next
+    → AreNumbered first (ps ++ stands_maybe k ∷ []) next
 numbered_maybe k [] first next p = p
 numbered_maybe k (opens n ∷ ps) first next p = numbered_maybe k ps first next p
 numbered_maybe k (closes n ∷ ps) first next p = (p.0, numbered_maybe k ps (suc first) next p.1)
 numbered_maybe k (stands s ∷ ps) first next p = numbered_maybe k ps first next p
 numbered_maybe k (stands_maybe j ∷ ps) first next p = numbered_maybe k ps first next p
 
-there : {some : Bool} {old new : List Span} {ts left : List Token} (k : TokenKind) (ps : List Place) → Placed some old new (ps ++ stands (fixed k) ∷ []) ts left → Placed some old new (ps ++ stands_maybe k ∷ []) ts left
+there : {some : Bool} {old new : List Span} {ts left : List Token} (k : TokenKind) (ps : List Place)
+    → Placed some old new (ps ++ stands (fixed k) ∷ []) ts left
+    → Placed some old new (ps ++ stands_maybe k ∷ []) ts left
 there {some} {old} {new} {ts} {left} k ps p = record {
   stands = record {
     grew = p.stands.grew;
@@ -89,14 +96,24 @@ abbrev pub ended_list : List Place → TokenKind → List Place
 ended_list ps closer = ps ++ (stands_maybe kinds.Comma ∷ stands (fixed closer) ∷ [])
 
 -- The list ends where another element could begin.
-pub elements_over : {old new : List Span} {ts rest : List Token} (closer : TokenKind) (ps : List (List Place)) (left : List Token) → Placed false old new (before_commas ps) ts rest → is_kind closer (head_of rest) ≡ true → left ≡ tail_of rest → is_same_kind closer kinds.Comma ≡ false → Placed true old new (ended_list (with_commas ps) closer) ts left
+pub elements_over : {old new : List Span} {ts rest : List Token} (closer : TokenKind) (ps : List (List Place)) (left : List Token)
+    → Placed false old new (before_commas ps) ts rest
+    → is_kind closer (head_of rest) ≡ true
+    → left ≡ tail_of rest
+    → is_same_kind closer kinds.Comma ≡ false
+    → Placed true old new (ended_list (with_commas ps) closer) ts left
 elements_over {old} {new} {ts} {rest} closer [] left p h is apart = then p (then (left_out new kinds.Comma rest (kind_not closer kinds.Comma (head_of rest) h apart)) (tested new closer rest left h is))
 elements_over {old} {new} {ts} {rest} closer (q ∷ ps) left p h is apart =
     let commas : Placed false old new (with_commas (q ∷ ps) ++ comma ∷ []) ts rest = rw before_is at p in
     rw (← append_assoc (with_commas (q ∷ ps)) (stands_maybe kinds.Comma ∷ []) (stands (fixed closer) ∷ [])) (then (there kinds.Comma (with_commas (q ∷ ps)) commas) (tested new closer rest left h is))
 
 -- an element behind which the list goes on
-pub element_more : {old mid new : List Span} {ts rest mark : List Token} (closer : TokenKind) (ps : List (List Place)) (p : List Place) (left : List Token) → Placed false old mid (before_commas ps) ts rest → Placed true mid new p rest mark → after closer (head_of mark) ≡ goes_on → left ≡ tail_of mark → Placed false old new (before_commas (ps ++ p ∷ [])) ts left
+pub element_more : {old mid new : List Span} {ts rest mark : List Token} (closer : TokenKind) (ps : List (List Place)) (p : List Place) (left : List Token)
+    → Placed false old mid (before_commas ps) ts rest
+    → Placed true mid new p rest mark
+    → after closer (head_of mark) ≡ goes_on
+    → left ≡ tail_of mark
+    → Placed false old new (before_commas (ps ++ p ∷ [])) ts left
 element_more {old} {mid} {new} {ts} {rest} {mark} closer ps p left a b h is = rw (before_more ps p) (loosely (then (then a b) (tested new kinds.Comma mark left (comma_next (is_kind closer (head_of mark)) (is_kind kinds.Comma (head_of mark)) h) is)))
   where
     comma_next : (c k : Bool) → after_by c k ≡ goes_on → k ≡ true
@@ -105,7 +122,13 @@ element_more {old} {mid} {new} {ts} {rest} {mark} closer ps p left a b h is = rw
     comma_next false false e = absurd cc
 
 -- an element behind which the list ends
-pub element_last : {old mid new : List Span} {ts rest mark : List Token} (closer : TokenKind) (ps : List (List Place)) (p : List Place) (left : List Token) → Placed false old mid (before_commas ps) ts rest → Placed true mid new p rest mark → after closer (head_of mark) ≡ ends → left ≡ tail_of mark → is_same_kind closer kinds.Comma ≡ false → Placed true old new (ended_list (with_commas (ps ++ p ∷ [])) closer) ts left
+pub element_last : {old mid new : List Span} {ts rest mark : List Token} (closer : TokenKind) (ps : List (List Place)) (p : List Place) (left : List Token)
+    → Placed false old mid (before_commas ps) ts rest
+    → Placed true mid new p rest mark
+    → after closer (head_of mark) ≡ ends
+    → left ≡ tail_of mark
+    → is_same_kind closer kinds.Comma ≡ false
+    → Placed true old new (ended_list (with_commas (ps ++ p ∷ [])) closer) ts left
 element_last {old} {mid} {new} {ts} {rest} {mark} closer ps p left a b h is apart =
     let next = closer_next (is_kind closer (head_of mark)) (is_kind kinds.Comma (head_of mark)) h in
     rw (with_last ps p) (then (then a b) (then (left_out new kinds.Comma mark (kind_not closer kinds.Comma (head_of mark) next apart)) (tested new closer mark left next is)))
@@ -117,11 +140,21 @@ element_last {old} {mid} {new} {ts} {rest} {mark} closer ps p left a b h is apar
 
 -- ---- others, each behind a comma
 
-pub other_more : {old mid new : List Span} {ts rest left : List Token} (ps : List (List Place)) (p : List Place) (mark : List Token) → Placed false old mid (behind_commas ps) ts rest → is_kind kinds.Comma (head_of rest) ≡ true → mark ≡ tail_of rest → Placed true mid new p mark left → Placed false old new (behind_commas (ps ++ p ∷ [])) ts left
+pub other_more : {old mid new : List Span} {ts rest left : List Token} (ps : List (List Place)) (p : List Place) (mark : List Token)
+    → Placed false old mid (behind_commas ps) ts rest
+    → is_kind kinds.Comma (head_of rest) ≡ true
+    → mark ≡ tail_of rest
+    → Placed true mid new p mark left
+    → Placed false old new (behind_commas (ps ++ p ∷ [])) ts left
 other_more {old} {mid} {new} {ts} {rest} {left} ps p mark a h is b = rw (behind_more ps p) (loosely (then a (then (tested mid kinds.Comma rest mark h is) b)))
 
 -- another of a list that isn't empty
-pub listed_more : {old mid new : List Span} {ts rest left : List Token} (ps : List (List Place)) (p : List Place) (mark : List Token) → Placed true old mid (with_commas ps) ts rest → is_kind kinds.Comma (head_of rest) ≡ true → mark ≡ tail_of rest → Placed true mid new p mark left → Placed true old new (with_commas (ps ++ p ∷ [])) ts left
+pub listed_more : {old mid new : List Span} {ts rest left : List Token} (ps : List (List Place)) (p : List Place) (mark : List Token)
+    → Placed true old mid (with_commas ps) ts rest
+    → is_kind kinds.Comma (head_of rest) ≡ true
+    → mark ≡ tail_of rest
+    → Placed true mid new p mark left
+    → Placed true old new (with_commas (ps ++ p ∷ [])) ts left
 listed_more {old} {mid} {new} {ts} {rest} {left} [] p mark a h is b =
     let same : ts ≡ rest = a.stands.exact mid (same_spans mid) 0 in
     let fewer : length rest < length ts = a.stands.fewer refl in
@@ -131,5 +164,8 @@ listed_more {old} {mid} {new} {ts} {rest} {left} (q ∷ ps) p mark a h is b =
 
 -- ---- statements
 
-pub turn_next : {old mid new : List Span} {ts rest left : List Token} (ps : List (List Place)) (p : List Place) → Placed false old mid (in_turn ps) ts rest → Placed true mid new p rest left → Placed false old new (in_turn (ps ++ p ∷ [])) ts left
+pub turn_next : {old mid new : List Span} {ts rest left : List Token} (ps : List (List Place)) (p : List Place)
+    → Placed false old mid (in_turn ps) ts rest
+    → Placed true mid new p rest left
+    → Placed false old new (in_turn (ps ++ p ∷ [])) ts left
 turn_next ps p a b = rw (turn_more ps p) (loosely (then a b))

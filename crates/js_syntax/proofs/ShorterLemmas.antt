@@ -16,16 +16,22 @@ use Rattle.js_syntax.proofs.LeafLemmas.{short, shorter, name_short}
 use Rattle.js_syntax.proofs.NewNameLemmas.{name_of_fresh}
 use Rattle.js_syntax.proofs.LoopStepLemmas.{tail_shorter}
 
-pub bind_ok : {A B : Type 0} (r : Read A) (f : A × List Token → Read B) (y : B × List Token) → (r >>= f) ≡ Ok y → (x : A × List Token) × (r ≡ Ok x) × (f x ≡ Ok y)
+pub bind_ok : {A B : Type 0} (r : Read A) (f : A × List Token → Read B) (y : B × List Token)
+    → (r >>= f) ≡ Ok y
+    → (x : A × List Token) × (r ≡ Ok x) × (f x ≡ Ok y)
 bind_ok (Ok x) f y e = (x, refl, e)
 bind_ok (Err d) f y e = absurd cc
 
 -- ---- fewer tokens
 
-pub fresh_shorter : (taken : List Identifier) (ts : List Token) (n : Identifier) (r : List Token) → fresh_name taken ts ≡ Ok (n, r) → length r < length ts
+pub fresh_shorter : (taken : List Identifier) (ts : List Token) (n : Identifier) (r : List Token)
+    → fresh_name taken ts ≡ Ok (n, r)
+    → length r < length ts
 fresh_shorter taken ts n r e = shorter name_at ts n r name_short (name_of_fresh taken ts (n, r) e)
 
-pub item_shorter : (n : ℕ) (context : Context) (taken : List Identifier) (ts : List Token) (s : Statement) (r : List Token) → (below n).item context taken ts ≡ Ok (s, r) → length r < length ts
+pub item_shorter : (n : ℕ) (context : Context) (taken : List Identifier) (ts : List Token) (s : Statement) (r : List Token)
+    → (below n).item context taken ts ≡ Ok (s, r)
+    → length r < length ts
 item_shorter n context taken ts s r e = shorter ((below n).item context taken) ts s r ((short n).item context taken) e
 
 abbrev read_is : {A : Type 0} → A × List Token → Read A
@@ -34,7 +40,9 @@ read_is x = Ok x
 rest_is : {A : Type 0} (x y : A × List Token) → read_is x ≡ read_is y → x.1 ≡ y.1
 rest_is x y e = let p : x ≡ y = cc in ap (λ z. z.1) p
 
-initializer_no_longer : (n : ℕ) (constant : Bool) (m : Identifier) (a : Bool) (ts : List Token) (x : Declarator × List Token) → initializer_by (below n) constant m a ts ≡ Ok x → length x.1 ≤ length ts
+initializer_no_longer : (n : ℕ) (constant : Bool) (m : Identifier) (a : Bool) (ts : List Token) (x : Declarator × List Token)
+    → initializer_by (below n) constant m a ts ≡ Ok x
+    → length x.1 ≤ length ts
 initializer_no_longer n constant m true ts x e =
     let p = bind_ok ((below n).assignment (tail_of ts)) (λ y. Ok (trees.declarator m (trees.present y.0), y.1)) x e in
     let q = rest_is (trees.declarator m (trees.present p.0.0), p.0.1) x p.2 in
@@ -42,7 +50,9 @@ initializer_no_longer n constant m true ts x e =
 initializer_no_longer n true m false ts x e = absurd cc
 initializer_no_longer n false m false ts x e = omega (arith, ap (λ (l : List Token). length l) (rest_is (trees.declarator m trees.omitted, ts) x e))
 
-pub declarator_no_longer : (n : ℕ) (constant : Bool) (taken : List Identifier) (ts : List Token) (d : Declarator) (r : List Token) → declarator_at (below n) constant taken ts ≡ Ok (d, r) → length r ≤ length ts
+pub declarator_no_longer : (n : ℕ) (constant : Bool) (taken : List Identifier) (ts : List Token) (d : Declarator) (r : List Token)
+    → declarator_at (below n) constant taken ts ≡ Ok (d, r)
+    → length r ≤ length ts
 unfolding declarator_at
 declarator_no_longer n constant taken ts d r e =
     let p = bind_ok (fresh_name taken ts) (λ m. initializer_by (below n) constant m.0 (is_kind kinds.Assign (head_of m.1)) m.1) (d, r) e in
@@ -55,18 +65,24 @@ abbrev Nothing : Read Statement → Type 0
 Nothing (Ok x) = declared_by x.0 ≡ []
 Nothing (Err f) = Unit {0}
 
-then_nothing : {A : Type 0} (read : Read A) (f : A × List Token → Read Statement) → ((x : A × List Token) → Nothing (f x)) → Nothing (read >>= f)
+then_nothing : {A : Type 0} (read : Read A) (f : A × List Token → Read Statement)
+    → ((x : A × List Token) → Nothing (f x))
+    → Nothing (read >>= f)
 then_nothing (Ok x) f h = h x
 then_nothing (Err e) f h = tt
 
-made_nothing : (b : Below) (is : List Item) (make : Values is → Statement) → ((v : Values is) → declared_by (make v) ≡ []) → (ts : List Token) → Nothing (made b is make ts)
+made_nothing : (b : Below) (is : List Item) (make : Values is → Statement)
+    → ((v : Values is) → declared_by (make v) ≡ [])
+    → (ts : List Token)
+    → Nothing (made b is make ts)
 made_nothing b is make h ts = then_nothing (seq b is ts) (λ x. Ok (make x.0, x.1)) (λ x. h x.0)
 
 choose_nothing : (c : Bool) (read : Read Statement) (n : ℕ) → Nothing read → Nothing (cond c read (Err (stuck n)))
 choose_nothing true read n h = h
 choose_nothing false read n h = tt
 
-else_nothing : (b : Below) (c : Context) (e : Expression) (s : Statement) (o : Bool) (ts : List Token) → Nothing (parsing.else_by b c e s o ts)
+else_nothing : (b : Below) (c : Context) (e : Expression) (s : Statement) (o : Bool) (ts : List Token)
+    → Nothing (parsing.else_by b c e s o ts)
 else_nothing b c e s true ts = made_nothing b (tok kinds.Else ∷ a_statement c ∷ []) (λ v. trees.if_else e s v.1.0) (λ v. refl) ts
 else_nothing b c e s false ts = refl
 
@@ -113,7 +129,9 @@ statement_nothing b c classes.a_function ts = tt
 statement_nothing b c classes.an_expression ts = made_nothing b (ended ∷ []) (λ v. trees.expression v.0) (λ v. refl) ts
 
 -- a statement that is no declaration takes no names
-pub takes_nothing : (n : ℕ) (context : Context) (taken : List Identifier) (ts : List Token) (s : Statement) (r : List Token) → statement (below n) context ts ≡ Ok (s, r) → taken ≡ with_declared taken s
+pub takes_nothing : (n : ℕ) (context : Context) (taken : List Identifier) (ts : List Token) (s : Statement) (r : List Token)
+    → statement (below n) context ts ≡ Ok (s, r)
+    → taken ≡ with_declared taken s
 unfolding statement
 takes_nothing n context taken ts s r e =
     let h = statement_nothing (below n) context (first (head_of ts)) ts in

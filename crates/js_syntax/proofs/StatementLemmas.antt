@@ -23,7 +23,9 @@ unfolding expect
 expect_found k ts e = rw e refl
 
 -- a statement that is no declaration takes no names
-pub names_kept : {X : Type 0} (n : ℕ) (context : Context) (taken : List Identifier) (ts : List Token) (r : Result X ParseError) (look : X → Statement × List Token) → Gives look r (statement (below n) context ts) → IfOk r (λ x. taken ≡ with_declared taken (look x).0)
+pub names_kept : {X : Type 0} (n : ℕ) (context : Context) (taken : List Identifier) (ts : List Token) (r : Result X ParseError) (look : X → Statement × List Token)
+    → Gives look r (statement (below n) context ts)
+    → IfOk r (λ x. taken ≡ with_declared taken (look x).0)
 names_kept n context taken ts (Ok x) look g = takes_nothing n context taken ts (look x).0 (look x).1 g
 names_kept n context taken ts (Err e) look g = tt
 
@@ -31,7 +33,10 @@ of_catch : (c : Catch) → catch_view c ≡ trees.catch c.parameter (block_view 
 of_catch c = view_catch c.parameter c.block
 
 -- nothing stands for a finally behind a catch
-pub no_finalizer : (b : Below) (context : Context) (h : Option Catch) (ts : List Token) → is_some h ≡ true → is_kind kinds.Finally (head_of ts) ≡ false → finalizer_at b context (handler_view h) ts ≡ Ok (trees.no_finally, ts)
+pub no_finalizer : (b : Below) (context : Context) (h : Option Catch) (ts : List Token)
+    → is_some h ≡ true
+    → is_kind kinds.Finally (head_of ts) ≡ false
+    → finalizer_at b context (handler_view h) ts ≡ Ok (trees.no_finally, ts)
 unfolding finalizer_at
 no_finalizer b context None ts s k = absurd cc
 no_finalizer b context (Some c) ts s k = rw (k, of_catch c) refl

@@ -161,7 +161,12 @@ operator_from m None = None
 operator_from m (Some o) = if nat_le m (strength o) then Some o else None
 
 -- what was read, alone or with an operator to its right, whose right operand binds more tightly, and all that follows
-abbrev pub chain_by : Below → ℕ → (Expression → Reader Expression) → Expression → Option BinaryOperator → Reader Expression
+abbrev pub chain_by : Below
+    → ℕ
+    → (Expression → Reader Expression)
+    → Expression
+    → Option BinaryOperator
+    → Reader Expression
 chain_by b n go l None ts = Ok (l, ts)
 chain_by b n go l (Some o) ts = if_low (height l) n ts (do
   x ← b.operation (suc (strength o)) (tail_of ts)

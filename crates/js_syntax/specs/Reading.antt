@@ -88,7 +88,14 @@ go_after go ends ts = Ok ([], tail_of ts)
 go_after go neither ts = Err (stuck (length ts))
 
 -- the elements from here on, where the token that ends them comes next or doesn't
-abbrev pub elements_by : {S A : Type 0} → (S → Reader A) → (S → A → S) → (S → Reader (List A)) → TokenKind → S → Bool → Reader (List A)
+abbrev pub elements_by : {S A : Type 0}
+    → (S → Reader A)
+    → (S → A → S)
+    → (S → Reader (List A))
+    → TokenKind
+    → S
+    → Bool
+    → Reader (List A)
 elements_by one next go closer s true ts = Ok ([], tail_of ts)
 elements_by one next go closer s false ts = do
   x ← one s ts
@@ -101,7 +108,13 @@ elements one next closer zero s ts = Err (deep (length ts))
 elements one next closer (suc k) s ts = elements_by one next (λ s r. elements one next closer k s r) closer s (is_kind closer (head_of ts)) ts
 
 -- further elements, each behind a comma
-abbrev pub others_by : {S A : Type 0} → (S → Reader A) → (S → A → S) → (S → Reader (List A)) → S → Bool → Reader (List A)
+abbrev pub others_by : {S A : Type 0}
+    → (S → Reader A)
+    → (S → A → S)
+    → (S → Reader (List A))
+    → S
+    → Bool
+    → Reader (List A)
 others_by one next go s false ts = Ok ([], ts)
 others_by one next go s true ts = do
   x ← one s (tail_of ts)

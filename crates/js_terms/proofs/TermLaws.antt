@@ -22,7 +22,8 @@ pub view_standing : (v : Value) (s : Spot) → term_view (Term.Standing v s) ≡
 unfolding term_view terms_view
 view_standing v s = ap term_view (sym (rolls-Standing v s)) ∙ fold-roll-Term semantics.Term semantics.Terms term_layer terms_layer (Term-F.Standing v s)
 
-pub view_part : (f : Box Form) (now later : Terms) → term_view (views.Part f now later) ≡ semantics.part f.value (terms_view now) (terms_view later)
+pub view_part : (f : Box Form) (now later : Terms)
+    → term_view (views.Part f now later) ≡ semantics.part f.value (terms_view now) (terms_view later)
 unfolding term_view terms_view
 view_part f now later = ap term_view (sym (rolls-Part f now later)) ∙ fold-roll-Term semantics.Term semantics.Terms term_layer terms_layer (Term-F.Part f now later)
 
@@ -41,7 +42,8 @@ listed-append [] ys = refl
 listed-append (x ∷ xs) ys = ap (semantics.more x) (listed-append xs ys)
 
 -- parts after parts
-pub listed_view-append : (xs ys : List Term) → listed_view (xs ++ ys) ≡ semantics.joined (listed_view xs) (listed_view ys)
+pub listed_view-append : (xs ys : List Term)
+    → listed_view (xs ++ ys) ≡ semantics.joined (listed_view xs) (listed_view ys)
 listed_view-append xs ys = ap listed (map-append term_view xs ys) ∙ listed-append (map term_view xs) (map term_view ys)
 
 pub ruleset joined_laws = (listed_view-append)

@@ -61,7 +61,8 @@ finalizer None = trees.no_finally
 finalizer (Some ss) = trees.finally ss
 
 -- what each type stands for: a block its statements, a catch a handler, every other its clean tree
-abbrev pub Layer : (Type 0 → Type 0 → Type 0 → Type 0 → Type 0 → Type 0 → Type 0 → Type 0 → Type 0 → Type 0 → Type 0 → Type 0) → Type 0
+abbrev pub Layer : (Type 0 → Type 0 → Type 0 → Type 0 → Type 0 → Type 0 → Type 0 → Type 0 → Type 0 → Type 0 → Type 0 → Type 0)
+    → Type 0
 Layer F = F Expression Property Key Statement Statements Handler trees.Declarator trees.Declarators Expressions Properties Statements
 
 -- one level of an expression, with the clean trees of its parts

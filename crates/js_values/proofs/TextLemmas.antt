@@ -17,7 +17,9 @@ none_before (v ∷ vs) = grind arith
 one_more : (m n : ℕ) → nat_lt (suc m) (suc n) ≡ nat_lt m n
 one_more m n = grind arith
 
-pub before-ends : (us vs : List ℕ) (i : ℕ) → i ≡ min (length us) (length vs) → units_before (drop i us) (drop i vs) ≡ nat_lt (length us) (length vs)
+pub before-ends : (us vs : List ℕ) (i : ℕ)
+    → i ≡ min (length us) (length vs)
+    → units_before (drop i us) (drop i vs) ≡ nat_lt (length us) (length vs)
 before-ends [] vs zero e = none_before vs
 before-ends [] vs (suc i) e = absurd (omega arith)
 before-ends (u ∷ us) [] zero e = grind arith

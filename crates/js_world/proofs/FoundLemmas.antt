@@ -6,7 +6,9 @@ use Rattle.js_heap.specs.declared.cell.Cell.{Cell}
 use Rattle.js_heap.specs.Scopes.{Found, found_in, found_within}
 use Rattle.js_world.specs.Calls.{Kept, kept_found}
 
-pub found-step : (n m : ℕ) (w : World) (name : List ℕ) (a : Addr) → n ≡ suc m → found_within n w name a ≡ found_in a (read_cell w a) name (found_within m w name)
+pub found-step : (n m : ℕ) (w : World) (name : List ℕ) (a : Addr)
+    → n ≡ suc m
+    → found_within n w name a ≡ found_in a (read_cell w a) name (found_within m w name)
 found-step zero m w name a e = absurd (omega arith)
 found-step (suc n) m w name a e = let f : n ≡ m = omega arith in rw f refl
 
@@ -17,7 +19,12 @@ found-none (suc n) w name a e = absurd (omega arith)
 pub ruleset found_rules = (found-step, found-none)
 
 -- a scope that leads outward
-pub outward-step : (n i : ℕ) (w : World) (name : List ℕ) (at a : Addr) (cell : Option Cell) (first : Option Kept) → i < n → cell ≡ read_cell w at → ((further : Addr → Option Found) → kept_found (found_in at cell name further) ≡ kept_found (further a)) → kept_found (found_within (n - i) w name at) ≡ first → kept_found (found_within (n - (i + 1)) w name a) ≡ first
+pub outward-step : (n i : ℕ) (w : World) (name : List ℕ) (at a : Addr) (cell : Option Cell) (first : Option Kept)
+    → i < n
+    → cell ≡ read_cell w at
+    → ((further : Addr → Option Found) → kept_found (found_in at cell name further) ≡ kept_found (further a))
+    → kept_found (found_within (n - i) w name at) ≡ first
+    → kept_found (found_within (n - (i + 1)) w name a) ≡ first
 outward-step n i w name at a cell first h e k f =
     let m : ℕ = n - (i + 1) in
     let s : found_within (n - i) w name at ≡ found_in at (read_cell w at) name (found_within m w name) = found-step (n - i) m w name at (omega arith) in

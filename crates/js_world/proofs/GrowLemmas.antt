@@ -9,7 +9,9 @@ use Rattle.js_world.proofs.WeightLemmas.{true_lt}
 
 -- ---- texts that stay
 
-or_first : (ts us : List (List ℕ)) (n : ℕ) (d e : List ℕ) → n < length ts → unwrap_or (slice_get (ts ++ us) n) d ≡ unwrap_or (slice_get ts n) e
+or_first : (ts us : List (List ℕ)) (n : ℕ) (d e : List ℕ)
+    → n < length ts
+    → unwrap_or (slice_get (ts ++ us) n) d ≡ unwrap_or (slice_get ts n) e
 or_first [] us n d e h = absurd (omega arith)
 or_first (t ∷ ts) us zero d e h = refl
 or_first (t ∷ ts) us (suc n) d e h = or_first ts us n d e (omega arith)
@@ -20,24 +22,38 @@ name-stays ts us n h = or_first ts us n (spare (ts ++ us) n) (spare ts n) h
 
 -- ---- texts that are added
 
-place_first_if : (t : Bool) (ts us : List (List ℕ)) (s : List ℕ) → (text_place ts s < length ts → text_place (ts ++ us) s ≡ text_place ts s) → (if t then 0 else 1 + text_place ts s) < suc (length ts) → (if t then 0 else 1 + text_place (ts ++ us) s) ≡ (if t then 0 else 1 + text_place ts s)
+place_first_if : (t : Bool) (ts us : List (List ℕ)) (s : List ℕ)
+    → (text_place ts s < length ts → text_place (ts ++ us) s ≡ text_place ts s)
+    → (if t then 0 else 1 + text_place ts s) < suc (length ts)
+    → (if t then 0 else 1 + text_place (ts ++ us) s) ≡ (if t then 0 else 1 + text_place ts s)
 place_first_if true ts us s k h = refl
 place_first_if false ts us s k h = ap (λ n. 1 + n) (k (omega arith))
 
-pub place-first : (ts us : List (List ℕ)) (s : List ℕ) → text_place ts s < length ts → text_place (ts ++ us) s ≡ text_place ts s
+pub place-first : (ts us : List (List ℕ)) (s : List ℕ)
+    → text_place ts s < length ts
+    → text_place (ts ++ us) s ≡ text_place ts s
 place-first [] us s h = absurd (omega arith)
 place-first (t ∷ ts) us s h = place_first_if (same_units t s) ts us s (place-first ts us s) h
 
-place_other_if : (t : Bool) (ts us : List (List ℕ)) (s : List ℕ) → (length ts ≤ text_place ts s → text_place (ts ++ us) s ≡ length ts + text_place us s) → suc (length ts) ≤ (if t then 0 else 1 + text_place ts s) → (if t then 0 else 1 + text_place (ts ++ us) s) ≡ suc (length ts) + text_place us s
+place_other_if : (t : Bool) (ts us : List (List ℕ)) (s : List ℕ)
+    → (length ts ≤ text_place ts s → text_place (ts ++ us) s ≡ length ts + text_place us s)
+    → suc (length ts) ≤ (if t then 0 else 1 + text_place ts s)
+    → (if t then 0 else 1 + text_place (ts ++ us) s) ≡ suc (length ts) + text_place us s
 place_other_if true ts us s k h = absurd (omega arith)
 place_other_if false ts us s k h = omega (arith, k (omega arith))
 
-pub place-other : (ts us : List (List ℕ)) (s : List ℕ) → length ts ≤ text_place ts s → text_place (ts ++ us) s ≡ length ts + text_place us s
+pub place-other : (ts us : List (List ℕ)) (s : List ℕ)
+    → length ts ≤ text_place ts s
+    → text_place (ts ++ us) s ≡ length ts + text_place us s
 place-other [] us s h = omega arith
 place-other (t ∷ ts) us s h = place_other_if (same_units t s) ts us s (place-other ts us s) h
 
 -- a text at its place
-place_get_if : (b : Bool) (t s : List ℕ) (ts : List (List ℕ)) → same_units t s ≡ b → (text_place ts s < length ts → slice_get ts (text_place ts s) ≡ Some s) → (if b then 0 else 1 + text_place ts s) < suc (length ts) → slice_get (t ∷ ts) (if b then 0 else 1 + text_place ts s) ≡ Some s
+place_get_if : (b : Bool) (t s : List ℕ) (ts : List (List ℕ))
+    → same_units t s ≡ b
+    → (text_place ts s < length ts → slice_get ts (text_place ts s) ≡ Some s)
+    → (if b then 0 else 1 + text_place ts s) < suc (length ts)
+    → slice_get (t ∷ ts) (if b then 0 else 1 + text_place ts s) ≡ Some s
 place_get_if true t s ts e k h = ap (λ u. Some u) (same-only t s e)
 place_get_if false t s ts e k h = rw (one_plus (text_place ts s)) (k (omega arith))
 
@@ -50,7 +66,12 @@ unfolding name_of
 text_some ts n s e = rw e refl
 
 -- only a text that is nowhere is at no place
-nowhere_if : (b : Bool) (t s : List ℕ) (ts : List (List ℕ)) (i : ℕ) → same_units t s ≡ b → suc (length ts) ≤ (if b then 0 else 1 + text_place ts s) → (length ts ≤ text_place ts s → (j : ℕ) → slice_get ts j ≡ Some s → ⊥) → slice_get (t ∷ ts) i ≡ Some s → ⊥
+nowhere_if : (b : Bool) (t s : List ℕ) (ts : List (List ℕ)) (i : ℕ)
+    → same_units t s ≡ b
+    → suc (length ts) ≤ (if b then 0 else 1 + text_place ts s)
+    → (length ts ≤ text_place ts s → (j : ℕ) → slice_get ts j ≡ Some s → ⊥)
+    → slice_get (t ∷ ts) i ≡ Some s
+    → ⊥
 nowhere_if true t s ts i e h k g = absurd (omega arith)
 nowhere_if false t s ts zero e h k g = let f : t ≡ s = cc in let r : same_units t s ≡ true = rw f (same-refl s) in cc
 nowhere_if false t s ts (suc i) e h k g = k (omega arith) i g
@@ -59,20 +80,25 @@ nowhere : (ts : List (List ℕ)) (s : List ℕ) → length ts ≤ text_place ts 
 nowhere [] s h i g = cc
 nowhere (t ∷ ts) s h i g = nowhere_if (same_units t s) t s ts i refl h (nowhere ts s) g
 
-last_or : (ts : List (List ℕ)) (s t : List ℕ) (i : ℕ) → slice_get (ts ++ s ∷ []) i ≡ Some t → (slice_get ts i ≡ Some t) ⊎ ((i ≡ length ts) × (s ≡ t))
+last_or : (ts : List (List ℕ)) (s t : List ℕ) (i : ℕ)
+    → slice_get (ts ++ s ∷ []) i ≡ Some t
+    → (slice_get ts i ≡ Some t) ⊎ ((i ≡ length ts) × (s ≡ t))
 last_or [] s t zero e = inr (refl, cc)
 last_or [] s t (suc i) e = absurd cc
 last_or (u ∷ ts) s t zero e = inl e
 last_or (u ∷ ts) s t (suc i) e = last_more (last_or ts s t i e)
   where
-    last_more : (slice_get ts i ≡ Some t) ⊎ ((i ≡ length ts) × (s ≡ t)) → (slice_get ts i ≡ Some t) ⊎ ((suc i ≡ suc (length ts)) × (s ≡ t))
+    last_more : (slice_get ts i ≡ Some t) ⊎ ((i ≡ length ts) × (s ≡ t))
+        → (slice_get ts i ≡ Some t) ⊎ ((suc i ≡ suc (length ts)) × (s ≡ t))
     last_more (inl f) = inl f
     last_more (inr p) = inr (ap suc p.0, p.1)
 
 differ_more : (ts : List (List ℕ)) (s : List ℕ) → Differ ts → length ts ≤ text_place ts s → Differ (ts ++ s ∷ [])
 differ_more ts s d h i j t e f = both_ends (last_or ts s t i e) (last_or ts s t j f)
   where
-    both_ends : (slice_get ts i ≡ Some t) ⊎ ((i ≡ length ts) × (s ≡ t)) → (slice_get ts j ≡ Some t) ⊎ ((j ≡ length ts) × (s ≡ t)) → i ≡ j
+    both_ends : (slice_get ts i ≡ Some t) ⊎ ((i ≡ length ts) × (s ≡ t))
+        → (slice_get ts j ≡ Some t) ⊎ ((j ≡ length ts) × (s ≡ t))
+        → i ≡ j
     both_ends (inl g) (inl k) = d i j t g k
     both_ends (inl g) (inr p) = absurd (nowhere ts s h i (g ∙ ap (λ u. Some u) (sym p.1)))
     both_ends (inr p) (inl k) = absurd (nowhere ts s h j (k ∙ ap (λ u. Some u) (sym p.1)))
@@ -93,7 +119,9 @@ none_if true m l e f = absurd cc
 none_if false m l e f = grind arith
 
 -- a number that a text has
-pub number-text : (ts : List (List ℕ)) (t : List ℕ) (n : ℕ) → number_of ts t ≡ Some n → (name_of ts n ≡ t) × (n < length ts)
+pub number-text : (ts : List (List ℕ)) (t : List ℕ) (n : ℕ)
+    → number_of ts t ≡ Some n
+    → (name_of ts n ≡ t) × (n < length ts)
 number-text ts t n e =
     let p = some_if (nat_lt (text_place ts t) (length ts)) (text_place ts t) n (length ts) refl e in
     let P : ℕ → Type 0 = λ i. (name_of ts i ≡ t) × (i < length ts) in
@@ -123,7 +151,12 @@ numbered_in m l h = rw (lt_true m l h) refl
 numbered_out : (m l : ℕ) → l ≤ m → numbered m l ≡ None
 numbered_out m l h = rw (lt_false m l h) refl
 
-numbered_same : (b : Bool) (m n l k : ℕ) → nat_lt m l ≡ b → (m < l → n ≡ m) → (l ≤ m → k ≤ n) → l ≤ k → numbered n k ≡ numbered m l
+numbered_same : (b : Bool) (m n l k : ℕ)
+    → nat_lt m l ≡ b
+    → (m < l → n ≡ m)
+    → (l ≤ m → k ≤ n)
+    → l ≤ k
+    → numbered n k ≡ numbered m l
 numbered_same true m n l k e f g h =
     let i : m < l = true_lt m l e in
     let j : n ≡ m = f i in
@@ -136,7 +169,9 @@ length_one : (ts : List (List ℕ)) (t : List ℕ) → length (ts ++ t ∷ []) �
 length_one ts t = length-append ts (t ∷ [])
 
 -- the numbers of other texts stay
-pub number-other : (ts : List (List ℕ)) (t u : List ℕ) → same_units t u ≡ false → number_of (ts ++ t ∷ []) u ≡ number_of ts u
+pub number-other : (ts : List (List ℕ)) (t u : List ℕ)
+    → same_units t u ≡ false
+    → number_of (ts ++ t ∷ []) u ≡ number_of ts u
 number-other ts t u e =
     let f : text_place (t ∷ []) u ≡ 1 = rw e refl in
     numbered_same (nat_lt (text_place ts u) (length ts)) (text_place ts u) (text_place (ts ++ t ∷ []) u) (length ts) (length (ts ++ t ∷ [])) refl
@@ -145,7 +180,9 @@ number-other ts t u e =
     (omega (arith, length_one ts t))
 
 -- the number of the text that was added
-pub number-last : (ts : List (List ℕ)) (t : List ℕ) → number_of ts t ≡ None → number_of (ts ++ t ∷ []) t ≡ Some (length ts)
+pub number-last : (ts : List (List ℕ)) (t : List ℕ)
+    → number_of ts t ≡ None
+    → number_of (ts ++ t ∷ []) t ≡ Some (length ts)
 number-last ts t e =
     let f : text_place (t ∷ []) t ≡ 0 = rw (same-refl t) refl in
     let g : text_place (ts ++ t ∷ []) t ≡ length ts = omega (arith, place-other ts (t ∷ []) t (number-none ts t e), f) in
@@ -161,7 +198,10 @@ get_more (u ∷ ts) us (suc i) t e = get_more ts us i t e
 pub differ-less : (ts : List (List ℕ)) (t : List ℕ) → Differ (ts ++ t ∷ []) → Differ ts
 differ-less ts t d i j s e f = d i j s (get_more ts (t ∷ []) i s e) (get_more ts (t ∷ []) j s f)
 
-gone_if : (b : Bool) (ts : List (List ℕ)) (t : List ℕ) → nat_lt (text_place ts t) (length ts) ≡ b → ((i : ℕ) → slice_get ts i ≡ Some t → ⊥) → (if b then Some (text_place ts t) else None) ≡ None
+gone_if : (b : Bool) (ts : List (List ℕ)) (t : List ℕ)
+    → nat_lt (text_place ts t) (length ts) ≡ b
+    → ((i : ℕ) → slice_get ts i ≡ Some t → ⊥)
+    → (if b then Some (text_place ts t) else None) ≡ None
 gone_if false ts t e f = refl
 gone_if true ts t e f = absurd (f (text_place ts t) (place_get ts t (true_lt (text_place ts t) (length ts) e)))
 
@@ -177,14 +217,19 @@ slice_below (u ∷ ts) (suc i) t e = omega (arith, slice_below ts i t e)
 pub number-gone : (ts : List (List ℕ)) (t : List ℕ) → Differ (ts ++ t ∷ []) → number_of ts t ≡ None
 number-gone ts t d = number_gone ts t (λ i e. omega (arith, slice_below ts i t e, d i (length ts) t (get_more ts (t ∷ []) i t e) (get_last ts t)))
 
-get_taken : (n : ℕ) (ts : List (List ℕ)) (i : ℕ) (t : List ℕ) → slice_get (take n ts) i ≡ Some t → (slice_get ts i ≡ Some t) × (i < n)
+get_taken : (n : ℕ) (ts : List (List ℕ)) (i : ℕ) (t : List ℕ)
+    → slice_get (take n ts) i ≡ Some t
+    → (slice_get ts i ≡ Some t) × (i < n)
 get_taken zero ts i t e = absurd cc
 get_taken (suc n) [] i t e = absurd cc
 get_taken (suc n) (u ∷ ts) zero t e = (e, omega arith)
 get_taken (suc n) (u ∷ ts) (suc i) t e = let p = get_taken n ts i t e in (p.0, omega (arith, p.1))
 
 -- the text at a place is none of those before it
-pub number-next : (ts : List (List ℕ)) (n : ℕ) (t : List ℕ) → Differ ts → slice_get ts n ≡ Some t → number_of (take n ts) t ≡ None
+pub number-next : (ts : List (List ℕ)) (n : ℕ) (t : List ℕ)
+    → Differ ts
+    → slice_get ts n ≡ Some t
+    → number_of (take n ts) t ≡ None
 number-next ts n t d e = number_gone (take n ts) t (λ i f. let p = get_taken n ts i t f in omega (arith, p.1, d i n t p.0 e))
 
 get_here : (ts : List (List ℕ)) (n : ℕ) (t : List ℕ) → n < length ts → t ≡ get_or ts n t → slice_get ts n ≡ Some t
@@ -193,7 +238,14 @@ get_here (u ∷ ts) zero t h e = ap (λ x. Some x) (sym e)
 get_here (u ∷ ts) (suc n) t h e = get_here ts n t (omega arith) e
 
 -- where they are copied
-pub next-free : (ts us names : List (List ℕ)) (n : ℕ) (t s : List ℕ) → Differ ts → us ≡ ts → names ≡ take n us → n < length us → t ≡ get_or us n t → s ≡ t → number_of names s ≡ None
+pub next-free : (ts us names : List (List ℕ)) (n : ℕ) (t s : List ℕ)
+    → Differ ts
+    → us ≡ ts
+    → names ≡ take n us
+    → n < length us
+    → t ≡ get_or us n t
+    → s ≡ t
+    → number_of names s ≡ None
 next-free ts us names n t s d e f l g h =
     let P : List (List ℕ) → Type 0 = λ xs. slice_get xs n ≡ Some t in
     rw (f, e, h) (number-next ts n t d (subst P e (get_here us n t l g)))

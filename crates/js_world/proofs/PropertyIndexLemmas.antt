@@ -47,7 +47,10 @@ index-text key i h =
     cc
 
 -- keys that are indices are the same where the indices are
-pub same-index : (a b : List ℕ) (i x : ℕ) → index_of_key a ≡ Some i → index_of_key b ≡ Some x → same_units a b ≡ nat_eq i x
+pub same-index : (a b : List ℕ) (i x : ℕ)
+    → index_of_key a ≡ Some i
+    → index_of_key b ≡ Some x
+    → same_units a b ≡ nat_eq i x
 same-index a b i x ha hb = elim (cases_eq i x) as (λ _. same_units a b ≡ nat_eq i x) [
   | inl e ↦
       let f : a ≡ b = index-text a i ha ∙ ap decimal e ∙ sym (index-text b x hb) in
@@ -84,7 +87,10 @@ above_place (i ∷ is) x = if nat_lt x i then 0 else 1 + above_place is x
 choose : (a b : Bool) (m n : ℕ) → a ≡ b → m ≡ n → (if a then 0 else 1 + m) ≡ (if b then 0 else 1 + n)
 choose a b m n e f = cc
 
-pub indices-place : (is : List ℕ) (ps : List Property) (key : List ℕ) (x : ℕ) → AreIndicesOf is ps → index_of_key key ≡ Some x → key_place ps key ≡ index_place is x
+pub indices-place : (is : List ℕ) (ps : List Property) (key : List ℕ) (x : ℕ)
+    → AreIndicesOf is ps
+    → index_of_key key ≡ Some x
+    → key_place ps key ≡ index_place is x
 indices-place [] [] key x h k = refl
 indices-place [] (p ∷ ps) key x h k = absurd h
 indices-place (i ∷ is) [] key x h k = absurd h
@@ -99,7 +105,10 @@ then_none true m e = refl
 then_none false m e = cc
 
 -- a key that is no index is no element's
-pub indices-other : (is : List ℕ) (ps : List Property) (key : List ℕ) → AreIndicesOf is ps → index_of_key key ≡ None → key_place ps key ≡ length ps
+pub indices-other : (is : List ℕ) (ps : List Property) (key : List ℕ)
+    → AreIndicesOf is ps
+    → index_of_key key ≡ None
+    → key_place ps key ≡ length ps
 indices-other [] [] key h k = refl
 indices-other [] (p ∷ ps) key h k = absurd h
 indices-other (i ∷ is) [] key h k = absurd h
@@ -108,7 +117,9 @@ indices-other (i ∷ is) (p ∷ ps) key h k = else_more (same_units p.key key) _
 before_if : (x i : ℕ) (o : Option ℕ) → o ≡ Some i → stands_before (Some x) o ≡ nat_lt x i
 before_if x i o e = ap (stands_before (Some x)) e
 
-pub indices-above : (is : List ℕ) (ps : List Property) (x : ℕ) → AreIndicesOf is ps → new_place ps (Some x) ≡ above_place is x
+pub indices-above : (is : List ℕ) (ps : List Property) (x : ℕ)
+    → AreIndicesOf is ps
+    → new_place ps (Some x) ≡ above_place is x
 indices-above [] [] x h = refl
 indices-above [] (p ∷ ps) x h = absurd h
 indices-above (i ∷ is) [] x h = absurd h
@@ -138,7 +149,13 @@ get_some (i ∷ is) zero l e = (omega arith, cc)
 get_some (i ∷ is) (suc k) l e = let r = get_some is k l e in (omega arith, r.1)
 
 -- an index above the last is above all
-pub search-past : (is : List ℕ) (l x : ℕ) → Ascend is → Some l ≡ slice_get is (length is - 1) → l < x → (k : ℕ) → k < length is → get_or is k 0 < x
+pub search-past : (is : List ℕ) (l x : ℕ)
+    → Ascend is
+    → Some l ≡ slice_get is (length is - 1)
+    → l < x
+    → (k : ℕ)
+    → k < length is
+    → get_or is k 0 < x
 search-past is l x h e m k n =
     let r = get_some is (length is - 1) l e in
     let s = ascend-le is k (length is - 1) h (omega arith) r.0 in
@@ -155,7 +172,11 @@ place-absent : (is : List ℕ) (x : ℕ) → ((k : ℕ) → k < length is → ge
 place-absent [] x h = refl
 place-absent (j ∷ is) x h = else_more (nat_eq j x) _ _ (ne_eqb j x (h 0 (omega arith))) (place-absent is x (λ k l. h (suc k) (omega arith)))
 
-place-above : (is : List ℕ) (x i : ℕ) → i ≤ length is → ((k : ℕ) → k < i → get_or is k 0 < x) → ((k : ℕ) → i ≤ k → k < length is → x < get_or is k 0) → above_place is x ≡ i
+place-above : (is : List ℕ) (x i : ℕ)
+    → i ≤ length is
+    → ((k : ℕ) → k < i → get_or is k 0 < x)
+    → ((k : ℕ) → i ≤ k → k < length is → x < get_or is k 0)
+    → above_place is x ≡ i
 place-above [] x i l b a = omega arith
 place-above (j ∷ is) x zero l b a = then_none (nat_lt x j) _ (lt-ltb x j (a 0 (omega arith) (omega arith)))
 place-above (j ∷ is) x (suc i) l b a =
@@ -164,24 +185,48 @@ place-above (j ∷ is) x (suc i) l b a =
 
 -- ---- what a search says of the properties
 
-pub search-found : (is : List ℕ) (ps : List Property) (key : List ℕ) (x i : ℕ) (r : Result ℕ ℕ) → AreIndicesOf is ps → Ascend is → index_of_key key ≡ Some x → IsSearched is x r → r ≡ Ok i → key_place ps key ≡ i
+pub search-found : (is : List ℕ) (ps : List Property) (key : List ℕ) (x i : ℕ) (r : Result ℕ ℕ)
+    → AreIndicesOf is ps
+    → Ascend is
+    → index_of_key key ≡ Some x
+    → IsSearched is x r
+    → r ≡ Ok i
+    → key_place ps key ≡ i
 search-found is ps key x i r h a k s e =
     let t = subst (IsSearched is x) e s in
     indices-place is ps key x h k ∙ place-found is x i a t.0 t.1
 
-pub search-absent : (is : List ℕ) (ps : List Property) (key : List ℕ) (x i : ℕ) (r : Result ℕ ℕ) → AreIndicesOf is ps → index_of_key key ≡ Some x → IsSearched is x r → r ≡ Err i → key_place ps key ≡ length ps
+pub search-absent : (is : List ℕ) (ps : List Property) (key : List ℕ) (x i : ℕ) (r : Result ℕ ℕ)
+    → AreIndicesOf is ps
+    → index_of_key key ≡ Some x
+    → IsSearched is x r
+    → r ≡ Err i
+    → key_place ps key ≡ length ps
 search-absent is ps key x i r h k s e =
     let t = subst (IsSearched is x) e s in
     indices-place is ps key x h k ∙ place-absent is x (λ j l f. elsewhere j l f t) ∙ zip-length _ is ps h
   where
-    elsewhere : (j : ℕ) → j < length is → get_or is j 0 ≡ x → (i ≤ length is) × ((k : ℕ) → k < i → slice_index is k < x) × ((k : ℕ) → i ≤ k → k < length is → x < slice_index is k) → ⊥
+    elsewhere : (j : ℕ)
+        → j < length is
+        → get_or is j 0 ≡ x
+        → (i ≤ length is)
+        × ((k : ℕ) → k < i → slice_index is k < x)
+        × ((k : ℕ) → i ≤ k → k < length is → x < slice_index is k)
+        → ⊥
     elsewhere j l f t = elim (cases_lt j i) as (λ _. ⊥) [
       | inl low ↦ let u = t.1 j low in absurd (omega arith)
       | inr high ↦ let u = t.2 j high l in absurd (omega arith)
     ]
 
 -- the index of a key that no property has isn't found
-pub search-fresh : (is : List ℕ) (ps : List Property) (key : List ℕ) (x i : ℕ) (r : Result ℕ ℕ) → AreIndicesOf is ps → Ascend is → index_of_key key ≡ Some x → has_key ps key ≡ false → IsSearched is x r → r ≡ Ok i → ⊥
+pub search-fresh : (is : List ℕ) (ps : List Property) (key : List ℕ) (x i : ℕ) (r : Result ℕ ℕ)
+    → AreIndicesOf is ps
+    → Ascend is
+    → index_of_key key ≡ Some x
+    → has_key ps key ≡ false
+    → IsSearched is x r
+    → r ≡ Ok i
+    → ⊥
 search-fresh is ps key x i r h a k f s e =
     let t = subst (IsSearched is x) e s in
     let at = search-found is ps key x i r h a k s e in
@@ -190,7 +235,11 @@ search-fresh is ps key x i r h a k f s e =
     let there : has_key ps key ≡ true = has-place ps key ∙ lt-ltb (key_place ps key) (length ps) low in
     cc
 
-pub search-place : (is : List ℕ) (ps : List Property) (x i : ℕ) (r : Result ℕ ℕ) → AreIndicesOf is ps → IsSearched is x r → r ≡ Err i → new_place ps (Some x) ≡ i
+pub search-place : (is : List ℕ) (ps : List Property) (x i : ℕ) (r : Result ℕ ℕ)
+    → AreIndicesOf is ps
+    → IsSearched is x r
+    → r ≡ Err i
+    → new_place ps (Some x) ≡ i
 search-place is ps x i r h s e =
     let t = subst (IsSearched is x) e s in
     indices-above is ps x h ∙ place-above is x i t.0 t.1 t.2
@@ -202,12 +251,21 @@ above-insert y is zero x h l = (l, h)
 above-insert y [] (suc i) x h l = (l, tt)
 above-insert y (j ∷ is) (suc i) x h l = (h.0, above-insert y is i x h.1 l)
 
-ascend-insert : (is : List ℕ) (i x : ℕ) → Ascend is → i ≤ length is → ((k : ℕ) → k < i → get_or is k 0 < x) → ((k : ℕ) → i ≤ k → k < length is → x < get_or is k 0) → Ascend (insert is i x)
+ascend-insert : (is : List ℕ) (i x : ℕ)
+    → Ascend is
+    → i ≤ length is
+    → ((k : ℕ) → k < i → get_or is k 0 < x)
+    → ((k : ℕ) → i ≤ k → k < length is → x < get_or is k 0)
+    → Ascend (insert is i x)
 ascend-insert is zero x h l b a = (above-all x is (λ k m. a k (omega arith) m), h)
 ascend-insert [] (suc i) x h l b a = absurd (omega arith)
 ascend-insert (j ∷ is) (suc i) x h l b a = (above-insert j is i x h.0 (b 0 (omega arith)), ascend-insert is i x h.1 (omega arith) (λ k m. b (suc k) (omega arith)) (λ k m n. a (suc k) (omega arith) (omega arith)))
 
-pub search-ascend : (is : List ℕ) (x i : ℕ) (r : Result ℕ ℕ) → Ascend is → IsSearched is x r → r ≡ Err i → Ascend (insert is i x)
+pub search-ascend : (is : List ℕ) (x i : ℕ) (r : Result ℕ ℕ)
+    → Ascend is
+    → IsSearched is x r
+    → r ≡ Err i
+    → Ascend (insert is i x)
 search-ascend is x i r h s e =
     let t = subst (IsSearched is x) e s in
     ascend-insert is i x h t.0 t.1 t.2
@@ -224,7 +282,11 @@ ascend-remove [] (suc i) h = tt
 ascend-remove (j ∷ is) zero h = h.1
 ascend-remove (j ∷ is) (suc i) h = (above-remove j is i h.0, ascend-remove is i h.1)
 
-pub search-within : (is : List ℕ) (ps : List Property) (x i : ℕ) (r : Result ℕ ℕ) → AreIndicesOf is ps → IsSearched is x r → r ≡ Err i → i ≤ length ps
+pub search-within : (is : List ℕ) (ps : List Property) (x i : ℕ) (r : Result ℕ ℕ)
+    → AreIndicesOf is ps
+    → IsSearched is x r
+    → r ≡ Err i
+    → i ≤ length ps
 search-within is ps x i r h s e =
     let t = subst (IsSearched is x) e s in
     let n = zip-length _ is ps h in

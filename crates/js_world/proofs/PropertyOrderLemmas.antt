@@ -26,13 +26,21 @@ before_all (Some i) (Some j) (Some m) h k =
     let g = ltb-false m j k in
     le-ltb m i (omega arith)
 
-follow_before : (p q : Property) (ps : List Property) → stands_before (index_of_key p.key) (index_of_key q.key) ≡ true → has_key ps p.key ≡ false → AllFollow q ps → AllFollow p ps
+follow_before : (p q : Property) (ps : List Property)
+    → stands_before (index_of_key p.key) (index_of_key q.key) ≡ true
+    → has_key ps p.key ≡ false
+    → AllFollow q ps
+    → AllFollow p ps
 follow_before p q [] b n h = tt
 follow_before p q (r ∷ ps) b n h =
     let t = or_parts (same_units r.key p.key) (has_key ps p.key) n in
     ((same-sym p.key r.key ∙ t.0, before_all (index_of_key p.key) (index_of_key q.key) (index_of_key r.key) b h.0.1), follow_before p q ps b t.1 h.1)
 
-follow_if : (b : Bool) (q p r : Property) (ps qs : List Property) → MayFollow q p → AllFollow q (r ∷ ps) → AllFollow q qs → AllFollow q (if b then p ∷ r ∷ ps else r ∷ qs)
+follow_if : (b : Bool) (q p r : Property) (ps qs : List Property)
+    → MayFollow q p
+    → AllFollow q (r ∷ ps)
+    → AllFollow q qs
+    → AllFollow q (if b then p ∷ r ∷ ps else r ∷ qs)
 follow_if true q p r ps qs m h k = (m, h)
 follow_if false q p r ps qs m h k = (h.0, k)
 
@@ -40,11 +48,17 @@ follow_placed : (q p : Property) (ps : List Property) → MayFollow q p → AllF
 follow_placed q p [] m h = (m, tt)
 follow_placed q p (r ∷ ps) m h = follow_if (stands_before (index_of_key p.key) (index_of_key r.key)) q p r ps (placed ps p) m h (follow_placed q p ps m h.1)
 
-placed_if : (b : Bool) (p q : Property) (ps qs : List Property) → (b ≡ true → AreInOrder (p ∷ q ∷ ps)) → (b ≡ false → AreInOrder (q ∷ qs)) → AreInOrder (if b then p ∷ q ∷ ps else q ∷ qs)
+placed_if : (b : Bool) (p q : Property) (ps qs : List Property)
+    → (b ≡ true → AreInOrder (p ∷ q ∷ ps))
+    → (b ≡ false → AreInOrder (q ∷ qs))
+    → AreInOrder (if b then p ∷ q ∷ ps else q ∷ qs)
 placed_if true p q ps qs f g = f refl
 placed_if false p q ps qs f g = g refl
 
-pub order-placed : (ps : List Property) (p : Property) → AreInOrder ps → has_key ps p.key ≡ false → AreInOrder (placed ps p)
+pub order-placed : (ps : List Property) (p : Property)
+    → AreInOrder ps
+    → has_key ps p.key ≡ false
+    → AreInOrder (placed ps p)
 order-placed [] p h n = (tt, tt)
 order-placed (q ∷ ps) p h n =
     let t = or_parts (same_units q.key p.key) (has_key ps p.key) n in
@@ -54,7 +68,9 @@ order-placed (q ∷ ps) p h n =
 
 -- ---- another value, one property less
 
-follow_value : (q : Property) (ps : List Property) (i : ℕ) (v : Value) → AllFollow q ps → AllFollow q (with_value_at ps i v)
+follow_value : (q : Property) (ps : List Property) (i : ℕ) (v : Value)
+    → AllFollow q ps
+    → AllFollow q (with_value_at ps i v)
 follow_value q [] i v h = tt
 follow_value q (p ∷ ps) zero v h = h
 follow_value q (p ∷ ps) (suc i) v h = (h.0, follow_value q ps i v h.1)
@@ -64,7 +80,9 @@ order-value [] i v h = tt
 order-value (p ∷ []) zero v h = h
 order-value (p ∷ q ∷ ps) zero v h = ((h.0.0, follow_record p ps v h.0.1), h.1)
   where
-    follow_record : (p : Property) (ps : List Property) (v : Value) → AllFollow p ps → AllFollow (record p { value = v }) ps
+    follow_record : (p : Property) (ps : List Property) (v : Value)
+        → AllFollow p ps
+        → AllFollow (record p { value = v }) ps
     follow_record p [] v h = tt
     follow_record p (q ∷ ps) v h = (h.0, follow_record p ps v h.1)
 order-value (p ∷ ps) (suc i) v h = (follow_value p ps i v h.0, order-value ps i v h.1)
@@ -98,7 +116,10 @@ order-drop ps zero h = h
 order-drop [] (suc n) h = tt
 order-drop (p ∷ ps) (suc n) h = order-drop ps n h.1
 
-follow_at : (q d : Property) (ps : List Property) (n : ℕ) → AllFollow q ps → n < length ps → same_units q.key (get_or ps n d).key ≡ false
+follow_at : (q d : Property) (ps : List Property) (n : ℕ)
+    → AllFollow q ps
+    → n < length ps
+    → same_units q.key (get_or ps n d).key ≡ false
 follow_at q d [] n h l = absurd (omega arith)
 follow_at q d (p ∷ ps) zero h l = h.0.0
 follow_at q d (p ∷ ps) (suc n) h l = follow_at q d ps n h.1 (omega arith)
@@ -107,14 +128,21 @@ or_false : (a b : Bool) → a ≡ false → b ≡ false → (a || b) ≡ false
 or_false a b e f = cc
 
 -- no property has the key of one behind it
-pub order-fresh : (ps : List Property) (n : ℕ) (d : Property) → AreInOrder ps → n < length ps → has_key (take n ps) (get_or ps n d).key ≡ false
+pub order-fresh : (ps : List Property) (n : ℕ) (d : Property)
+    → AreInOrder ps
+    → n < length ps
+    → has_key (take n ps) (get_or ps n d).key ≡ false
 order-fresh ps zero d h l = refl
 order-fresh [] (suc n) d h l = absurd (omega arith)
 order-fresh (p ∷ ps) (suc n) d h l = or_false _ _ (follow_at p d ps n h.0 (omega arith)) (order-fresh ps n d h.1 (omega arith))
 
 -- ---- indices in front, names behind
 
-above_from : (p : Property) (i : ℕ) (is : List ℕ) (ps : List Property) → index_of_key p.key ≡ Some i → AreIndicesOf is ps → AllFollow p ps → AreAbove i is
+above_from : (p : Property) (i : ℕ) (is : List ℕ) (ps : List Property)
+    → index_of_key p.key ≡ Some i
+    → AreIndicesOf is ps
+    → AllFollow p ps
+    → AreAbove i is
 above_from p i [] [] e h f = tt
 above_from p i [] (q ∷ ps) e h f = absurd h
 above_from p i (j ∷ is) [] e h f = absurd h
@@ -139,7 +167,12 @@ names_from : (p : Property) (ps : List Property) → index_of_key p.key ≡ None
 names_from p [] e f = tt
 names_from p (q ∷ ps) e f = (behind_name (index_of_key q.key) (index_of_key p.key) e f.0.1, names_from p ps e f.1)
 
-pub order-names : (ps : List Property) (n : ℕ) (p : Property) → AreInOrder ps → n < length ps → p ≡ get_or ps n p → index_of_key p.key ≡ None → AreNames (drop n ps)
+pub order-names : (ps : List Property) (n : ℕ) (p : Property)
+    → AreInOrder ps
+    → n < length ps
+    → p ≡ get_or ps n p
+    → index_of_key p.key ≡ None
+    → AreNames (drop n ps)
 order-names [] n p h l e k = absurd (omega arith)
 order-names (q ∷ ps) zero p h l e k =
     let f : q ≡ p = sym e in
@@ -147,7 +180,12 @@ order-names (q ∷ ps) zero p h l e k =
     (j, names_from q ps j h.0)
 order-names (q ∷ ps) (suc n) p h l e k = order-names ps n p h.1 (omega arith) e k
 
-pub order-leading : (is : List ℕ) (ps : List Property) (n : ℕ) → AreInOrder ps → n ≤ length ps → AreIndicesOf is (take n ps) → AreNames (drop n ps) → AreLeading is ps
+pub order-leading : (is : List ℕ) (ps : List Property) (n : ℕ)
+    → AreInOrder ps
+    → n ≤ length ps
+    → AreIndicesOf is (take n ps)
+    → AreNames (drop n ps)
+    → AreLeading is ps
 order-leading is ps n o l h a =
     let e : length is ≡ n = zip-length _ is (take n ps) h ∙ length-take-le n ps l in
     record {
@@ -158,7 +196,11 @@ order-leading is ps n o l h a =
     }
 
 -- where all are indices, there is no name
-pub order-end : (is : List ℕ) (ps : List Property) (n : ℕ) → AreInOrder ps → n ≡ length ps → AreIndicesOf is (take n ps) → AreLeading is ps
+pub order-end : (is : List ℕ) (ps : List Property) (n : ℕ)
+    → AreInOrder ps
+    → n ≡ length ps
+    → AreIndicesOf is (take n ps)
+    → AreLeading is ps
 order-end is ps n o e h = order-leading is ps n o (omega arith) h (rw e (none ps))
   where
     none : (qs : List Property) → AreNames (drop (length qs) qs)

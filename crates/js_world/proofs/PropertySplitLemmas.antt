@@ -10,28 +10,42 @@ use Rattle.js_world.proofs.PropertyKeyLemmas.{or_parts, if_false}
 
 -- ---- places
 
-front_if : (b : Bool) (m n k : ℕ) → (if b then 0 else 1 + m) < suc n → (m < n → k ≡ m) → (if b then 0 else 1 + k) ≡ (if b then 0 else 1 + m)
+front_if : (b : Bool) (m n k : ℕ)
+    → (if b then 0 else 1 + m) < suc n
+    → (m < n → k ≡ m)
+    → (if b then 0 else 1 + k) ≡ (if b then 0 else 1 + m)
 front_if true m n k h e = refl
 front_if false m n k h e = ap (λ j. 1 + j) (e (omega arith))
 
-pub place-front : (es ns : List Property) (key : List ℕ) → key_place es key < length es → key_place (es ++ ns) key ≡ key_place es key
+pub place-front : (es ns : List Property) (key : List ℕ)
+    → key_place es key < length es
+    → key_place (es ++ ns) key ≡ key_place es key
 place-front [] ns key h = absurd (omega arith)
 place-front (e ∷ es) ns key h = front_if (same_units e.key key) _ _ _ h (place-front es ns key)
 
-behind_if : (b : Bool) (m n k j : ℕ) → suc n ≤ (if b then 0 else 1 + m) → (n ≤ m → k ≡ n + j) → (if b then 0 else 1 + k) ≡ suc n + j
+behind_if : (b : Bool) (m n k j : ℕ)
+    → suc n ≤ (if b then 0 else 1 + m)
+    → (n ≤ m → k ≡ n + j)
+    → (if b then 0 else 1 + k) ≡ suc n + j
 behind_if true m n k j h e = absurd (omega arith)
 behind_if false m n k j h e = let f : k ≡ n + j = e (omega arith) in omega arith
 
-pub place-behind : (es ns : List Property) (key : List ℕ) → length es ≤ key_place es key → key_place (es ++ ns) key ≡ length es + key_place ns key
+pub place-behind : (es ns : List Property) (key : List ℕ)
+    → length es ≤ key_place es key
+    → key_place (es ++ ns) key ≡ length es + key_place ns key
 place-behind [] ns key h = omega arith
 place-behind (e ∷ es) ns key h = behind_if (same_units e.key key) _ _ _ _ h (place-behind es ns key)
 
-pub value-front : (es ns : List Property) (i : ℕ) (v : Value) → i < length es → with_value_at (es ++ ns) i v ≡ with_value_at es i v ++ ns
+pub value-front : (es ns : List Property) (i : ℕ) (v : Value)
+    → i < length es
+    → with_value_at (es ++ ns) i v ≡ with_value_at es i v ++ ns
 value-front [] ns i v h = absurd (omega arith)
 value-front (e ∷ es) ns zero v h = refl
 value-front (e ∷ es) ns (suc i) v h = ap {B = List Property} (λ qs. e ∷ qs) (value-front es ns i v (omega arith))
 
-pub value-behind : (es ns : List Property) (i j : ℕ) (v : Value) → i ≡ length es + j → with_value_at (es ++ ns) i v ≡ es ++ with_value_at ns j v
+pub value-behind : (es ns : List Property) (i j : ℕ) (v : Value)
+    → i ≡ length es + j
+    → with_value_at (es ++ ns) i v ≡ es ++ with_value_at ns j v
 value-behind [] ns i j v h = let e : i ≡ j = omega arith in ap (λ k. with_value_at ns k v) e
 value-behind (e ∷ es) ns zero j v h = absurd (omega arith)
 value-behind (e ∷ es) ns (suc i) j v h = ap {B = List Property} (λ qs. e ∷ qs) (value-behind es ns i j v (omega arith))
@@ -58,16 +72,24 @@ if_true : (b : Bool) (xs ys : List Property) → b ≡ true → (if b then xs el
 if_true true xs ys e = refl
 if_true false xs ys e = cc
 
-placed_first : (ns : List Property) (p : Property) (i : ℕ) → AreNames ns → index_of_key p.key ≡ Some i → placed ns p ≡ p ∷ ns
+placed_first : (ns : List Property) (p : Property) (i : ℕ)
+    → AreNames ns
+    → index_of_key p.key ≡ Some i
+    → placed ns p ≡ p ∷ ns
 placed_first [] p i h e = refl
 placed_first (n ∷ ns) p i h e = if_true (stands_before (index_of_key p.key) (index_of_key n.key)) _ _ (before_name i _ _ e h.0)
 
-placed_if : (b : Bool) (p e : Property) (es ns qs rs : List Property) → qs ≡ rs ++ ns → (if b then p ∷ e ∷ (es ++ ns) else e ∷ qs) ≡ (if b then p ∷ e ∷ es else e ∷ rs) ++ ns
+placed_if : (b : Bool) (p e : Property) (es ns qs rs : List Property)
+    → qs ≡ rs ++ ns
+    → (if b then p ∷ e ∷ (es ++ ns) else e ∷ qs) ≡ (if b then p ∷ e ∷ es else e ∷ rs) ++ ns
 placed_if true p e es ns qs rs h = refl
 placed_if false p e es ns qs rs h = ap {B = List Property} (λ zs. e ∷ zs) h
 
 -- an index stands among the elements
-pub placed-index : (es ns : List Property) (p : Property) (i : ℕ) → AreNames ns → index_of_key p.key ≡ Some i → placed (es ++ ns) p ≡ placed es p ++ ns
+pub placed-index : (es ns : List Property) (p : Property) (i : ℕ)
+    → AreNames ns
+    → index_of_key p.key ≡ Some i
+    → placed (es ++ ns) p ≡ placed es p ++ ns
 placed-index [] ns p i h e = placed_first ns p i h e
 placed-index (q ∷ es) ns p i h e = placed_if (stands_before (index_of_key p.key) (index_of_key q.key)) p q es ns _ _ (placed-index es ns p i h e)
 
@@ -81,7 +103,9 @@ placed-name (q ∷ ps) p e =
     if_false (stands_before (index_of_key p.key) (index_of_key q.key)) _ _ (no_name_before _ _ e)
     ∙ ap {B = List Property} (λ zs. q ∷ zs) (placed-name ps p e)
 
-pub placed-behind : (es ns : List Property) (p : Property) → index_of_key p.key ≡ None → placed (es ++ ns) p ≡ es ++ (ns ++ p ∷ [])
+pub placed-behind : (es ns : List Property) (p : Property)
+    → index_of_key p.key ≡ None
+    → placed (es ++ ns) p ≡ es ++ (ns ++ p ∷ [])
 placed-behind es ns p e = placed-name (es ++ ns) p e ∙ append_assoc es ns (p ∷ [])
 
 -- ---- names
@@ -101,7 +125,12 @@ names-remove [] (suc i) h = tt
 names-remove (n ∷ ns) zero h = h.1
 names-remove (n ∷ ns) (suc i) h = (h.0, names-remove ns i h.1)
 
-pub names-pushed : {T E : Type 0} (r : Result T E) (ns all : List Property) (p : Property) → AreNames ns → index_of_key p.key ≡ None → OnOk r (all ≡ ns ++ p ∷ []) → OnErr r (all ≡ ns) → AreNames all
+pub names-pushed : {T E : Type 0} (r : Result T E) (ns all : List Property) (p : Property)
+    → AreNames ns
+    → index_of_key p.key ≡ None
+    → OnOk r (all ≡ ns ++ p ∷ [])
+    → OnErr r (all ≡ ns)
+    → AreNames all
 names-pushed (Ok x) ns all p h e o f = rw o (names-push ns p h e)
 names-pushed (Err x) ns all p h e o f = rw f h
 

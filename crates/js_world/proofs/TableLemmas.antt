@@ -39,7 +39,12 @@ get_total (u ∷ ts) (suc i) t e = omega (arith, get_total ts i t e)
 spare_long : (ts : List (List ℕ)) (n : ℕ) → length (spare ts n) ≡ suc (total ts + n)
 spare_long ts n = length-replicate (suc (total ts + n)) 0
 
-one_number : (ts : List (List ℕ)) (m n : ℕ) (o p : Option (List ℕ)) → slice_get ts m ≡ o → slice_get ts n ≡ p → Differ ts → unwrap_or o (spare ts m) ≡ unwrap_or p (spare ts n) → m ≡ n
+one_number : (ts : List (List ℕ)) (m n : ℕ) (o p : Option (List ℕ))
+    → slice_get ts m ≡ o
+    → slice_get ts n ≡ p
+    → Differ ts
+    → unwrap_or o (spare ts m) ≡ unwrap_or p (spare ts n)
+    → m ≡ n
 one_number ts m n (Some t) (Some u) e f d h = d m n t e (let h' : t ≡ u = h in f ∙ ap (λ s. Some s) (sym h'))
 one_number ts m n (Some t) None e f d h = let l : length t ≡ length (spare ts n) = ap length h in absurd (omega (arith, l, get_total ts m t e, spare_long ts n))
 one_number ts m n None (Some u) e f d h = let l : length (spare ts m) ≡ length u = ap length h in absurd (omega (arith, l, get_total ts n u f, spare_long ts m))

@@ -15,7 +15,10 @@ use Rattle.js_world.proofs.TableLemmas.{and_both}
 
 -- ---- scopes
 
-pub slots-append : (n : ℕ) (ss : List Slot) (s : Slot) → SlotsWithin n ss → s.name.number < n → SlotsWithin n (ss ++ s ∷ [])
+pub slots-append : (n : ℕ) (ss : List Slot) (s : Slot)
+    → SlotsWithin n ss
+    → s.name.number < n
+    → SlotsWithin n (ss ++ s ∷ [])
 slots-append n [] s h k = (k, tt)
 slots-append n (r ∷ ss) s h k = (h.0, slots-append n ss s h.1 k)
 
@@ -26,7 +29,12 @@ slots-value n (s ∷ ss) (suc i) v h = (h.0, slots-value n ss i v h.1)
 
 -- ---- lists of cells
 
-pub within-set : (n : ℕ) (cs : List Stored) (i : ℕ) (old new : Stored) → i < length cs → get_or cs i old ≡ old → (Within n old → Within n new) → AllWithin n cs → AllWithin n (slice_set cs i new)
+pub within-set : (n : ℕ) (cs : List Stored) (i : ℕ) (old new : Stored)
+    → i < length cs
+    → get_or cs i old ≡ old
+    → (Within n old → Within n new)
+    → AllWithin n cs
+    → AllWithin n (slice_set cs i new)
 within-set n [] i old new h e f k = tt
 within-set n (c ∷ cs) zero old new h e f k = let P : Stored → Type 0 = λ x. Within n x in (f (subst P e k.0), k.1)
 within-set n (c ∷ cs) (suc i) old new h e f k = (k.0, within-set n cs i old new (omega arith) e f k.1)
@@ -43,7 +51,9 @@ cell_value n (stored.Array vs) i v h = tt
 cell_value n (stored.Text us) i v h = tt
 cell_value n (stored.Function f) i v h = h
 
-pub cells-value : (n : ℕ) (cs : List Stored) (i place : ℕ) (v : Value) → AllWithin n cs → AllWithin n (value_in_cells cs i place v)
+pub cells-value : (n : ℕ) (cs : List Stored) (i place : ℕ) (v : Value)
+    → AllWithin n cs
+    → AllWithin n (value_in_cells cs i place v)
 cells-value n [] i place v h = tt
 cells-value n (c ∷ cs) zero place v h = (cell_value n c place v h.0, h.1)
 cells-value n (c ∷ cs) (suc i) place v h = (h.0, cells-value n cs i place v h.1)

@@ -41,19 +41,30 @@ stronger_stronger Return Return Return = refl
 stronger_stronger Return Return Call = refl
 stronger_stronger Return Call c = refl
 
-merged_mark : (before : Option SpotKind) (kind : SpotKind) (after : Option SpotKind) → merged (with_mark before kind) after ≡ merged before (strongest kind after)
+merged_mark : (before : Option SpotKind) (kind : SpotKind) (after : Option SpotKind)
+    → merged (with_mark before kind) after ≡ merged before (strongest kind after)
 merged_mark None kind after = refl
 merged_mark (Some before) kind None = refl
 merged_mark (Some before) kind (Some after) = ap Some (stronger_stronger before kind after)
 
-pub none_yet : (kinds : List (Option SpotKind)) → ((x : ℕ) → kind_of kinds x ≡ None) → (spans : List Span) (ms : Marks) (x : ℕ) → merged (kind_of kinds x) (kind_at spans ms x) ≡ kind_at spans ms x
+pub none_yet : (kinds : List (Option SpotKind))
+    → ((x : ℕ) → kind_of kinds x ≡ None)
+    → (spans : List Span) (ms : Marks) (x : ℕ)
+    → merged (kind_of kinds x) (kind_at spans ms x) ≡ kind_at spans ms x
 none_yet kinds h spans ms x = ap (λ k. merged k (kind_at spans ms x)) (h x)
 
 -- the place of a mark
-kind_here : (spans : List Span) (m : Marked) (ms : Marks) (x : ℕ) (b : Bool) → nat_eq (offset_of spans m.mark) x ≡ b → kind_at spans (m ∷ ms) x ≡ (if b then strongest m.kind (kind_at spans ms x) else kind_at spans ms x)
+kind_here : (spans : List Span) (m : Marked) (ms : Marks) (x : ℕ) (b : Bool)
+    → nat_eq (offset_of spans m.mark) x ≡ b
+    → kind_at spans (m ∷ ms) x ≡ (if b then strongest m.kind (kind_at spans ms x) else kind_at spans ms x)
 kind_here spans m ms x b e = ap (λ t. if t then strongest m.kind (kind_at spans ms x) else kind_at spans ms x) e
 
-put_here : (spans : List Span) (m : Marked) (ms : Marks) (kinds : List (Option SpotKind)) (off x : ℕ) (k : Option SpotKind) → off ≡ offset_of spans m.mark → k ≡ with_mark (kind_of kinds off) m.kind → x < length kinds → (b : Bool) → nat_eq off x ≡ b
+put_here : (spans : List Span) (m : Marked) (ms : Marks) (kinds : List (Option SpotKind)) (off x : ℕ) (k : Option SpotKind)
+    → off ≡ offset_of spans m.mark
+    → k ≡ with_mark (kind_of kinds off) m.kind
+    → x < length kinds
+    → (b : Bool)
+    → nat_eq off x ≡ b
     → merged (kind_of (set kinds off k) x) (kind_at spans ms x) ≡ merged (kind_of kinds x) (kind_at spans (m ∷ ms) x)
 put_here spans m ms kinds off x k is with l true e =
     let same : off ≡ x = eqb-true off x e in
@@ -66,8 +77,16 @@ put_here spans m ms kinds off x k is with l false e =
     ap (λ q. merged q (kind_at spans ms x)) (get_or-set_other kinds off x k None (λ q. eqb-false off x e (sym q)))
     ∙ ap (merged (kind_of kinds x)) (sym (kind_here spans m ms x false there))
 
-pub put_more : (spans : List Span) (ms : Marks) (i : ℕ) (d : Marked) (kinds : List (Option SpotKind)) (off : ℕ) (here k : Option SpotKind) (whole : Option SpotKind) → i < length ms → off ≡ offset_of spans (get_or ms i d).mark → off < length kinds → here ≡ get_or kinds off here → k ≡ with_mark here (get_or ms i d).kind
-    → (x : ℕ) → x < length (set kinds off k) → merged (kind_of kinds x) (kind_at spans (drop i ms) x) ≡ whole → merged (kind_of (set kinds off k) x) (kind_at spans (drop (i + 1) ms) x) ≡ whole
+pub put_more : (spans : List Span) (ms : Marks) (i : ℕ) (d : Marked) (kinds : List (Option SpotKind)) (off : ℕ) (here k : Option SpotKind) (whole : Option SpotKind)
+    → i < length ms
+    → off ≡ offset_of spans (get_or ms i d).mark
+    → off < length kinds
+    → here ≡ get_or kinds off here
+    → k ≡ with_mark here (get_or ms i d).kind
+    → (x : ℕ)
+    → x < length (set kinds off k)
+    → merged (kind_of kinds x) (kind_at spans (drop i ms) x) ≡ whole
+    → merged (kind_of (set kinds off k) x) (kind_at spans (drop (i + 1) ms) x) ≡ whole
 put_more spans ms i d kinds off here k whole h there in_it was with x l before =
     let e : here ≡ kind_of kinds off = was ∙ get_or_default kinds off here None in_it in
     let rest : drop i ms ≡ get_or ms i d ∷ drop (i + 1) ms = rw add-one (drop-cons ms i d h) in
@@ -76,7 +95,10 @@ put_more spans ms i d kinds off here k whole h there in_it was with x l before =
     ∙ ap (λ (ys : Marks). merged (kind_of kinds x) (kind_at spans ys x)) (sym rest)
     ∙ before
 
-pub put_all : (spans : List Span) (ms : Marks) (i : ℕ) (kind whole : Option SpotKind) (x : ℕ) → length ms ≤ i → merged kind (kind_at spans (drop i ms) x) ≡ whole → kind ≡ whole
+pub put_all : (spans : List Span) (ms : Marks) (i : ℕ) (kind whole : Option SpotKind) (x : ℕ)
+    → length ms ≤ i
+    → merged kind (kind_at spans (drop i ms) x) ≡ whole
+    → kind ≡ whole
 put_all spans ms i kind whole x h e = sym (merged_none kind) ∙ ap (λ (ys : Marks). merged kind (kind_at spans ys x)) (sym (drop_all i ms h)) ∙ e
   where
     merged_none : (k : Option SpotKind) → merged k None ≡ k

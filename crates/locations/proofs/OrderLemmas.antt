@@ -24,16 +24,25 @@ all_one : {A : Type 0} (P : A → Type 0) (x : A) → P x → All P (x ∷ [])
 all_one {A} P x h zero d l = h
 all_one {A} P x h (suc k) d l = absurd (omega arith)
 
-here_before : (u : List ℕ) (i j : ℕ) → i < j → (o : Option SpotKind) → All (λ s. IsBefore s.pos (position u j)) (here u i o)
+here_before : (u : List ℕ) (i j : ℕ)
+    → i < j
+    → (o : Option SpotKind)
+    → All (λ s. IsBefore s.pos (position u j)) (here u i o)
 here_before u i j h None = All-nil (λ (s : Spot). IsBefore s.pos (position u j))
 here_before u i j h (Some kind) = all_one (λ (s : Spot). IsBefore s.pos (position u j)) (record { pos = position u i; kind = kind }) (position_before u i j h)
 
-below_before : (u : List ℕ) (kinds : ℕ → Option SpotKind) (n m : ℕ) → n ≤ m → All (λ s. IsBefore s.pos (position u m)) (locations_below u kinds n)
+below_before : (u : List ℕ) (kinds : ℕ → Option SpotKind) (n m : ℕ)
+    → n ≤ m
+    → All (λ s. IsBefore s.pos (position u m)) (locations_below u kinds n)
 below_before u kinds zero m h = All-nil (λ (s : Spot). IsBefore s.pos (position u m))
 below_before u kinds (suc n) m h =
     All-append (λ (s : Spot). IsBefore s.pos (position u m)) (locations_below u kinds n) (here u n (kinds n)) (below_before u kinds n m (omega arith)) (here_before u n m (omega arith) (kinds n))
 
-ascending_more : (u : List ℕ) (n : ℕ) (spots : List Spot) → IsAscending spots → All (λ s. IsBefore s.pos (position u n)) spots → (o : Option SpotKind) → IsAscending (spots ++ here u n o)
+ascending_more : (u : List ℕ) (n : ℕ) (spots : List Spot)
+    → IsAscending spots
+    → All (λ s. IsBefore s.pos (position u n)) spots
+    → (o : Option SpotKind)
+    → IsAscending (spots ++ here u n o)
 ascending_more u n spots h b None = subst IsAscending (sym (append-nil spots)) h
 ascending_more u n spots h b (Some kind) = all_pairs_push (λ (s t : Spot). IsBefore s.pos t.pos) spots (record { pos = position u n; kind = kind }) h b
 
@@ -43,13 +52,22 @@ ascending_below u kinds (suc n) = ascending_more u n (locations_below u kinds n)
 
 -- ---- what stands at each offset
 
-below_same : (u : List ℕ) (f g : ℕ → Option SpotKind) (n : ℕ) → ((x : ℕ) → x < n → f x ≡ g x) → locations_below u f n ≡ locations_below u g n
+below_same : (u : List ℕ) (f g : ℕ → Option SpotKind) (n : ℕ)
+    → ((x : ℕ) → x < n → f x ≡ g x)
+    → locations_below u f n ≡ locations_below u g n
 below_same u f g zero h = refl
 below_same u f g (suc n) h =
     ap (λ spots. spots ++ here u n (f n)) (below_same u f g n (λ x. λ l. h x (omega arith)))
     ∙ ap (λ o. locations_below u g n ++ here u n o) (h n (omega arith))
 
-pub located : (s : Script) (u : List ℕ) (ms : Marks) (kinds seen : List (Option SpotKind)) → u ≡ s.source → ms ≡ script_marks s → seen ≡ kinds → AreKinds s ms kinds → (spots : List Spot) → spots ≡ locations_below u (kind_of seen) (length seen) → spots ≡ break_locations s
+pub located : (s : Script) (u : List ℕ) (ms : Marks) (kinds seen : List (Option SpotKind))
+    → u ≡ s.source
+    → ms ≡ script_marks s
+    → seen ≡ kinds
+    → AreKinds s ms kinds
+    → (spots : List Spot)
+    → spots ≡ locations_below u (kind_of seen) (length seen)
+    → spots ≡ break_locations s
 located s u ms kinds seen text is same h spots e =
     e
     ∙ ap (λ (ks : List (Option SpotKind)). locations_below u (kind_of ks) (length ks)) same

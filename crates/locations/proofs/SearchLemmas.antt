@@ -61,7 +61,9 @@ none_splits p s ss h = h.1 0 s (omega arith) (omega arith)
 others_split : (p : Spot → Bool) (s : Spot) (ss : List Spot) → Splits p (s ∷ ss) 0 → Splits p ss 0
 others_split p s ss h = (λ k d a b. absurd (omega arith), λ k d a b. h.1 (suc k) d (omega arith) (omega arith))
 
-pub first_at : (pos : Pos) (spots : List Spot) (n : ℕ) → Splits (λ s. is_before s.pos pos) spots n → slice_get spots n ≡ first_from pos spots
+pub first_at : (pos : Pos) (spots : List Spot) (n : ℕ)
+    → Splits (λ s. is_before s.pos pos) spots n
+    → slice_get spots n ≡ first_from pos spots
 first_at pos [] n h = refl
 first_at pos (s ∷ ss) zero h = ap (λ b. if b then first_from pos ss else Some s) (sym (none_splits (λ (x : Spot). is_before x.pos pos) s ss h))
 first_at pos (s ∷ ss) (suc n) h =
@@ -70,7 +72,11 @@ first_at pos (s ∷ ss) (suc n) h =
 
 -- ---- none, where each is before
 
-none_more : (pos : Pos) (s : Spot) (ss : List Spot) (b : Bool) → is_before s.pos pos ≡ b → IsNone (if b then first_from pos ss else Some s) → (IsNone (first_from pos ss) → All (λ x. IsBefore x.pos pos) ss) → All (λ x. IsBefore x.pos pos) (s ∷ ss)
+none_more : (pos : Pos) (s : Spot) (ss : List Spot) (b : Bool)
+    → is_before s.pos pos ≡ b
+    → IsNone (if b then first_from pos ss else Some s)
+    → (IsNone (first_from pos ss) → All (λ x. IsBefore x.pos pos) ss)
+    → All (λ x. IsBefore x.pos pos) (s ∷ ss)
 none_more pos s ss true e h f zero d l = before_true s.pos pos e
 none_more pos s ss true e h f (suc k) d l = f h k d (omega arith)
 none_more pos s ss false e h f k d l = absurd (false≢true (sym h))
@@ -86,18 +92,24 @@ before_each pos (s ∷ ss) h =
     let rest : IsNone (first_from pos ss) = before_each pos ss (λ k d l. h (suc k) d (omega arith)) in
     ap (λ b. is_some (if b then first_from pos ss else Some s)) e ∙ rest
 
-pub none_first : (pos : Pos) (spots : List Spot) (o : Option Spot) → o ≡ first_from pos spots → IsNone o ↔ All (λ s. IsBefore s.pos pos) spots
+pub none_first : (pos : Pos) (spots : List Spot) (o : Option Spot)
+    → o ≡ first_from pos spots
+    → IsNone o ↔ All (λ s. IsBefore s.pos pos) spots
 none_first pos spots o e = (λ h. each_before pos spots (ap is_some (sym e) ∙ h), λ h. ap is_some e ∙ before_each pos spots h)
 
 -- ---- those between two positions
 
-between_all : (start : Pos) (end : Option Pos) (spots : List Spot) → Splits (λ s. is_before s.pos start) spots 0 → filter (is_between start end) spots ≡ filter (λ s. is_before_end end s.pos) spots
+between_all : (start : Pos) (end : Option Pos) (spots : List Spot)
+    → Splits (λ s. is_before s.pos start) spots 0
+    → filter (is_between start end) spots ≡ filter (λ s. is_before_end end s.pos) spots
 between_all start end [] h = refl
 between_all start end (s ∷ ss) h =
     ap (λ b. cond (not b && is_before_end end s.pos) (s ∷ filter (is_between start end) ss) (filter (is_between start end) ss)) (none_splits (λ (x : Spot). is_before x.pos start) s ss h)
     ∙ ap (λ rest. cond (is_before_end end s.pos) (s ∷ rest) rest) (between_all start end ss (others_split (λ (x : Spot). is_before x.pos start) s ss h))
 
-pub between_from : (start : Pos) (end : Option Pos) (spots : List Spot) (n : ℕ) → Splits (λ s. is_before s.pos start) spots n → filter (is_between start end) spots ≡ filter (λ s. is_before_end end s.pos) (drop n spots)
+pub between_from : (start : Pos) (end : Option Pos) (spots : List Spot) (n : ℕ)
+    → Splits (λ s. is_before s.pos start) spots n
+    → filter (is_between start end) spots ≡ filter (λ s. is_before_end end s.pos) (drop n spots)
 between_from start end spots zero h = between_all start end spots h
 between_from start end [] (suc n) h = refl
 between_from start end (s ∷ ss) (suc n) h =
@@ -108,13 +120,17 @@ pub to_the_end : (spots : List Spot) → filter (λ s. is_before_end None s.pos)
 to_the_end [] = refl
 to_the_end (s ∷ ss) = ap (λ rest. s ∷ rest) (to_the_end ss)
 
-none_before : (end : Pos) (spots : List Spot) → Splits (λ s. is_before s.pos end) spots 0 → filter (λ s. is_before_end (Some end) s.pos) spots ≡ []
+none_before : (end : Pos) (spots : List Spot)
+    → Splits (λ s. is_before s.pos end) spots 0
+    → filter (λ s. is_before_end (Some end) s.pos) spots ≡ []
 none_before end [] h = refl
 none_before end (s ∷ ss) h =
     ap (λ b. cond b (s ∷ filter (λ (x : Spot). is_before_end (Some end) x.pos) ss) (filter (λ (x : Spot). is_before_end (Some end) x.pos) ss)) (none_splits (λ (x : Spot). is_before x.pos end) s ss h)
     ∙ none_before end ss (others_split (λ (x : Spot). is_before x.pos end) s ss h)
 
-pub up_to : (end : Pos) (spots : List Spot) (n : ℕ) → Splits (λ s. is_before s.pos end) spots n → filter (λ s. is_before_end (Some end) s.pos) spots ≡ take n spots
+pub up_to : (end : Pos) (spots : List Spot) (n : ℕ)
+    → Splits (λ s. is_before s.pos end) spots n
+    → filter (λ s. is_before_end (Some end) s.pos) spots ≡ take n spots
 up_to end spots zero h = none_before end spots h
 up_to end [] (suc n) h = refl
 up_to end (s ∷ ss) (suc n) h =
@@ -125,10 +141,19 @@ up_to end (s ∷ ss) (suc n) h =
 pub slice_from : (spots : List Spot) (n : ℕ) → take (length spots - n) (drop n spots) ≡ drop n spots
 slice_from spots n = take_all (length spots - n) (drop n spots) (omega (arith, length-drop n spots))
 
-pub between_none : (start : Pos) (end : Option Pos) (spots rest : List Spot) (n : ℕ) → end ≡ None → rest ≡ drop n spots → Splits (λ s. is_before s.pos start) spots n → rest ≡ filter (is_between start end) spots
+pub between_none : (start : Pos) (end : Option Pos) (spots rest : List Spot) (n : ℕ)
+    → end ≡ None
+    → rest ≡ drop n spots
+    → Splits (λ s. is_before s.pos start) spots n
+    → rest ≡ filter (is_between start end) spots
 between_none start end spots rest n is same h =
     same ∙ sym (ap (λ o. filter (is_between start o) spots) is ∙ between_from start None spots n h ∙ to_the_end (drop n spots))
 
-pub between_some : (start e : Pos) (end : Option Pos) (spots rest : List Spot) (n m : ℕ) → end ≡ Some e → rest ≡ drop n spots → Splits (λ s. is_before s.pos start) spots n → Splits (λ s. is_before s.pos e) rest m → take m rest ≡ filter (is_between start end) spots
+pub between_some : (start e : Pos) (end : Option Pos) (spots rest : List Spot) (n m : ℕ)
+    → end ≡ Some e
+    → rest ≡ drop n spots
+    → Splits (λ s. is_before s.pos start) spots n
+    → Splits (λ s. is_before s.pos e) rest m
+    → take m rest ≡ filter (is_between start end) spots
 between_some start e end spots rest n m is same h k =
     sym (ap (λ o. filter (is_between start o) spots) is ∙ between_from start (Some e) spots n h ∙ ap (filter (λ (s : Spot). is_before_end (Some e) s.pos)) (sym same) ∙ up_to e rest m k)

@@ -91,7 +91,8 @@ abbrev pub beginning : SpotKind → ℕ → Marks
 beginning kind node = at kind (start node)
 
 -- what is known of each type of tree
-abbrev pub Layer : (Type 0 → Type 0 → Type 0 → Type 0 → Type 0 → Type 0 → Type 0 → Type 0 → Type 0 → Type 0 → Type 0 → Type 0) → Type 0
+abbrev pub Layer : (Type 0 → Type 0 → Type 0 → Type 0 → Type 0 → Type 0 → Type 0 → Type 0 → Type 0 → Type 0 → Type 0 → Type 0)
+    → Type 0
 Layer F = F Marking Marks Marks Marks Marks Marks Marks Marks Marks Marks Marks
 
 -- ---- one level of each type, with what is known of its parts

@@ -17,12 +17,20 @@ use Rattle.object_groups.specs.Groups.{numbers_of, set_of}
 pub same-name : (g q : List ℕ) → (g ≡ q) × (bytes_eq g q ≡ true) ⊎ (bytes_eq g q ≡ false)
 same-name g q = ⊎_elim (λ y. inl ((bytes_decides g q).0 y, y)) (λ n. inr n) (cases_Bool (bytes_eq g q))
 
-apart : (g q name : List ℕ) → bytes_eq g q ≡ false → is_eq (slice_cmp nat_cmp g name) ≡ true → is_eq (slice_cmp nat_cmp q name) ≡ false
+apart : (g q name : List ℕ)
+    → bytes_eq g q ≡ false
+    → is_eq (slice_cmp nat_cmp g name) ≡ true
+    → is_eq (slice_cmp nat_cmp q name) ≡ false
 apart g q name n y =
     is_eq-slice_cmp q name ∙ (nat_list_eq_equiv.symm q name ∙ (sym (nat_list_eq_equiv.congr g name q (sym (is_eq-slice_cmp g name) ∙ y)) ∙ n))
 
 module _ {K X : Type 0} (eq : K → K → Bool) (test : K → Bool) where
-  others : (old new : List (K × X)) → KeepsOthers eq test old new → (other : K → Bool) → IsKeyTest eq other → AreApart test other → lookup other new ≡ lookup other old
+  others : (old new : List (K × X))
+      → KeepsOthers eq test old new
+      → (other : K → Bool)
+      → IsKeyTest eq other
+      → AreApart test other
+      → lookup other new ≡ lookup other old
   unfolding KeepsOthers
   others old new h = h
 
@@ -37,14 +45,21 @@ module _ (g : List ℕ) (old new : BTreeMap (Vec ℕ) (BTreeSet ℕ)) (w : Optio
   pub set-elsewhere : Changes → (q : List ℕ) → bytes_eq g q ≡ false → set_of q new ≡ set_of q old
   set-elsewhere u q n = others _ _ old.entries new.entries u.3 _ (λ x y. (eq_by_cmp_equiv nat_list_cmp_total).congr q x.items y.items) (λ name. apart g q name.items n)
 
-  pub numbers-changed : (f : List ℕ → List ℕ) → Changes → numbers_of w ≡ f (numbers_of (set_of g old)) → (q : List ℕ) → numbers_of (set_of q new) ≡ (if bytes_eq g q then f (numbers_of (set_of q old)) else numbers_of (set_of q old))
+  pub numbers-changed : (f : List ℕ → List ℕ)
+      → Changes
+      → numbers_of w ≡ f (numbers_of (set_of g old))
+      → (q : List ℕ)
+      → numbers_of (set_of q new) ≡ (if bytes_eq g q then f (numbers_of (set_of q old)) else numbers_of (set_of q old))
   numbers-changed f u is q =
       ⊎_elim
       (λ y. subst (λ p. numbers_of (set_of p new) ≡ f (numbers_of (set_of p old))) y.0 (ap numbers_of (set-there u) ∙ is) ∙ sym (ap (λ b. if b then f (numbers_of (set_of q old)) else numbers_of (set_of q old)) y.1))
       (λ n. ap numbers_of (set-elsewhere u q n) ∙ sym (ap (λ b. if b then f (numbers_of (set_of q old)) else numbers_of (set_of q old)) n))
       (same-name g q)
 
-  pub numbers-same : Changes → numbers_of w ≡ numbers_of (set_of g old) → (q : List ℕ) → numbers_of (set_of q new) ≡ numbers_of (set_of q old)
+  pub numbers-same : Changes
+      → numbers_of w ≡ numbers_of (set_of g old)
+      → (q : List ℕ)
+      → numbers_of (set_of q new) ≡ numbers_of (set_of q old)
   numbers-same u is q =
       ⊎_elim
       (λ y. subst (λ p. numbers_of (set_of p new) ≡ numbers_of (set_of p old)) y.0 (ap numbers_of (set-there u) ∙ is))
@@ -57,7 +72,14 @@ on-err (Ok x) P p = tt
 on-err (Err e) P p = p
 
 -- a group gets its first number, under a copy of its name
-pub numbers-begun : (g name : List ℕ) (before old new : BTreeMap (Vec ℕ) (BTreeSet ℕ)) (set : BTreeSet ℕ) (n : ℕ) → name ≡ g → old ≡ before → Changes name old new (Some set) → set.keys ≡ insert_key nat_cmp [] n → None ≡ set_of g before → (q : List ℕ) → numbers_of (set_of q new) ≡ (if bytes_eq g q then insert_key nat_cmp (numbers_of (set_of q before)) n else numbers_of (set_of q before))
+pub numbers-begun : (g name : List ℕ) (before old new : BTreeMap (Vec ℕ) (BTreeSet ℕ)) (set : BTreeSet ℕ) (n : ℕ)
+    → name ≡ g
+    → old ≡ before
+    → Changes name old new (Some set)
+    → set.keys ≡ insert_key nat_cmp [] n
+    → None ≡ set_of g before
+    → (q : List ℕ)
+    → numbers_of (set_of q new) ≡ (if bytes_eq g q then insert_key nat_cmp (numbers_of (set_of q before)) n else numbers_of (set_of q before))
 numbers-begun g name before old new set n a b u k none =
     let here : Changes g before new (Some set) = subst (λ l. Changes l before new (Some set)) a (subst (λ m. Changes name m new (Some set)) b u) in
     numbers-changed g before new (Some set) (λ ns. insert_key nat_cmp ns n) here (k ∙ ap (λ o. insert_key nat_cmp (numbers_of o) n) none)

@@ -32,7 +32,10 @@ above-filter n p (h ∷ hs) a =
     let rest = above-filter n p hs a.1 in
     elim (p h) as (λ b. AllAbove n (cond b (h ∷ filter p hs) (filter p hs))) [ true ↦ (a.0, rest) | false ↦ rest ]
 
-pub ascending-push : (hs : List Handle) (h : Handle) → AllBelow h.number hs → IsAscending hs → IsAscending (hs ++ h ∷ [])
+pub ascending-push : (hs : List Handle) (h : Handle)
+    → AllBelow h.number hs
+    → IsAscending hs
+    → IsAscending (hs ++ h ∷ [])
 ascending-push [] h b a = (tt, tt)
 ascending-push (x ∷ hs) h b a = (above-push x.number hs h a.0 b.0, ascending-push hs h b.1 a.1)
 
@@ -57,11 +60,16 @@ unused-above m n (h ∷ hs) a le =
     ap (λ b. b || list_any (has_number n) hs) other ∙ unused-above m n hs a.1 le
 
 -- what isn't there can be taken out
-pub without-unused : (n : ℕ) (hs : List Handle) → list_any (has_number n) hs ≡ false → filter (has_another_number n) hs ≡ hs
+pub without-unused : (n : ℕ) (hs : List Handle)
+    → list_any (has_number n) hs ≡ false
+    → filter (has_another_number n) hs ≡ hs
 without-unused n [] u = refl
 without-unused n (h ∷ hs) u = at (λ v. without-unused n hs v) (has_number n h) u
   where
-    at : (list_any (has_number n) hs ≡ false → filter (has_another_number n) hs ≡ hs) → (b : Bool) → (b || list_any (has_number n) hs) ≡ false → cond (not b) (h ∷ filter (has_another_number n) hs) (filter (has_another_number n) hs) ≡ h ∷ hs
+    at : (list_any (has_number n) hs ≡ false → filter (has_another_number n) hs ≡ hs)
+        → (b : Bool)
+        → (b || list_any (has_number n) hs) ≡ false
+        → cond (not b) (h ∷ filter (has_another_number n) hs) (filter (has_another_number n) hs) ≡ h ∷ hs
     at rest true v = absurd (true≢false v)
     at rest false v = ap (λ xs. h ∷ xs) (rest v)
 
@@ -71,11 +79,16 @@ find-any n (h ∷ hs) =
     elim (has_number n h) as (λ b. is_some (cond b (Some h) (find (has_number n) hs)) ≡ (b || list_any (has_number n) hs)) [ true ↦ refl | false ↦ find-any n hs ]
 
 -- at most one handle has a number
-pub length-without : (n : ℕ) (hs : List Handle) → IsAscending hs → length (filter (has_another_number n) hs) + cond (list_any (has_number n) hs) 1 0 ≡ length hs
+pub length-without : (n : ℕ) (hs : List Handle)
+    → IsAscending hs
+    → length (filter (has_another_number n) hs) + cond (list_any (has_number n) hs) 1 0 ≡ length hs
 length-without n [] a = refl
 length-without n (h ∷ hs) a = at (length-without n hs a.1) (has_number n h) refl
   where
-    at : length (filter (has_another_number n) hs) + cond (list_any (has_number n) hs) 1 0 ≡ length hs → (b : Bool) → has_number n h ≡ b → length (cond (not b) (h ∷ filter (has_another_number n) hs) (filter (has_another_number n) hs)) + cond (b || list_any (has_number n) hs) 1 0 ≡ length (h ∷ hs)
+    at : length (filter (has_another_number n) hs) + cond (list_any (has_number n) hs) 1 0 ≡ length hs
+        → (b : Bool)
+        → has_number n h ≡ b
+        → length (cond (not b) (h ∷ filter (has_another_number n) hs) (filter (has_another_number n) hs)) + cond (b || list_any (has_number n) hs) 1 0 ≡ length (h ∷ hs)
     at less true e =
         let rest = ap length (without-unused n hs (unused-above h.number n hs a.0 (grind (arith, nat_tests)))) in
         omega (arith, rest)

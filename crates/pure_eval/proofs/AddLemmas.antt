@@ -36,25 +36,38 @@ other_extends t es = record {
   calls = begins_same t.calls.items;
 }
 
-last_or : {X : Type 0} (xs : List X) (x y : X) (i : ℕ) → slice_get (xs ++ x ∷ []) i ≡ Some y → (slice_get xs i ≡ Some y) ⊎ (x ≡ y)
+last_or : {X : Type 0} (xs : List X) (x y : X) (i : ℕ)
+    → slice_get (xs ++ x ∷ []) i ≡ Some y
+    → (slice_get xs i ≡ Some y) ⊎ (x ≡ y)
 last_or [] x y zero e = inr cc
 last_or [] x y (suc i) e = absurd cc
 last_or (z ∷ xs) x y zero e = inl e
 last_or (z ∷ xs) x y (suc i) e = last_or xs x y i e
 
 -- what holds of the sources that were there and of one more
-each_source : (P : SourceEntry → Type 0) (es fs : List SourceEntry) (e : SourceEntry) → fs ≡ es ++ e ∷ [] → ((i : ℕ) (d : SourceEntry) → slice_get es i ≡ Some d → P d) → P e → (i : ℕ) (d : SourceEntry) → slice_get fs i ≡ Some d → P d
+each_source : (P : SourceEntry → Type 0) (es fs : List SourceEntry) (e : SourceEntry)
+    → fs ≡ es ++ e ∷ []
+    → ((i : ℕ) (d : SourceEntry) → slice_get es i ≡ Some d → P d)
+    → P e
+    → (i : ℕ) (d : SourceEntry)
+    → slice_get fs i ≡ Some d
+    → P d
 each_source P es fs e s h k i d g = by (last_or es e d i (ap (λ xs. slice_get xs i) (sym s) ∙ g))
   where
     by : (slice_get es i ≡ Some d) ⊎ (e ≡ d) → P d
     by (inl f) = h i d f
     by (inr f) = subst P f k
 
-sources_push : (ts : List (List ℕ)) (u : NodeTable) (es : List SourceEntry) (e : SourceEntry) → source_trees ts u (es ++ e ∷ []) ≡ source_trees ts u es ++ source_tree ts u e ∷ []
+sources_push : (ts : List (List ℕ)) (u : NodeTable) (es : List SourceEntry) (e : SourceEntry)
+    → source_trees ts u (es ++ e ∷ []) ≡ source_trees ts u es ++ source_tree ts u e ∷ []
 sources_push ts u [] e = refl
 sources_push ts u (d ∷ es) e = ap (λ xs. source_tree ts u d ∷ xs) (sources_push ts u es e)
 
-tree_of : (ts us : List (List ℕ)) (t u : NodeTable) (n : ℕ) (x : Term) → HasTree ts t n x → GoesOn ts us → Extends t u → tree us u n ≡ x
+tree_of : (ts us : List (List ℕ)) (t u : NodeTable) (n : ℕ) (x : Term)
+    → HasTree ts t n x
+    → GoesOn ts us
+    → Extends t u
+    → tree us u n ≡ x
 unfolding tree
 tree_of ts us t u n x h g e = h.is us u (suc n) (omega arith) g e
 
@@ -68,7 +81,11 @@ pub record IsReady (t w : NodeTable) (plain entry : SourceEntry) : Type 0 where
   pub indexed : IsIndexed w plain entry
   pub within : IsWithin w entry
 
-pub whole-added : (t w : NodeTable) (es : Vec SourceEntry) (plain entry : SourceEntry) → IsWhole t → IsReady t w plain entry → es.items ≡ t.sources.items ++ entry ∷ [] → IsWhole (with_sources w es)
+pub whole-added : (t w : NodeTable) (es : Vec SourceEntry) (plain entry : SourceEntry)
+    → IsWhole t
+    → IsReady t w plain entry
+    → es.items ≡ t.sources.items ++ entry ∷ []
+    → IsWhole (with_sources w es)
 whole-added t w es plain entry h r s =
     let u : NodeTable = with_sources w es in
     let x : Extends t w = r.keeps.entries in
@@ -89,7 +106,15 @@ whole-added t w es plain entry h r s =
       sources = each_source (IsWithin u) t.sources.items es.items entry s (λ i d k. within-more t u d (extends_twice t w u x y) (h.sources i d k)) (within-more w u entry y r.within);
     }
 
-pub source-added : (names more : List (List ℕ)) (t w : NodeTable) (es : Vec SourceEntry) (at : Addr) (x : Term) (root : ℕ) (plain entry : SourceEntry) → IsWhole t → GoesOn names more → IsReady t w plain entry → HasTree more w root x → plain.source ≡ kept_source at → plain.root ≡ root → es.items ≡ w.sources.items ++ entry ∷ [] → IsAdded names t at x more (with_sources w es) root
+pub source-added : (names more : List (List ℕ)) (t w : NodeTable) (es : Vec SourceEntry) (at : Addr) (x : Term) (root : ℕ) (plain entry : SourceEntry)
+    → IsWhole t
+    → GoesOn names more
+    → IsReady t w plain entry
+    → HasTree more w root x
+    → plain.source ≡ kept_source at
+    → plain.root ≡ root
+    → es.items ≡ w.sources.items ++ entry ∷ []
+    → IsAdded names t at x more (with_sources w es) root
 source-added names more t w es at x root plain entry h g r k c d s =
     let u : NodeTable = with_sources w es in
     let y : Extends w u = other_extends w es in
@@ -112,7 +137,21 @@ source-added names more t w es at x root plain entry h g r k c d s =
 
 -- ---- as the code has it
 
-pub added : (names more : List (List ℕ)) (t w : NodeTable) (es : Vec SourceEntry) (at : Addr) (x : Term) (root from first : ℕ) (o : Option ℕ) (plain entry : SourceEntry) → IsWhole t → Grows names t more w → Holds more w x o → o ≡ Some root → from ≡ length t.nodes.items → AreClosed w from → first ≡ length t.functions.items → ArePlaced w first → plain.source ≡ kept_source at → plain.root ≡ root → IsIndexed w plain entry → IsWithin w entry → es.items ≡ w.sources.items ++ entry ∷ [] → IsAdded names t at x more (with_sources w es) root
+pub added : (names more : List (List ℕ)) (t w : NodeTable) (es : Vec SourceEntry) (at : Addr) (x : Term) (root from first : ℕ) (o : Option ℕ) (plain entry : SourceEntry)
+    → IsWhole t
+    → Grows names t more w
+    → Holds more w x o
+    → o ≡ Some root
+    → from ≡ length t.nodes.items
+    → AreClosed w from
+    → first ≡ length t.functions.items
+    → ArePlaced w first
+    → plain.source ≡ kept_source at
+    → plain.root ≡ root
+    → IsIndexed w plain entry
+    → IsWithin w entry
+    → es.items ≡ w.sources.items ++ entry ∷ []
+    → IsAdded names t at x more (with_sources w es) root
 added names more t w es at x root from first o plain entry h g k e a b c d s r i j l =
     let P : Option ℕ → Type 0 = Holds more w x in
     let Q : ℕ → Type 0 = AreClosed w in

@@ -40,7 +40,11 @@ cut_extends t u v m x k c = record {
 
 -- ---- a table with the same nodes and functions
 
-node_back : (t v : NodeTable) (n : ℕ) (o : Option Node) → Extends t v → length t.kids.items ≤ length v.kids.items → IsNodeAt t n o → IsNodeAt v n o
+node_back : (t v : NodeTable) (n : ℕ) (o : Option Node)
+    → Extends t v
+    → length t.kids.items ≤ length v.kids.items
+    → IsNodeAt t n o
+    → IsNodeAt v n o
 node_back t v n None x l i = tt
 node_back t v n (Some node) x l i = record {
   before = subst (EachBelow n) (sym (kids-stay t v node.first node.end x (omega (arith, i.now, i.later)) i.within)) i.before;
@@ -51,12 +55,18 @@ node_back t v n (Some node) x l i = record {
   turns = i.turns;
 }
 
-placed_back : (t v : NodeTable) (op : Op) (info n : ℕ) → v.functions.items ≡ t.functions.items → IsPlacedAt t op info n → IsPlacedAt v op info n
+placed_back : (t v : NodeTable) (op : Op) (info n : ℕ)
+    → v.functions.items ≡ t.functions.items
+    → IsPlacedAt t op info n
+    → IsPlacedAt v op info n
 placed_back t v ops.Function info n e h = rw e h
 placed_back t v ops.Method info n e h = rw e h
 placed_back t v _ info n e h = tt
 
-node_placed_back : (t v : NodeTable) (n : ℕ) (o : Option Node) → v.functions.items ≡ t.functions.items → IsPlacedNode t n o → IsPlacedNode v n o
+node_placed_back : (t v : NodeTable) (n : ℕ) (o : Option Node)
+    → v.functions.items ≡ t.functions.items
+    → IsPlacedNode t n o
+    → IsPlacedNode v n o
 node_placed_back t v n None e h = tt
 node_placed_back t v n (Some node) e h = placed_back t v node.op node.info n e h
 
@@ -81,7 +91,13 @@ whole_same t v s h =
       sources = λ i e g. within-more t v e x (h.sources i e (at i e g));
     }
 
-pub cut-back : (u v : NodeTable) (m : TableMark) → IsCut m u v → (t : NodeTable) (es : List SourceEntry) → IsWhole t → IsMarkOf t m → GoesOnWith t u es → IsBack t v
+pub cut-back : (u v : NodeTable) (m : TableMark)
+    → IsCut m u v
+    → (t : NodeTable) (es : List SourceEntry)
+    → IsWhole t
+    → IsMarkOf t m
+    → GoesOnWith t u es
+    → IsBack t v
 cut-back u v m c t es h k g =
     let b : Begins t.sources.items u.sources.items = record { rest = es; is = g.sources } in
     let s : IsSame t v = record {

@@ -86,7 +86,10 @@ below_wider n m (script_source number) b h = tt
 below_wider n m (kept_source (Base k)) b h = tt
 below_wider n m (kept_source (Scratch k)) b h = omega (arith, b, h)
 
-below_more : (n m : ℕ) (p : Program) (x : Term) → AreBelow n p → n ≤ m → AreBelow (m + 1) (p ++ kept_tree_at (Scratch m) x ∷ [])
+below_more : (n m : ℕ) (p : Program) (x : Term)
+    → AreBelow n p
+    → n ≤ m
+    → AreBelow (m + 1) (p ++ kept_tree_at (Scratch m) x ∷ [])
 below_more n m [] x b h = let l : m < m + 1 = omega arith in (l, tt)
 below_more n m (t ∷ ts) x b h = (below_wider n (m + 1) t.source b.0 (omega (arith, h)), below_more n m ts x b.1 h)
 
@@ -102,14 +105,21 @@ same-program p q e source node = let P : Program → Type 0 = λ r. HasSameFunct
 same_through : (p q r : Program) → HasSameFunctions p q → HasSameFunctions q r → HasSameFunctions p r
 same_through p q r g h source node = g source node ∙ h source node
 
-pub stands-first : (ts : List (List ℕ)) (t : NodeTable) (xs : Terms) → IsWhole t → ((us : List (List ℕ)) → GoesOn ts us → program_of us t ≡ program_from 1 xs) → HoldsProgram ts t 0 (program_from 1 xs)
+pub stands-first : (ts : List (List ℕ)) (t : NodeTable) (xs : Terms)
+    → IsWhole t
+    → ((us : List (List ℕ)) → GoesOn ts us → program_of us t ≡ program_from 1 xs)
+    → HoldsProgram ts t 0 (program_from 1 xs)
 stands-first ts t xs w h = record {
   whole = w;
   below = λ us g. let P : Program → Type 0 = λ p. AreBelow 0 p in subst P (sym (h us g)) (below_scripts 1 xs);
   same = λ us g. same-program (program_of us t) (program_from 1 xs) (h us g);
 }
 
-pub stands-added : (ts us : List (List ℕ)) (t u : NodeTable) (n m root : ℕ) (x : Term) (p : Program) → HoldsProgram ts t n p → n ≤ m → IsAdded ts t (Scratch m) x us u root → HoldsProgram us u (m + 1) (kept_tree_at (Scratch m) x ∷ p)
+pub stands-added : (ts us : List (List ℕ)) (t u : NodeTable) (n m root : ℕ) (x : Term) (p : Program)
+    → HoldsProgram ts t n p
+    → n ≤ m
+    → IsAdded ts t (Scratch m) x us u root
+    → HoldsProgram us u (m + 1) (kept_tree_at (Scratch m) x ∷ p)
 stands-added ts us t u n m root x p s l a =
     let before : (vs : List (List ℕ)) → GoesOn us vs → GoesOn ts vs = λ vs g. further-names ts us vs a.goes_on g in
     record {
@@ -121,7 +131,11 @@ stands-added ts us t u n m root x p s l a =
           (in-front (program_of vs t) p (kept_tree_at (Scratch m) x) (s.same vs (before vs g))));
     }
 
-pub stands-back : (ts us : List (List ℕ)) (t v : NodeTable) (n : ℕ) (p : Program) → HoldsProgram ts t n p → GoesOn ts us → IsBack t v → HoldsProgram us v n p
+pub stands-back : (ts us : List (List ℕ)) (t v : NodeTable) (n : ℕ) (p : Program)
+    → HoldsProgram ts t n p
+    → GoesOn ts us
+    → IsBack t v
+    → HoldsProgram us v n p
 stands-back ts us t v n p s g b = record {
   whole = b.whole;
   below = λ vs h. let P : Program → Type 0 = λ q. AreBelow n q in subst P (sym (b.program vs)) (s.below vs (further-names ts us vs g h));
@@ -130,32 +144,48 @@ stands-back ts us t v n p s g b = record {
 
 -- ---- answers
 
-evaluated_by : (n : ℕ) (p q : Program) (scope : Addr) (receiver : Value) (w : World) (t : Term) → HasSameFunctions p q → answer_of (steps_in n p scope (run_of t (evaluation_state w receiver))) ≡ answer_of (steps_in n q scope (run_of t (evaluation_state w receiver)))
+evaluated_by : (n : ℕ) (p q : Program) (scope : Addr) (receiver : Value) (w : World) (t : Term)
+    → HasSameFunctions p q
+    → answer_of (steps_in n p scope (run_of t (evaluation_state w receiver))) ≡ answer_of (steps_in n q scope (run_of t (evaluation_state w receiver)))
 evaluated_by n p q scope receiver w t h = ap answer_of (same-steps n p q scope (run_of t (evaluation_state w receiver)) h)
 
-evaluated_same : (p q : Program) (scope : Addr) (receiver : Value) (w : World) (t : Term) → HasSameFunctions p q → evaluated p scope receiver w t ≡ evaluated q scope receiver w t
+evaluated_same : (p q : Program) (scope : Addr) (receiver : Value) (w : World) (t : Term)
+    → HasSameFunctions p q
+    → evaluated p scope receiver w t ≡ evaluated q scope receiver w t
 evaluated_same p q scope receiver w t h = evaluated_by budget p q scope receiver w t h
 
-answered_same : (o : Tried Term) (j k : World → Term → Answer) → ((w : World) (t : Term) → j w t ≡ k w t) → answered o j ≡ answered o k
+answered_same : (o : Tried Term) (j k : World → Term → Answer)
+    → ((w : World) (t : Term) → j w t ≡ k w t)
+    → answered o j ≡ answered o k
 answered_same (fine t w) j k h = h w t
 answered_same effect j k h = refl
 answered_same (full what) j k h = refl
 
-tried_same : (b : Bool) (a : Addr) (v : World) (what : Counted) (k : Addr → World → Tried Term) → after_try (if b then fine a v else full what) k ≡ after_try (if b then fine a v else full what) (λ c z. k a z)
+tried_same : (b : Bool) (a : Addr) (v : World) (what : Counted) (k : Addr → World → Tried Term)
+    → after_try (if b then fine a v else full what) k ≡ after_try (if b then fine a v else full what) (λ c z. k a z)
 tried_same true a v what k = refl
 tried_same false a v what k = refl
 
-prepared_same : (w : World) (x : ScratchSpace) (us : List ℕ) (order : List (List ℕ)) (e : Made) → prepared w x us order e ≡ ready_in_order w x us order (literals (kept_term (next_kept x) e)) (kept_tree (next_kept x) e)
+prepared_same : (w : World) (x : ScratchSpace) (us : List ℕ) (order : List (List ℕ)) (e : Made)
+    → prepared w x us order e ≡ ready_in_order w x us order (literals (kept_term (next_kept x) e)) (kept_tree (next_kept x) e)
 prepared_same w x us order e =
     let c : World = copied_world w x in
     let v : World = record c { scratch = c.scratch ++ cells.Text us ∷ []; room = record { cells = c.room.cells; units = c.room.units - length us } } in
     tried_same (nat_le (length us) c.room.units) (Scratch (length c.scratch)) v counted.Units (λ at z. after_try (place_literals z order (literals (kept_term at e))) (λ o y. fine (kept_tree at e) y))
 
-ready_same : (w : World) (x : ScratchSpace) (us : List ℕ) (order ls : List (List ℕ)) (u : Term) (e : Made) → u ≡ kept_tree (next_kept x) e → ls ≡ literals (kept_term (next_kept x) e) → ready_in_order w x us order ls u ≡ prepared w x us order e
+ready_same : (w : World) (x : ScratchSpace) (us : List ℕ) (order ls : List (List ℕ)) (u : Term) (e : Made)
+    → u ≡ kept_tree (next_kept x) e
+    → ls ≡ literals (kept_term (next_kept x) e)
+    → ready_in_order w x us order ls u ≡ prepared w x us order e
 ready_same w x us order ls u e f g =
     ap (ready_in_order w x us order ls) f ∙ ap (λ l. ready_in_order w x us order l (kept_tree (next_kept x) e)) g ∙ sym (prepared_same w x us order e)
 
-evaluate_by : (w : World) (x z : ScratchSpace) (us : List ℕ) (order ls : List (List ℕ)) (u : Term) (e : Made) (r : Evaluated) (j k : World → Term → Answer) → ((v : World) (t : Term) → j v t ≡ k v t) → u ≡ kept_tree (next_kept x) e → ls ≡ literals (kept_term (next_kept x) e) → Leaves (answered (ready_in_order w x us order ls u) j) r x z → Leaves (answered (prepared w x us order e) k) r x z
+evaluate_by : (w : World) (x z : ScratchSpace) (us : List ℕ) (order ls : List (List ℕ)) (u : Term) (e : Made) (r : Evaluated) (j k : World → Term → Answer)
+    → ((v : World) (t : Term) → j v t ≡ k v t)
+    → u ≡ kept_tree (next_kept x) e
+    → ls ≡ literals (kept_term (next_kept x) e)
+    → Leaves (answered (ready_in_order w x us order ls u) j) r x z
+    → Leaves (answered (prepared w x us order e) k) r x z
 evaluate_by w x z us order ls u e r j k same f g h =
     let P : Answer → Type 0 = λ a. Leaves a r x z in
     subst P (answered_same (ready_in_order w x us order ls u) j k same ∙ ap (λ o. answered o k) (ready_same w x us order ls u e f g)) h
@@ -166,11 +196,20 @@ next-same ts h = ap (λ n. Scratch n) (cells-length ts h.cells)
 pub source_same : (a b : Addr) (x y : Term) → a ≡ b → x ≡ y → kept_tree_at a x ≡ kept_tree_at b y
 source_same a b x y e f = ap (λ c. kept_tree_at c x) e ∙ ap (kept_tree_at b) f
 
-pub behind-is : (at : Addr) (h : Heap) (from n : ℕ) → at ≡ next_of h → IsBehind at from n → (from ≤ length h.cells) × (n ≡ length h.cells + 1)
+pub behind-is : (at : Addr) (h : Heap) (from n : ℕ)
+    → at ≡ next_of h
+    → IsBehind at from n
+    → (from ≤ length h.cells) × (n ≡ length h.cells + 1)
 behind-is at h from n e b = let P : Addr → Type 0 = λ a. IsBehind a from n in subst P e b
 
 -- the source that was added is the one that the definition has in front
-pub stands-with : (ts us : List (List ℕ)) (t u : NodeTable) (n next root : ℕ) (x : Term) (p : Program) (h : Heap) (at : Addr) (e : Made) (order ls : List (List ℕ)) → HoldsProgram ts t n p → at ≡ next_of h → IsBehind at n next → IsAdded ts t at x us u root → IsMadeOf (next_kept (space_of ts h)) e order ls x → HoldsProgram us u next (with_source p (space_of ts h) e)
+pub stands-with : (ts us : List (List ℕ)) (t u : NodeTable) (n next root : ℕ) (x : Term) (p : Program) (h : Heap) (at : Addr) (e : Made) (order ls : List (List ℕ))
+    → HoldsProgram ts t n p
+    → at ≡ next_of h
+    → IsBehind at n next
+    → IsAdded ts t at x us u root
+    → IsMadeOf (next_kept (space_of ts h)) e order ls x
+    → HoldsProgram us u next (with_source p (space_of ts h) e)
 stands-with ts us t u n next root x p h at e order ls s i l a m =
     let b = behind-is at h n next i l in
     let P : Addr → Type 0 = λ c. IsAdded ts t c x us u root in
@@ -180,42 +219,75 @@ stands-with ts us t u n next root x p h at e order ls s i l a m =
     let o : HoldsProgram us u (length h.cells + 1) (with_source p (space_of ts h) e) = subst Q (source_same (Scratch (length h.cells)) (next_kept (space_of ts h)) x (kept_tree (next_kept (space_of ts h)) e) (sym (next-same ts h)) m.term_is) k in
     subst R (sym b.1) o
 
-called_same : (p q : Program) (receiver : Value) (as_given : List Argument) (w : World) (t : Term) → HasSameFunctions p q → called p receiver as_given w t ≡ called q receiver as_given w t
+called_same : (p q : Program) (receiver : Value) (as_given : List Argument) (w : World) (t : Term)
+    → HasSameFunctions p q
+    → called p receiver as_given w t ≡ called q receiver as_given w t
 called_same p q receiver as_given w t h =
     answered_same (with_arguments receiver as_given (fine t w)) (evaluated p script_scope values.Undefined) (evaluated q script_scope values.Undefined) (λ v u. evaluated_same p q script_scope values.Undefined v u h)
 
-worked_same : (p q : Program) (work : Work) (w : World) (t : Term) → HasSameFunctions p q → worked p work w t ≡ worked q work w t
+worked_same : (p q : Program) (work : Work) (w : World) (t : Term)
+    → HasSameFunctions p q
+    → worked p work w t ≡ worked q work w t
 worked_same p q (works.Expression scope receiver) w t h = evaluated_same p q scope receiver w t h
 worked_same p q (works.Call receiver arguments) w t h = called_same p q receiver (arguments_of arguments.now) w t h
 
-evaluator_answers : (ts us : List (List ℕ)) (t u : NodeTable) (n root : ℕ) (x : Term) (p : Program) (w : World) (y z : ScratchSpace) (at : Addr) (work : Work) (e : Made) (source : List ℕ) (order ls : List (List ℕ)) (r : Evaluated) → IsAdded ts t at x us u root → HoldsProgram us u n (with_source p y e) → IsMadeOf (next_kept y) e order ls x → (AreSameLiterals order ls → Leaves (answered (ready_in_order w y source order ls (settle (tree us u root))) (worked (program_of us u) work)) r y z) → Leaves (work_of p w y source order e work) r y z
+evaluator_answers : (ts us : List (List ℕ)) (t u : NodeTable) (n root : ℕ) (x : Term) (p : Program) (w : World) (y z : ScratchSpace) (at : Addr) (work : Work) (e : Made) (source : List ℕ) (order ls : List (List ℕ)) (r : Evaluated)
+    → IsAdded ts t at x us u root
+    → HoldsProgram us u n (with_source p y e)
+    → IsMadeOf (next_kept y) e order ls x
+    → (AreSameLiterals order ls → Leaves (answered (ready_in_order w y source order ls (settle (tree us u root))) (worked (program_of us u) work)) r y z)
+    → Leaves (work_of p w y source order e work) r y z
 evaluator_answers ts us t u n root x p w y z at work e source order ls r a s m h =
     let f : settle (tree us u root) ≡ kept_tree (next_kept y) e = ap settle (a.tree us (same-names us)) ∙ m.stays ∙ m.term_is in
     evaluate_by w y z source order ls (settle (tree us u root)) e r (worked (program_of us u) work) (worked (with_source p y e) work)
     (λ v o. worked_same (program_of us u) (with_source p y e) work v o (s.same us (same-names us))) f m.literals_are (h m.outcome)
 
-pub evaluator-leaves : (ts us ns : List (List ℕ)) (t u : NodeTable) (n next root : ℕ) (x : Term) (p : Program) (w : World) (h k : Heap) (at : Addr) (work : Work) (e : Made) (source : List ℕ) (order ls : List (List ℕ)) (r : Evaluated) → HoldsProgram ts t n p → at ≡ next_of h → IsBehind at n next → IsAdded ts t at x us u root → IsMadeOf (next_kept (space_of ts h)) e order ls x → (AreSameLiterals order ls → Leaves (answered (ready_in_order w (space_of ts h) source order ls (settle (tree us u root))) (worked (program_of us u) work)) r (space_of ts h) (space_of us k)) → ns ≡ us → Leaves (work_of p w (space_of ts h) source order e work) r (space_of ts h) (space_of ns k)
+pub evaluator-leaves : (ts us ns : List (List ℕ)) (t u : NodeTable) (n next root : ℕ) (x : Term) (p : Program) (w : World) (h k : Heap) (at : Addr) (work : Work) (e : Made) (source : List ℕ) (order ls : List (List ℕ)) (r : Evaluated)
+    → HoldsProgram ts t n p
+    → at ≡ next_of h
+    → IsBehind at n next
+    → IsAdded ts t at x us u root
+    → IsMadeOf (next_kept (space_of ts h)) e order ls x
+    → (AreSameLiterals order ls → Leaves (answered (ready_in_order w (space_of ts h) source order ls (settle (tree us u root))) (worked (program_of us u) work)) r (space_of ts h) (space_of us k))
+    → ns ≡ us
+    → Leaves (work_of p w (space_of ts h) source order e work) r (space_of ts h) (space_of ns k)
 evaluator-leaves ts us ns t u n next root x p w h k at work e source order ls r s i l a m f g =
     let P : List (List ℕ) → Type 0 = λ vs. Leaves (work_of p w (space_of ts h) source order e work) r (space_of ts h) (space_of vs k) in
     subst P (sym g) (evaluator_answers ts us t u next root x p w (space_of ts h) (space_of us k) at work e source order ls r a (stands-with ts us t u n next root x p h at e order ls s i l a m) m f)
 
 -- ---- names that are known
 
-pub known-leaves : (ts us : List (List ℕ)) (b h k : Heap) (z : ScratchSpace) (source : List ℕ) (order ls : List (List ℕ)) (t : Term) (j : World → Term → Answer) (r : Evaluated) → heap_world us b ≡ heap_world ts b → space_of us h ≡ space_of ts h → space_of us k ≡ space_of us h → Leaves (answered (ready_in_order (heap_world us b) (space_of us k) source order ls t) j) r (space_of us k) z → Leaves (answered (ready_in_order (heap_world ts b) (space_of ts h) source order ls t) j) r (space_of ts h) z
+pub known-leaves : (ts us : List (List ℕ)) (b h k : Heap) (z : ScratchSpace) (source : List ℕ) (order ls : List (List ℕ)) (t : Term) (j : World → Term → Answer) (r : Evaluated)
+    → heap_world us b ≡ heap_world ts b
+    → space_of us h ≡ space_of ts h
+    → space_of us k ≡ space_of us h
+    → Leaves (answered (ready_in_order (heap_world us b) (space_of us k) source order ls t) j) r (space_of us k) z
+    → Leaves (answered (ready_in_order (heap_world ts b) (space_of ts h) source order ls t) j) r (space_of ts h) z
 known-leaves ts us b h k z source order ls t j r e f i l =
     let P : World → Type 0 = λ w. Leaves (answered (ready_in_order w (space_of us k) source order ls t) j) r (space_of us k) z in
     let Q : ScratchSpace → Type 0 = λ x. Leaves (answered (ready_in_order (heap_world ts b) x source order ls t) j) r x z in
     subst Q (i ∙ f) (subst P e l)
 
-pub world-further : (ts us : List (List ℕ)) (b : Heap) → GoesOn ts us → ((names more : List (List ℕ)) → b.ends ≤ length names → heap_world (names ++ more) b ≡ heap_world names b) → b.ends ≤ length ts → heap_world us b ≡ heap_world ts b
+pub world-further : (ts us : List (List ℕ)) (b : Heap)
+    → GoesOn ts us
+    → ((names more : List (List ℕ)) → b.ends ≤ length names → heap_world (names ++ more) b ≡ heap_world names b)
+    → b.ends ≤ length ts
+    → heap_world us b ≡ heap_world ts b
 world-further ts us b g h l = ap (λ vs. heap_world vs b) g.is ∙ h ts g.more l
 
-pub space-further : (ts us : List (List ℕ)) (b : Heap) → GoesOn ts us → ((names more : List (List ℕ)) → b.ends ≤ length names → space_of (names ++ more) b ≡ space_of names b) → b.ends ≤ length ts → space_of us b ≡ space_of ts b
+pub space-further : (ts us : List (List ℕ)) (b : Heap)
+    → GoesOn ts us
+    → ((names more : List (List ℕ)) → b.ends ≤ length names → space_of (names ++ more) b ≡ space_of names b)
+    → b.ends ≤ length ts
+    → space_of us b ≡ space_of ts b
 space-further ts us b g h l = ap (λ vs. space_of vs b) g.is ∙ h ts g.more l
 
 -- ---- behind an evaluation
 
-runs_by : (end : Evaluated) (f : Evaluator) (p q : Program) → (is_kept end ≡ true → Runs f q) → (is_kept end ≡ false → Runs f p) → RunsAfter end f p q
+runs_by : (end : Evaluated) (f : Evaluator) (p q : Program)
+    → (is_kept end ≡ true → Runs f q)
+    → (is_kept end ≡ false → Runs f p)
+    → RunsAfter end f p q
 runs_by (ends.Value v) f p q h k = h refl
 runs_by (ends.Thrown v) f p q h k = h refl
 runs_by ends.Effect f p q h k = k refl
@@ -223,29 +295,51 @@ runs_by (ends.Full what) f p q h k = k refl
 runs_by ends.Spent f p q h k = k refl
 runs_by ends.Memory f p q h k = tt
 
-pub stands-same : (ts us : List (List ℕ)) (t u : NodeTable) (n m : ℕ) (p : Program) → us ≡ ts → u ≡ t → m ≡ n → HoldsProgram ts t n p → HoldsProgram us u m p
+pub stands-same : (ts us : List (List ℕ)) (t u : NodeTable) (n m : ℕ) (p : Program)
+    → us ≡ ts
+    → u ≡ t
+    → m ≡ n
+    → HoldsProgram ts t n p
+    → HoldsProgram us u m p
 stands-same ts us t u n m p e f g h =
     let P : List (List ℕ) → Type 0 = λ vs. HoldsProgram vs t n p in
     let Q : NodeTable → Type 0 = λ v. HoldsProgram us v n p in
     let R : ℕ → Type 0 = λ k. HoldsProgram us u k p in
     subst R (sym g) (subst Q (sym f) (subst P (sym e) h))
 
-pub runs-after : (ts us : List (List ℕ)) (t u : NodeTable) (n m root : ℕ) (x : Term) (p q : Program) (at : Addr) (mark : TableMark) (next : ℕ) (end : Evaluated) (f : Evaluator) → m ≡ n → HoldsProgram ts t n p → IsAdded ts t at x us u root → HoldsProgram us u next q → IsMarkOf t mark → f.names ≡ us → (is_kept end ≡ true → (f.table ≡ u) × (f.next ≡ next)) → (is_kept end ≡ false → (f.next ≡ m) × ((v : NodeTable) (es : List SourceEntry) → IsWhole v → IsMarkOf v mark → GoesOnWith v u es → IsBack v f.table)) → RunsAfter end f p q
+pub runs-after : (ts us : List (List ℕ)) (t u : NodeTable) (n m root : ℕ) (x : Term) (p q : Program) (at : Addr) (mark : TableMark) (next : ℕ) (end : Evaluated) (f : Evaluator)
+    → m ≡ n
+    → HoldsProgram ts t n p
+    → IsAdded ts t at x us u root
+    → HoldsProgram us u next q
+    → IsMarkOf t mark
+    → f.names ≡ us
+    → (is_kept end ≡ true → (f.table ≡ u) × (f.next ≡ next))
+    → (is_kept end ≡ false → (f.next ≡ m) × ((v : NodeTable) (es : List SourceEntry) → IsWhole v → IsMarkOf v mark → GoesOnWith v u es → IsBack v f.table))
+    → RunsAfter end f p q
 runs-after ts us t u n m root x p q at mark next end f l s a k d e h i =
     runs_by end f p q (λ o. stands-same us f.names u f.table next f.next q e (h o).0 (h o).1 k)
     (λ o. let b = i o in stands-same us f.names f.table f.table n f.next p e refl (b.0 ∙ l) (stands-back ts us t f.table n p s a.goes_on (b.1 t (a.entry ∷ []) s.whole d a.table)))
 
 -- ---- the code of the scripts
 
-pub compiled : (ts : List (List ℕ)) (xs : Terms) (o : Option ScriptCode) (c : ScriptCode) → AreCompiled ts xs o → o ≡ Some c → IsCompiled ts xs c.table c.root
+pub compiled : (ts : List (List ℕ)) (xs : Terms) (o : Option ScriptCode) (c : ScriptCode)
+    → AreCompiled ts xs o
+    → o ≡ Some c
+    → IsCompiled ts xs c.table c.root
 compiled ts xs o c h e = let P : Option ScriptCode → Type 0 = λ q. AreCompiled ts xs q in let k : AreCompiled ts xs (Some c) = subst P e h in k
 
 -- ---- the terms of expressions
 
-pub made-of : (at : Addr) (e : Expr) → IsMadeOf at (expression_source e) (source_literals e) (literals (kept_term at (expression_source e))) (kept_tree at (expression_source e))
+pub made-of : (at : Addr) (e : Expr)
+    → IsMadeOf at (expression_source e) (source_literals e) (literals (kept_term at (expression_source e))) (kept_tree at (expression_source e))
 made-of at e = record { term_is = refl; literals_are = refl; stays = kept-settled at e; outcome = λ w. literals-agree w at e }
 
-pub ready-made : (at : Addr) (units : List ℕ) (e : Expr) (p : Prepared) (order ls : List (List ℕ)) → order ≡ p.order.items → ls ≡ p.literals.items → IsReady at units e p → IsMadeOf at (expression_source e) order ls (term_view p.term)
+pub ready-made : (at : Addr) (units : List ℕ) (e : Expr) (p : Prepared) (order ls : List (List ℕ))
+    → order ≡ p.order.items
+    → ls ≡ p.literals.items
+    → IsReady at units e p
+    → IsMadeOf at (expression_source e) order ls (term_view p.term)
 ready-made at units e p order ls f g i =
     let P : List (List ℕ) → Type 0 = λ o. AreSameLiterals o ls in
     let Q : List (List ℕ) → Type 0 = λ l. AreSameLiterals (source_literals e) l in
@@ -256,7 +350,11 @@ ready-made at units e p order ls f g i =
       outcome = subst P (sym (f ∙ i.order)) (subst Q (sym (g ∙ i.literals)) (λ w. literals-agree w at e));
     }
 
-pub ready-leaves : (q : Program) (w : World) (x y : ScratchSpace) (work : Work) (at : Addr) (units : List ℕ) (e : Expr) (p : Prepared) (order : List (List ℕ)) (r : Evaluated) → order ≡ p.order.items → IsReady at units e p → Leaves (work_of q w x p.source order (expression_source e) work) r x y → Leaves (work_of q w x units (source_literals e) (expression_source e) work) r x y
+pub ready-leaves : (q : Program) (w : World) (x y : ScratchSpace) (work : Work) (at : Addr) (units : List ℕ) (e : Expr) (p : Prepared) (order : List (List ℕ)) (r : Evaluated)
+    → order ≡ p.order.items
+    → IsReady at units e p
+    → Leaves (work_of q w x p.source order (expression_source e) work) r x y
+    → Leaves (work_of q w x units (source_literals e) (expression_source e) work) r x y
 ready-leaves q w x y work at units e p order r f i h =
     let P : List ℕ → Type 0 = λ us. Leaves (work_of q w x us order (expression_source e) work) r x y in
     let Q : List (List ℕ) → Type 0 = λ o. Leaves (work_of q w x units o (expression_source e) work) r x y in
@@ -264,15 +362,18 @@ ready-leaves q w x y work at units e p order r f i h =
 
 -- ---- the definition's calls
 
-calls : (t : Tried Term) (p : Program) (receiver : Value) (as_given : List Argument) → answered (with_arguments receiver as_given t) (evaluated p script_scope values.Undefined) ≡ answered t (called p receiver as_given)
+calls : (t : Tried Term) (p : Program) (receiver : Value) (as_given : List Argument)
+    → answered (with_arguments receiver as_given t) (evaluated p script_scope values.Undefined) ≡ answered t (called p receiver as_given)
 calls (fine t w) p receiver as_given = refl
 calls effect p receiver as_given = refl
 calls (full what) p receiver as_given = refl
 
-pub call-is : (p : Program) (w : World) (x : ScratchSpace) (f : FunctionCode) (receiver : Value) (as_given : List Argument) → evaluate_function p w x f receiver as_given ≡ answered (prepared w x f.source (source_literals f.tree) (expression_source f.tree)) (called (with_source p x (expression_source f.tree)) receiver as_given)
+pub call-is : (p : Program) (w : World) (x : ScratchSpace) (f : FunctionCode) (receiver : Value) (as_given : List Argument)
+    → evaluate_function p w x f receiver as_given ≡ answered (prepared w x f.source (source_literals f.tree) (expression_source f.tree)) (called (with_source p x (expression_source f.tree)) receiver as_given)
 call-is p w x f receiver as_given = calls (prepared w x f.source (source_literals f.tree) (expression_source f.tree)) (with_source p x (expression_source f.tree)) receiver as_given
 
-pub work-keeps : (p : Program) (w : World) (x : ScratchSpace) (source : List ℕ) (order : List (List ℕ)) (e : Made) (work : Work) → AnswerKeeps w x (work_of p w x source order e work)
+pub work-keeps : (p : Program) (w : World) (x : ScratchSpace) (source : List ℕ) (order : List (List ℕ)) (e : Made) (work : Work)
+    → AnswerKeeps w x (work_of p w x source order e work)
 work-keeps p w x source order e (works.Expression scope receiver) = evaluate-keeps p w x scope receiver source order e
 work-keeps p w x source order e (works.Call receiver arguments) =
     let as_given : List Argument = arguments_of arguments.now in

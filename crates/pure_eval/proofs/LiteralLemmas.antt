@@ -7,7 +7,10 @@ use Rattle.js_heap.specs.Worlds.{Keeps, AfterFine}
 use Rattle.js_heap.proofs.KeepLemmas.{keeps-trans, making-keeps}
 use Rattle.js_semantics.specs.Evaluation.{after_try, make_literals}
 
-cons_at : (xs : List (List ℕ)) (i : ℕ) (x : List ℕ) → i < length xs → x ≡ get_or xs i x → drop i xs ≡ x ∷ drop (i + 1) xs
+cons_at : (xs : List (List ℕ)) (i : ℕ) (x : List ℕ)
+    → i < length xs
+    → x ≡ get_or xs i x
+    → drop i xs ≡ x ∷ drop (i + 1) xs
 cons_at [] i x h e = absurd (omega arith)
 cons_at (y ∷ xs) zero x h e = ap (λ z. z ∷ xs) (sym e)
 cons_at (y ∷ xs) (suc i) x h e =
@@ -15,7 +18,12 @@ cons_at (y ∷ xs) (suc i) x h e =
     cons_at xs i x (omega arith) e ∙ ap (λ n. x ∷ drop n (y ∷ xs)) (sym f)
 
 -- one more is made
-pub next-made : (xs : List (List ℕ)) (i : ℕ) (x : List ℕ) (a : Addr) (w v u : World) → i < length xs → x ≡ get_or xs i x → make_literals v (drop i xs) ≡ make_literals w xs → make_cell v (cells.Text x) ≡ fine a u → make_literals u (drop (i + 1) xs) ≡ make_literals w xs
+pub next-made : (xs : List (List ℕ)) (i : ℕ) (x : List ℕ) (a : Addr) (w v u : World)
+    → i < length xs
+    → x ≡ get_or xs i x
+    → make_literals v (drop i xs) ≡ make_literals w xs
+    → make_cell v (cells.Text x) ≡ fine a u
+    → make_literals u (drop (i + 1) xs) ≡ make_literals w xs
 next-made xs i x a w v u h e inv m =
     let k : make_literals v (x ∷ drop (i + 1) xs) ≡ make_literals u (drop (i + 1) xs) = ap (λ t. after_try t (λ b z. make_literals z (drop (i + 1) xs))) m in
     sym k ∙ ap (make_literals v) (sym (cons_at xs i x h e)) ∙ inv
@@ -33,5 +41,10 @@ made_keeps v u c a e =
     let k : P (fine a u) = subst P e (making-keeps v c) in
     k
 
-pub makes-next : (xs : List (List ℕ)) (i : ℕ) (x : List ℕ) (a : Addr) (w v u : World) → MakesOn w xs i v → i < length xs → x ≡ get_or xs i x → make_cell v (cells.Text x) ≡ fine a u → MakesOn w xs (i + 1) u
+pub makes-next : (xs : List (List ℕ)) (i : ℕ) (x : List ℕ) (a : Addr) (w v u : World)
+    → MakesOn w xs i v
+    → i < length xs
+    → x ≡ get_or xs i x
+    → make_cell v (cells.Text x) ≡ fine a u
+    → MakesOn w xs (i + 1) u
 makes-next xs i x a w v u m h e f = record { rest = next-made xs i x a w v u h e m.rest f; keeps = keeps-trans w v u m.keeps (made_keeps v u (cells.Text x) a f) }

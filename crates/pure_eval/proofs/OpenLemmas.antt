@@ -46,7 +46,10 @@ went_on (ends.Full what) old new f g = g
 went_on ends.Spent old new f g = g
 went_on ends.Memory old new f g = absurd cc
 
-code_on : (end : Evaluated) (new : Evaluator) (p : Program) (s : SourceTree) → is_given_up end ≡ false → CodeAfter end new p s → IsCode new
+code_on : (end : Evaluated) (new : Evaluator) (p : Program) (s : SourceTree)
+    → is_given_up end ≡ false
+    → CodeAfter end new p s
+    → IsCode new
 code_on (ends.Value v) new p s f c = c.code
 code_on (ends.Thrown v) new p s f c = c.code
 code_on ends.Effect new p s f c = c.code
@@ -54,7 +57,11 @@ code_on (ends.Full what) new p s f c = c.code
 code_on ends.Spent new p s f c = c.code
 code_on ends.Memory new p s f c = absurd cc
 
-working_on : (old new : Evaluator) (n : ℕ) (m : EvaluatorMark) → IsWorking old n m → WentOn old new → IsCode new → IsWorking new n m
+working_on : (old new : Evaluator) (n : ℕ) (m : EvaluatorMark)
+    → IsWorking old n m
+    → WentOn old new
+    → IsCode new
+    → IsWorking new n m
 working_on old new n m w g c = record {
   code = c;
   first = w.first;
@@ -64,7 +71,15 @@ working_on old new n m w g c = record {
   count = w.count;
 }
 
-pub open-on : (end : Evaluated) (old new : Evaluator) (n : ℕ) (start m : EvaluatorMark) (base h : Heap) (o q : Over) (k : Marked) (count : ℕ) (next later : Addr) (p : Program) (s : SourceTree) → is_given_up end ≡ false → IsOpen old n start m base o k count next → WentOnAfter end old new → CodeAfter end new p s → ((ts : List (List ℕ)) → over_world ts q ≡ copied_world (heap_world ts base) (space_of ts h)) → q.base ≡ base → later ≡ next_of h → IsOpen new n start m base q k count later
+pub open-on : (end : Evaluated) (old new : Evaluator) (n : ℕ) (start m : EvaluatorMark) (base h : Heap) (o q : Over) (k : Marked) (count : ℕ) (next later : Addr) (p : Program) (s : SourceTree)
+    → is_given_up end ≡ false
+    → IsOpen old n start m base o k count next
+    → WentOnAfter end old new
+    → CodeAfter end new p s
+    → ((ts : List (List ℕ)) → over_world ts q ≡ copied_world (heap_world ts base) (space_of ts h))
+    → q.base ≡ base
+    → later ≡ next_of h
+    → IsOpen new n start m base q k count later
 open-on end old new n start m base h o q k count next later p s f i went code over based next_is =
     let g : WentOn old new = went_on end old new f went in
     let there : (ts : List (List ℕ)) → space_after (over_world ts q) ≡ space_of ts h = λ ts. space_over ts base h q (over ts) in
@@ -88,14 +103,23 @@ take_first (suc k) zero ys h = absurd (omega (arith, h))
 take_first (suc k) (suc l) [] h = refl
 take_first (suc k) (suc l) (y ∷ ys) h = ap (λ zs. y ∷ zs) (take_first k l ys (omega (arith, h)))
 
-cells_stay : (x y : ScratchSpace) (k : Marked) → k.count ≤ length x.cells → take (length x.cells) y.cells ≡ x.cells → space_at y k ≡ space_at x k
+cells_stay : (x y : ScratchSpace) (k : Marked)
+    → k.count ≤ length x.cells
+    → take (length x.cells) y.cells ≡ x.cells
+    → space_at y k ≡ space_at x k
 cells_stay x y k h e =
     let f : List Cell → ScratchSpace = λ cs. record { cells = cs; room = record { cells = k.cells_left; units = k.units_left } } in
     ap f (sym (take_first k.count (length x.cells) y.cells h) ∙ ap (take k.count) e)
 
 -- ---- what an evaluation comes to
 
-open_same : (w v : World) (p r a b : Program) (x y z u : ScratchSpace) (n : ℕ) → w ≡ v → p ≡ r → x ≡ y → a ≡ b → z ≡ u → made_open w p x a z n ≡ made_open v r y b u n
+open_same : (w v : World) (p r a b : Program) (x y z u : ScratchSpace) (n : ℕ)
+    → w ≡ v
+    → p ≡ r
+    → x ≡ y
+    → a ≡ b
+    → z ≡ u
+    → made_open w p x a z n ≡ made_open v r y b u n
 open_same w v p r a b x y z u n e f g h i =
     ap (λ s. made_open s p x a z n) e ∙ ap (λ s. made_open v s x a z n) f ∙ ap (λ s. made_open v r s a z n) g ∙ ap (λ s. made_open v r y s z n) h ∙ ap (λ s. made_open v r y b s n) i
 
@@ -109,7 +133,12 @@ record Behind (old new : Evaluator) (n : ℕ) (start m : EvaluatorMark) (base h 
   pub there : k.count ≤ length (space_after (over_world old.names o)).cells
   pub over : (ts : List (List ℕ)) → over_world ts q ≡ copied_world (heap_world ts base) (space_of ts h)
 
-open_behind : (old new : Evaluator) (n : ℕ) (start m : EvaluatorMark) (base h : Heap) (o q : Over) (k : Marked) (count : ℕ) (next : Addr) (p : Program) (y : ScratchSpace) → Behind old new n start m base h o q k count next → program_of new.names new.table ≡ p → space_of new.names h ≡ y → take (length (space_after (over_world old.names o)).cells) y.cells ≡ (space_after (over_world old.names o)).cells → opened_of new n m base q k ≡ made_open (heap_world old.names base) (take m.table.sources (program_of old.names old.table)) (space_at (space_after (over_world old.names o)) k) p y n
+open_behind : (old new : Evaluator) (n : ℕ) (start m : EvaluatorMark) (base h : Heap) (o q : Over) (k : Marked) (count : ℕ) (next : Addr) (p : Program) (y : ScratchSpace)
+    → Behind old new n start m base h o q k count next
+    → program_of new.names new.table ≡ p
+    → space_of new.names h ≡ y
+    → take (length (space_after (over_world old.names o)).cells) y.cells ≡ (space_after (over_world old.names o)).cells
+    → opened_of new n m base q k ≡ made_open (heap_world old.names base) (take m.table.sources (program_of old.names old.table)) (space_at (space_after (over_world old.names o)) k) p y n
 open_behind old new n start m base h o q k count next p y b program space cells =
     let i = b.open_old in
     let x : ScratchSpace = space_after (over_world old.names o) in
@@ -121,7 +150,10 @@ open_behind old new n start m base h o q k count next p y b program space cells 
     (space_at (space_after (over_world new.names q)) k) (space_at x k) (space_after (over_world new.names q)) y n
     (world-further old.names new.names base b.went.names b.further b.known) first (ap (λ z. space_at z k) there ∙ cells_stay x y k b.there cells) program there
 
-source_is : (ts : List (List ℕ)) (g : Heap) (x : ScratchSpace) (t : Term) (e : Made) → space_of ts g ≡ x → t ≡ kept_tree (next_kept x) e → kept_tree_at (next_of g) t ≡ source_kept x e
+source_is : (ts : List (List ℕ)) (g : Heap) (x : ScratchSpace) (t : Term) (e : Made)
+    → space_of ts g ≡ x
+    → t ≡ kept_tree (next_kept x) e
+    → kept_tree_at (next_of g) t ≡ source_kept x e
 source_is ts g x t e f h = source_same (next_of g) (next_kept x) t (kept_tree (next_kept x) e) (sym (next-same ts g) ∙ ap next_kept f) h
 
 same_cells : (x y : ScratchSpace) → y ≡ x → take (length x.cells) y.cells ≡ x.cells
@@ -130,7 +162,13 @@ same_cells x y e = ap (λ (z : ScratchSpace). take (length x.cells) z.cells) e �
 with_more : (p q : Program) (s t : SourceTree) → q ≡ p ++ s ∷ [] → s ≡ t → q ≡ p ++ t ∷ []
 with_more p q s t e f = e ∙ ap (λ u. p ++ u ∷ []) f
 
-comes_to : (end : Evaluated) (a : Answer) (e : Made) (w : World) (s : SourceTree) (old new : Evaluator) (n : ℕ) (start m : EvaluatorMark) (base h : Heap) (o q : Over) (k : Marked) (count : ℕ) (next : Addr) → Behind old new n start m base h o q k count next → CodeAfter end new (program_of old.names old.table) s → s ≡ source_kept (space_after (over_world old.names o)) e → AnswerKeeps w (space_after (over_world old.names o)) a → Leaves a end (space_after (over_world old.names o)) (space_of new.names h) → EvaluatesTo a e end (opened_of old n m base o k) (opened_of new n m base q k)
+comes_to : (end : Evaluated) (a : Answer) (e : Made) (w : World) (s : SourceTree) (old new : Evaluator) (n : ℕ) (start m : EvaluatorMark) (base h : Heap) (o q : Over) (k : Marked) (count : ℕ) (next : Addr)
+    → Behind old new n start m base h o q k count next
+    → CodeAfter end new (program_of old.names old.table) s
+    → s ≡ source_kept (space_after (over_world old.names o)) e
+    → AnswerKeeps w (space_after (over_world old.names o)) a
+    → Leaves a end (space_after (over_world old.names o)) (space_of new.names h)
+    → EvaluatesTo a e end (opened_of old n m base o k) (opened_of new n m base q k)
 comes_to (ends.Value v) a e w s old new n start m base h o q k count next b c f kept l =
     let x : ScratchSpace = space_after (over_world old.names o) in
     let P : Answer → Type 0 = λ z. AnswerKeeps w x z in
@@ -156,7 +194,19 @@ comes_to ends.Memory a e w s old new n start m base h o q k count next b c f kep
 abbrev pub Evaluates : Evaluated → Work → Prepared → Opened → Opened → Type 0
 Evaluates end work x old new = (source : List ℕ) (e : Expr) → IsReady (next_kept old.behind.scratch) source e x → EvaluatesTo (work_of old.behind.program old.world old.behind.scratch source (source_literals e) (expression_source e) work) (expression_source e) end old new
 
-pub evaluates-open : (end : Evaluated) (x : Prepared) (work : Work) (old new : Evaluator) (n : ℕ) (start m : EvaluatorMark) (base g h : Heap) (o q : Over) (k : Marked) (count from : ℕ) (next : Addr) → is_given_up end ≡ false → IsOpen old n start m base o k count next → WentOnAfter end old new → CodeAfter end new (program_of old.names old.table) (kept_tree_at (next_of g) (term_view x.term)) → ((us more : List (List ℕ)) → base.ends ≤ length us → heap_world (us ++ more) base ≡ heap_world us base) → base.ends ≤ length old.names → ((i : ℕ) → next ≡ Scratch i → from ≡ i) → count ≤ from → ((ts : List (List ℕ)) → space_of ts g ≡ space_after (over_world ts o)) → ((ts : List (List ℕ)) → over_world ts q ≡ copied_world (heap_world ts base) (space_of ts h)) → ((p : Program) (source : List ℕ) (e : Expr) → Runs old p → IsReady (next_kept (space_of old.names g)) source e x → Leaves (work_of p (heap_world old.names base) (space_of old.names g) source (source_literals e) (expression_source e) work) end (space_of old.names g) (space_of new.names h)) → Evaluates end work x (opened_of old n m base o k) (opened_of new n m base q k)
+pub evaluates-open : (end : Evaluated) (x : Prepared) (work : Work) (old new : Evaluator) (n : ℕ) (start m : EvaluatorMark) (base g h : Heap) (o q : Over) (k : Marked) (count from : ℕ) (next : Addr)
+    → is_given_up end ≡ false
+    → IsOpen old n start m base o k count next
+    → WentOnAfter end old new
+    → CodeAfter end new (program_of old.names old.table) (kept_tree_at (next_of g) (term_view x.term))
+    → ((us more : List (List ℕ)) → base.ends ≤ length us → heap_world (us ++ more) base ≡ heap_world us base)
+    → base.ends ≤ length old.names
+    → ((i : ℕ) → next ≡ Scratch i → from ≡ i)
+    → count ≤ from
+    → ((ts : List (List ℕ)) → space_of ts g ≡ space_after (over_world ts o))
+    → ((ts : List (List ℕ)) → over_world ts q ≡ copied_world (heap_world ts base) (space_of ts h))
+    → ((p : Program) (source : List ℕ) (e : Expr) → Runs old p → IsReady (next_kept (space_of old.names g)) source e x → Leaves (work_of p (heap_world old.names base) (space_of old.names g) source (source_literals e) (expression_source e) work) end (space_of old.names g) (space_of new.names h))
+    → Evaluates end work x (opened_of old n m base o k) (opened_of new n m base q k)
 evaluates-open end x work old new n start m base g h o q k count from next f i went code further known number long before over answer = λ source e prepared.
     let y : ScratchSpace = space_after (over_world old.names o) in
     let p : Program = program_of old.names old.table in

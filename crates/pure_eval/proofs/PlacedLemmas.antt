@@ -25,11 +25,13 @@ use Rattle.pure_eval.proofs.LeavingLemmas.{cut-space}
 
 -- ---- keeping a source
 
-source_kinds : (w : World) (us : List ℕ) (r : Room) (a : Addr) → KindStays (read_cell w a) (read_cell (record w { scratch = w.scratch ++ cells.Text us ∷ []; room = r }) a)
+source_kinds : (w : World) (us : List ℕ) (r : Room) (a : Addr)
+    → KindStays (read_cell w a) (read_cell (record w { scratch = w.scratch ++ cells.Text us ∷ []; room = r }) a)
 source_kinds w us r (Base i) = stays-same (slice_get w.base i)
 source_kinds w us r (Scratch i) = stays-append w.scratch (cells.Text us) i
 
-source_others : (o : Option ℕ) (w : World) (us : List ℕ) (r : Room) → OthersStay o w (record w { scratch = w.scratch ++ cells.Text us ∷ []; room = r })
+source_others : (o : Option ℕ) (w : World) (us : List ℕ) (r : Room)
+    → OthersStay o w (record w { scratch = w.scratch ++ cells.Text us ∷ []; room = r })
 source_others None w us r = tt
 source_others (Some n) w us r = (refl, λ h. (omega (arith, length-append w.scratch (cells.Text us ∷ [])), take-append-le n w.scratch (cells.Text us ∷ []) h))
 
@@ -48,7 +50,10 @@ kept-keeps w v u us a e h =
 
 -- ---- the world before the first step
 
-pub goes-from : (w v : World) (ts : List (List ℕ)) (h : Heap) (m : Marked) → m ≡ mark_of h → Keeps (copied_world w (space_of ts h)) v → GoesOnFrom v (space_of ts h) m
+pub goes-from : (w v : World) (ts : List (List ℕ)) (h : Heap) (m : Marked)
+    → m ≡ mark_of h
+    → Keeps (copied_world w (space_of ts h)) v
+    → GoesOnFrom v (space_of ts h) m
 goes-from w v ts h m e k =
     let x : ScratchSpace = space_of ts h in
     let o = k.others in
@@ -64,25 +69,46 @@ goes-from w v ts h m e k =
 
 -- ---- answers
 
-pub ready-leaves : (says : World → Term → Answer) (w v : World) (x y : ScratchSpace) (us : List ℕ) (xs : List (List ℕ)) (t : Term) (e : Evaluated) → placed (copied_world w x) us xs ≡ fine tt v → Leaves (says v t) e x y → Leaves (answered (made_ready w x us xs t) says) e x y
+pub ready-leaves : (says : World → Term → Answer) (w v : World) (x y : ScratchSpace) (us : List ℕ) (xs : List (List ℕ)) (t : Term) (e : Evaluated)
+    → placed (copied_world w x) us xs ≡ fine tt v
+    → Leaves (says v t) e x y
+    → Leaves (answered (made_ready w x us xs t) says) e x y
 ready-leaves says w v x y us xs t e f h =
     let P : Tried (Unit {0}) → Type 0 = λ z. Leaves (answered (after_try z (λ u s. fine t s)) says) e x y in
     subst P (sym f) h
 
-pub refused-leaves : (says : World → Term → Answer) (w v : World) (x y : ScratchSpace) (m : Marked) (us : List ℕ) (xs : List (List ℕ)) (t : Term) (r : Refused) → (let s : Result (Unit {0}) Refused = Err r in Tries (placed (copied_world w x) us xs) s v) → Keeps (copied_world w x) v → GoesOnFrom v x m → y ≡ space_behind (refused_end r) v m → Leaves (answered (made_ready w x us xs t) says) (refused_end r) x y
+pub refused-leaves : (says : World → Term → Answer) (w v : World) (x y : ScratchSpace) (m : Marked) (us : List ℕ) (xs : List (List ℕ)) (t : Term) (r : Refused)
+    → (let s : Result (Unit {0}) Refused = Err r in Tries (placed (copied_world w x) us xs) s v)
+    → Keeps (copied_world w x) v
+    → GoesOnFrom v x m
+    → y ≡ space_behind (refused_end r) v m
+    → Leaves (answered (made_ready w x us xs t) says) (refused_end r) x y
 refused-leaves says w v x y m us xs t Effect h k g s = (ap (λ z. answered (after_try z (λ u s. fine t s)) says) h, s ∙ cut-space v v x m g (keeps-same v))
 refused-leaves says w v x y m us xs t (Full what) h k g s = (ap (λ z. answered (after_try z (λ u s. fine t s)) says) h, s ∙ cut-space v v x m g (keeps-same v))
 refused-leaves says w v x y m us xs t Memory h k g s = tt
 
 -- ---- as the code has it
 
-pub all-ready : (says : World → Term → Answer) (w o v : World) (ts : List (List ℕ)) (h : Heap) (m : Marked) (y : ScratchSpace) (us : List ℕ) (xs : List (List ℕ)) (t : Term) (e : Evaluated) → o ≡ copied_world w (space_of ts h) → m ≡ mark_of h → placed o us xs ≡ fine tt v → Keeps o v → ((x : ScratchSpace) → GoesOnFrom v x m → Leaves (says v t) e x y) → Leaves (answered (made_ready w (space_of ts h) us xs t) says) e (space_of ts h) y
+pub all-ready : (says : World → Term → Answer) (w o v : World) (ts : List (List ℕ)) (h : Heap) (m : Marked) (y : ScratchSpace) (us : List ℕ) (xs : List (List ℕ)) (t : Term) (e : Evaluated)
+    → o ≡ copied_world w (space_of ts h)
+    → m ≡ mark_of h
+    → placed o us xs ≡ fine tt v
+    → Keeps o v
+    → ((x : ScratchSpace) → GoesOnFrom v x m → Leaves (says v t) e x y)
+    → Leaves (answered (made_ready w (space_of ts h) us xs t) says) e (space_of ts h) y
 all-ready says w o v ts h m y us xs t e i j f g k =
     let P : World → Type 0 = λ u. placed u us xs ≡ fine tt v in
     let Q : World → Type 0 = λ u. Keeps u v in
     ready-leaves says w v (space_of ts h) y us xs t e (subst P i f) (k (space_of ts h) (goes-from w v ts h m j (subst Q i g)))
 
-pub all-refused : (says : World → Term → Answer) (w o v : World) (ts : List (List ℕ)) (h : Heap) (m : Marked) (y : ScratchSpace) (us : List ℕ) (xs : List (List ℕ)) (t : Term) (r : Refused) (e : Evaluated) → o ≡ copied_world w (space_of ts h) → m ≡ mark_of h → (let s : Result (Unit {0}) Refused = Err r in Tries (placed o us xs) s v) → Keeps o v → e ≡ refused_end r → y ≡ space_behind e v m → Leaves (answered (made_ready w (space_of ts h) us xs t) says) e (space_of ts h) y
+pub all-refused : (says : World → Term → Answer) (w o v : World) (ts : List (List ℕ)) (h : Heap) (m : Marked) (y : ScratchSpace) (us : List ℕ) (xs : List (List ℕ)) (t : Term) (r : Refused) (e : Evaluated)
+    → o ≡ copied_world w (space_of ts h)
+    → m ≡ mark_of h
+    → (let s : Result (Unit {0}) Refused = Err r in Tries (placed o us xs) s v)
+    → Keeps o v
+    → e ≡ refused_end r
+    → y ≡ space_behind e v m
+    → Leaves (answered (made_ready w (space_of ts h) us xs t) says) e (space_of ts h) y
 all-refused says w o v ts h m y us xs t r e i j f g q k =
     let s : Result (Unit {0}) Refused = Err r in
     let P : World → Type 0 = λ u. Tries (placed u us xs) s v in

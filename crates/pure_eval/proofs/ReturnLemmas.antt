@@ -26,7 +26,10 @@ use Rattle.pure_eval.proofs.EvaluatorLemmas.{same-names, further-names, same-pro
 pub with-same : (t : NodeTable) → GoesOnWith t t []
 with-same t = record { entries = extends_same t; sources = sym (append-nil t.sources.items) }
 
-pub with-through : (t u v : NodeTable) (ds es : List SourceEntry) → GoesOnWith t u ds → GoesOnWith u v es → GoesOnWith t v (ds ++ es)
+pub with-through : (t u v : NodeTable) (ds es : List SourceEntry)
+    → GoesOnWith t u ds
+    → GoesOnWith u v es
+    → GoesOnWith t v (ds ++ es)
 with-through t u v ds es g h = record {
   entries = extends_twice t u v g.entries h.entries;
   sources = h.sources ∙ ap (λ xs. xs ++ es) g.sources ∙ append_assoc t.sources.items ds es;
@@ -49,7 +52,10 @@ came-first m p e k r = record { first = e; runs = r; marked = k; goes_on = went-
 pub came-on : (m : EvaluatorMark) (p : Program) (e f : Evaluator) → CameFrom m p e → WentOn e f → CameFrom m p f
 came-on m p e f c g = record { first = c.first; runs = c.runs; marked = c.marked; goes_on = went-through c.first e f c.goes_on g }
 
-pub came-after : (end : Evaluated) (m : EvaluatorMark) (p : Program) (e f : Evaluator) → WentOnAfter end e f → CameFrom m p e → CameAfter end m p f
+pub came-after : (end : Evaluated) (m : EvaluatorMark) (p : Program) (e f : Evaluator)
+    → WentOnAfter end e f
+    → CameFrom m p e
+    → CameAfter end m p f
 came-after (ends.Value v) m p e f g c = came-on m p e f c g
 came-after (ends.Thrown v) m p e f g c = came-on m p e f c g
 came-after ends.Effect m p e f g c = came-on m p e f c g
@@ -59,7 +65,14 @@ came-after ends.Memory m p e f g c = tt
 
 -- ---- coming back
 
-pub again : (first old new : Evaluator) (m : EvaluatorMark) → new.names ≡ old.names → new.next ≡ m.next → ((t : NodeTable) (es : List SourceEntry) → IsWhole t → IsMarkOf t m.table → GoesOnWith t old.table es → IsBack t new.table) → IsWhole first.table → IsMarked first m → WentOn first old → IsAgain first new
+pub again : (first old new : Evaluator) (m : EvaluatorMark)
+    → new.names ≡ old.names
+    → new.next ≡ m.next
+    → ((t : NodeTable) (es : List SourceEntry) → IsWhole t → IsMarkOf t m.table → GoesOnWith t old.table es → IsBack t new.table)
+    → IsWhole first.table
+    → IsMarked first m
+    → WentOn first old
+    → IsAgain first new
 again first old new m n x back w k g =
     let b : IsBack first.table new.table = back first.table g.entries w k.table g.table in
     let P : List (List ℕ) → Type 0 = λ ts. GoesOn first.names ts in
@@ -70,14 +83,20 @@ again first old new m n x back w k g =
       program = b.program;
     }
 
-pub came-again : (old new : Evaluator) (m : EvaluatorMark) (p : Program) → ((e : Evaluator) → IsWhole e.table → IsMarked e m → WentOn e old → IsAgain e new) → CameFrom m p old → Runs new p × CameFrom m p new
+pub came-again : (old new : Evaluator) (m : EvaluatorMark) (p : Program)
+    → ((e : Evaluator) → IsWhole e.table → IsMarked e m → WentOn e old → IsAgain e new)
+    → CameFrom m p old
+    → Runs new p × CameFrom m p new
 came-again old new m p back c =
     let i : IsAgain c.first new = back c.first c.runs.whole c.marked c.goes_on in
     (i.runs p c.runs, record { first = c.first; runs = c.runs; marked = c.marked; goes_on = i.goes_on })
 
 -- ---- behind an evaluation
 
-went_by : (end : Evaluated) (e f : Evaluator) → (is_kept end ≡ true → WentOn e f) → (is_kept end ≡ false → WentOn e f) → WentOnAfter end e f
+went_by : (end : Evaluated) (e f : Evaluator)
+    → (is_kept end ≡ true → WentOn e f)
+    → (is_kept end ≡ false → WentOn e f)
+    → WentOnAfter end e f
 went_by (ends.Value v) e f h k = h refl
 went_by (ends.Thrown v) e f h k = h refl
 went_by ends.Effect e f h k = k refl
@@ -85,7 +104,13 @@ went_by (ends.Full what) e f h k = k refl
 went_by ends.Spent e f h k = k refl
 went_by ends.Memory e f h k = tt
 
-pub went-after : (end : Evaluated) (old mid new : Evaluator) (base scratch : Heap) (x : Term) (a : Added) → IsWhole old.table → HasAdded old mid base scratch x a → new.names ≡ mid.names → (is_kept end ≡ true → (new.table ≡ mid.table) × (new.next ≡ a.next)) → (is_kept end ≡ false → (new.next ≡ mid.next) × ((t : NodeTable) (es : List SourceEntry) → IsWhole t → IsMarkOf t a.mark → GoesOnWith t mid.table es → IsBack t new.table)) → WentOnAfter end old new
+pub went-after : (end : Evaluated) (old mid new : Evaluator) (base scratch : Heap) (x : Term) (a : Added)
+    → IsWhole old.table
+    → HasAdded old mid base scratch x a
+    → new.names ≡ mid.names
+    → (is_kept end ≡ true → (new.table ≡ mid.table) × (new.next ≡ a.next))
+    → (is_kept end ≡ false → (new.next ≡ mid.next) × ((t : NodeTable) (es : List SourceEntry) → IsWhole t → IsMarkOf t a.mark → GoesOnWith t mid.table es → IsBack t new.table))
+    → WentOnAfter end old new
 went-after end old mid new base scratch x a w h n kept cut =
     let P : List (List ℕ) → Type 0 = λ ts. GoesOn old.names ts in
     let Q : NodeTable → Type 0 = λ t. GoesOnWith old.table t (h.source.entry ∷ []) in
@@ -96,7 +121,10 @@ went-after end old mid new base scratch x a w h n kept cut =
 
 -- ---- the program of a table
 
-pub code-of : (e : Evaluator) (q p : Program) → Runs e q → ((us : List (List ℕ)) → GoesOn e.names us → program_of us e.table ≡ p) → IsCodeOf e p
+pub code-of : (e : Evaluator) (q p : Program)
+    → Runs e q
+    → ((us : List (List ℕ)) → GoesOn e.names us → program_of us e.table ≡ p)
+    → IsCodeOf e p
 code-of e q p r h =
     let here : program_of e.names e.table ≡ p = h e.names (same-names e.names) in
     let steady : (us : List (List ℕ)) → GoesOn e.names us → program_of us e.table ≡ program_of e.names e.table = λ us g. h us g ∙ sym here in
@@ -113,7 +141,10 @@ code-again e new c i =
     code-of new (program_of e.names e.table) (program_of e.names e.table) (i.runs (program_of e.names e.table) c.runs)
     (λ us g. i.program us ∙ c.steady us (further-names e.names new.names us i.goes_on.names g))
 
-code_by : (end : Evaluated) (new : Evaluator) (p : Program) (s : SourceTree) → (is_kept end ≡ true → IsCodeOf new (p ++ s ∷ [])) → (is_kept end ≡ false → IsCodeOf new p) → CodeAfter end new p s
+code_by : (end : Evaluated) (new : Evaluator) (p : Program) (s : SourceTree)
+    → (is_kept end ≡ true → IsCodeOf new (p ++ s ∷ []))
+    → (is_kept end ≡ false → IsCodeOf new p)
+    → CodeAfter end new p s
 code_by (ends.Value v) new p s h k = h refl
 code_by (ends.Thrown v) new p s h k = h refl
 code_by ends.Effect new p s h k = k refl
@@ -121,7 +152,13 @@ code_by (ends.Full what) new p s h k = k refl
 code_by ends.Spent new p s h k = k refl
 code_by ends.Memory new p s h k = tt
 
-code_kept : (old mid new : Evaluator) (base scratch : Heap) (x : Term) (a : Added) → IsCode old → HasAdded old mid base scratch x a → new.names ≡ mid.names → new.table ≡ mid.table → new.next ≡ a.next → IsCodeOf new (program_of old.names old.table ++ kept_tree_at (next_of scratch) x ∷ [])
+code_kept : (old mid new : Evaluator) (base scratch : Heap) (x : Term) (a : Added)
+    → IsCode old
+    → HasAdded old mid base scratch x a
+    → new.names ≡ mid.names
+    → new.table ≡ mid.table
+    → new.next ≡ a.next
+    → IsCodeOf new (program_of old.names old.table ++ kept_tree_at (next_of scratch) x ∷ [])
 code_kept old mid new base scratch x a c h n t y =
     let p : Program = program_of old.names old.table in
     let s : SourceTree = kept_tree_at (next_of scratch) x in
@@ -132,14 +169,26 @@ code_kept old mid new base scratch x a c h n t y =
     let program : P mid.names = λ us g. h.source.program us g ∙ ap (λ q. q ++ s ∷ []) (c.steady us (further-names old.names mid.names us h.source.goes_on g)) in
     code-of new (s ∷ p) (p ++ s ∷ []) (stands-same mid.names new.names mid.table new.table (length scratch.cells + 1) new.next (s ∷ p) n t (y ∙ b.1) stands) (subst Q (sym t) (subst P (sym n) program))
 
-code_cut : (old mid new : Evaluator) (base scratch : Heap) (x : Term) (a : Added) → IsCode old → HasAdded old mid base scratch x a → new.names ≡ mid.names → new.next ≡ mid.next → IsBack old.table new.table → IsCodeOf new (program_of old.names old.table)
+code_cut : (old mid new : Evaluator) (base scratch : Heap) (x : Term) (a : Added)
+    → IsCode old
+    → HasAdded old mid base scratch x a
+    → new.names ≡ mid.names
+    → new.next ≡ mid.next
+    → IsBack old.table new.table
+    → IsCodeOf new (program_of old.names old.table)
 code_cut old mid new base scratch x a c h n y b =
     let p : Program = program_of old.names old.table in
     let P : List (List ℕ) → Type 0 = λ ts. (us : List (List ℕ)) → GoesOn ts us → program_of us new.table ≡ p in
     let program : P mid.names = λ us g. b.program us ∙ c.steady us (further-names old.names mid.names us h.source.goes_on g) in
     code-of new p p (stands-same mid.names new.names new.table new.table old.next new.next p n refl (y ∙ h.next) (stands-back old.names mid.names old.table new.table old.next p c.runs h.source.goes_on b)) (subst P (sym n) program)
 
-pub code-after : (end : Evaluated) (old mid new : Evaluator) (base scratch : Heap) (x : Term) (a : Added) → IsCode old → HasAdded old mid base scratch x a → new.names ≡ mid.names → (is_kept end ≡ true → (new.table ≡ mid.table) × (new.next ≡ a.next)) → (is_kept end ≡ false → (new.next ≡ mid.next) × ((t : NodeTable) (es : List SourceEntry) → IsWhole t → IsMarkOf t a.mark → GoesOnWith t mid.table es → IsBack t new.table)) → CodeAfter end new (program_of old.names old.table) (kept_tree_at (next_of scratch) x)
+pub code-after : (end : Evaluated) (old mid new : Evaluator) (base scratch : Heap) (x : Term) (a : Added)
+    → IsCode old
+    → HasAdded old mid base scratch x a
+    → new.names ≡ mid.names
+    → (is_kept end ≡ true → (new.table ≡ mid.table) × (new.next ≡ a.next))
+    → (is_kept end ≡ false → (new.next ≡ mid.next) × ((t : NodeTable) (es : List SourceEntry) → IsWhole t → IsMarkOf t a.mark → GoesOnWith t mid.table es → IsBack t new.table))
+    → CodeAfter end new (program_of old.names old.table) (kept_tree_at (next_of scratch) x)
 code-after end old mid new base scratch x a c h n kept cut =
     code_by end new (program_of old.names old.table) (kept_tree_at (next_of scratch) x) (λ o. let same = kept o in code_kept old mid new base scratch x a c h n same.0 same.1)
     (λ o. let back = cut o in code_cut old mid new base scratch x a c h n back.0 (back.1 old.table (h.source.entry ∷ []) c.runs.whole h.marked h.source.table))

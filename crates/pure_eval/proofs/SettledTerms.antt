@@ -123,7 +123,8 @@ call_settled m node (standing v place) args = refl
 call_settled m node (part (read r) now later) args = refl
 call_settled m node (part f now later) args = refl
 
-function_settled : (node : ℕ) (n : Option (List ℕ)) (ps : List (List ℕ)) (b : Items) (c : Context) → IsSettled (function_term node n ps b c)
+function_settled : (node : ℕ) (n : Option (List ℕ)) (ps : List (List ℕ)) (b : Items) (c : Context)
+    → IsSettled (function_term node n ps b c)
 function_settled node (Some n) ps b c = refl
 function_settled node None ps b c = refl
 
@@ -215,7 +216,8 @@ kept_settled : (at : Addr) (t : Term) → IsSettled t → IsSettled (literals_pl
 kept_settled (Scratch n) t h = placed_settled (λ i. Scratch i) _ t h
 kept_settled (Base n) t h = h
 
-pub kept-settled : (at : Addr) (e : Expr) → settle (kept_tree at (expression_source e)) ≡ kept_tree at (expression_source e)
+pub kept-settled : (at : Addr) (e : Expr)
+    → settle (kept_tree at (expression_source e)) ≡ kept_tree at (expression_source e)
 kept-settled at e =
     let c : Context = record { source = kept_source at; statement = 0; name = [] } in
     let h : MadeSettled (expression_source e) = expression-related settling keeps_settled e in

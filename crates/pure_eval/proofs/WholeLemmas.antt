@@ -16,7 +16,10 @@ use Rattle.pure_eval.proofs.StayLemmas.{here}
 lt_more : (m n k : ℕ) → n ≤ k → nat_lt m n ≡ true → nat_lt m k ≡ true
 lt_more m n k h e = grind arith
 
-more_entries : {X : Type 0} (xs ys : List X) (n : ℕ) → Begins xs ys → nat_lt n (length xs) ≡ true → nat_lt n (length ys) ≡ true
+more_entries : {X : Type 0} (xs ys : List X) (n : ℕ)
+    → Begins xs ys
+    → nat_lt n (length xs) ≡ true
+    → nat_lt n (length ys) ≡ true
 more_entries xs ys n b e = lt_more n (length xs) (length ys) (begins_length xs ys b) e
 
 names_more : (t u : NodeTable) (op : Op) (n : ℕ) → Extends t u → names_entry t op n ≡ true → names_entry u op n ≡ true
@@ -42,18 +45,34 @@ sides false m n e = inr (grind arith)
 pub either_side : (m n : ℕ) → (m < n) ⊎ (n ≤ m)
 either_side m n = sides (nat_lt m n) m n refl
 
-closed_at : (t u : NodeTable) (n : ℕ) (node : Node) → AreClosed t 0 → Extends t u → AreClosed u (length t.nodes.items) → slice_get u.nodes.items n ≡ Some node → (n < length t.nodes.items) ⊎ (length t.nodes.items ≤ n) → names_entry u node.op node.info ≡ true
+closed_at : (t u : NodeTable) (n : ℕ) (node : Node)
+    → AreClosed t 0
+    → Extends t u
+    → AreClosed u (length t.nodes.items)
+    → slice_get u.nodes.items n ≡ Some node
+    → (n < length t.nodes.items) ⊎ (length t.nodes.items ≤ n)
+    → names_entry u node.op node.info ≡ true
 closed_at t u n node c x d e (inl h) = names_more t u node.op node.info x (c n node (omega arith) (sym (here t.nodes.items u.nodes.items n x.nodes h) ∙ e))
 closed_at t u n node c x d e (inr h) = d n node h e
 
 pub closed-more : (t u : NodeTable) → AreClosed t 0 → Extends t u → AreClosed u (length t.nodes.items) → AreClosed u 0
 closed-more t u c x d = λ n node h e. closed_at t u n node c x d e (either_side n (length t.nodes.items))
 
-placed_at : (t u : NodeTable) (i : ℕ) (f : FunctionEntry) → ArePlaced t 0 → Extends t u → ArePlaced u (length t.functions.items) → slice_get u.functions.items i ≡ Some f → (i < length t.functions.items) ⊎ (length t.functions.items ≤ i) → f.at < length u.nodes.items
+placed_at : (t u : NodeTable) (i : ℕ) (f : FunctionEntry)
+    → ArePlaced t 0
+    → Extends t u
+    → ArePlaced u (length t.functions.items)
+    → slice_get u.functions.items i ≡ Some f
+    → (i < length t.functions.items) ⊎ (length t.functions.items ≤ i)
+    → f.at < length u.nodes.items
 placed_at t u i f c x d e (inl h) = omega (arith, c i f (omega arith) (sym (here t.functions.items u.functions.items i x.functions h) ∙ e), begins_length t.nodes.items u.nodes.items x.nodes)
 placed_at t u i f c x d e (inr h) = d i f h e
 
-pub placed-more : (t u : NodeTable) → ArePlaced t 0 → Extends t u → ArePlaced u (length t.functions.items) → ArePlaced u 0
+pub placed-more : (t u : NodeTable)
+    → ArePlaced t 0
+    → Extends t u
+    → ArePlaced u (length t.functions.items)
+    → ArePlaced u 0
 placed-more t u c x d = λ i f h e. placed_at t u i f c x d e (either_side i (length t.functions.items))
 
 pub within-more : (t u : NodeTable) (e : SourceEntry) → Extends t u → IsWithin t e → IsWithin u e
@@ -71,7 +90,13 @@ placed-end t from l = λ i f h e. absurd (omega (arith, slice_get_within t.funct
 
 -- ---- tests of one after another
 
-pub up-one : (P : ℕ → Type 0) (from i : ℕ) → ((n : ℕ) → from ≤ n → n < i → P n) → P i → (n : ℕ) → from ≤ n → n < i + 1 → P n
+pub up-one : (P : ℕ → Type 0) (from i : ℕ)
+    → ((n : ℕ) → from ≤ n → n < i → P n)
+    → P i
+    → (n : ℕ)
+    → from ≤ n
+    → n < i + 1
+    → P n
 up-one P from i c h n l g = turn (either_side n i)
   where
     turn : (n < i) ⊎ (i ≤ n) → P n
@@ -90,8 +115,18 @@ get_here [] i x h e = absurd (omega arith)
 get_here (y ∷ xs) zero x h e = ap (λ z. Some z) (sym e)
 get_here (y ∷ xs) (suc i) x h e = get_here xs i x (omega arith) e
 
-pub holds-here : {X : Type 0} (P : X → Type 0) (xs : List X) (i : ℕ) (x : X) → i < length xs → x ≡ get_or xs i x → P x → HoldsAt P xs i
+pub holds-here : {X : Type 0} (P : X → Type 0) (xs : List X) (i : ℕ) (x : X)
+    → i < length xs
+    → x ≡ get_or xs i x
+    → P x
+    → HoldsAt P xs i
 holds-here P xs i x h e p = λ y f. subst P (some_same x y (slice_get xs i) (get_here xs i x h e) f) p
 
-pub holds-all : {X : Type 0} (P : X → Type 0) (xs : List X) (from i : ℕ) → length xs ≤ i → ((n : ℕ) → from ≤ n → n < i → HoldsAt P xs n) → (n : ℕ) (x : X) → from ≤ n → slice_get xs n ≡ Some x → P x
+pub holds-all : {X : Type 0} (P : X → Type 0) (xs : List X) (from i : ℕ)
+    → length xs ≤ i
+    → ((n : ℕ) → from ≤ n → n < i → HoldsAt P xs n)
+    → (n : ℕ) (x : X)
+    → from ≤ n
+    → slice_get xs n ≡ Some x
+    → P x
 holds-all P xs from i l h n x k e = h n k (omega (arith, slice_get_within xs n x e)) x e

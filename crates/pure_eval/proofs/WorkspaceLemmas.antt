@@ -30,7 +30,8 @@ use Rattle.pure_eval.proofs.StayLemmas.{sources-stay}
 
 -- ---- the program
 
-pub program-length : (ts : List (List ℕ)) (t : NodeTable) (es : List SourceEntry) → length (source_trees ts t es) ≡ length es
+pub program-length : (ts : List (List ℕ)) (t : NodeTable) (es : List SourceEntry)
+    → length (source_trees ts t es) ≡ length es
 program-length ts t [] = refl
 program-length ts t (e ∷ es) = ap suc (program-length ts t es)
 
@@ -40,21 +41,33 @@ made p n x = record { program = p; scripts = n; scratch = x }
 made_same : (p q : Program) (n m : ℕ) (x y : ScratchSpace) → p ≡ q → n ≡ m → x ≡ y → made p n x ≡ made q m y
 made_same p q n m x y e f g = ap (λ r. made r n x) e ∙ ap (λ k. made q k x) f ∙ ap (made q m) g
 
-pub begun-is : (e : Evaluator) (n : ℕ) (h : Heap) (p : Program) → IsCodeOf e p → n ≡ length e.table.sources.items → space_of e.names h ≡ first_space → workspace_of e n h ≡ begun p
+pub begun-is : (e : Evaluator) (n : ℕ) (h : Heap) (p : Program)
+    → IsCodeOf e p
+    → n ≡ length e.table.sources.items
+    → space_of e.names h ≡ first_space
+    → workspace_of e n h ≡ begun p
 begun-is e n h p c f g =
     made_same (program_of e.names e.table) p n (length p) (space_of e.names h) first_space c.program
     (f ∙ sym (program-length e.names e.table e.table.sources.items) ∙ ap length c.program) g
 
-pub working-first : (e : Evaluator) (n : ℕ) (m : EvaluatorMark) → IsCode e → IsMarked e m → n ≡ length e.table.sources.items → IsWorking e n m
+pub working-first : (e : Evaluator) (n : ℕ) (m : EvaluatorMark)
+    → IsCode e
+    → IsMarked e m
+    → n ≡ length e.table.sources.items
+    → IsWorking e n m
 working-first e n m c k f = record { code = c; first = e; first_code = c; marked = k; goes_on = went-same e c.runs.whole; count = sym f }
 
 -- ---- opened
 
-take_program : (e : Evaluator) (m : EvaluatorMark) → IsMarked e m → take m.table.sources (program_of e.names e.table) ≡ program_of e.names e.table
+take_program : (e : Evaluator) (m : EvaluatorMark)
+    → IsMarked e m
+    → take m.table.sources (program_of e.names e.table) ≡ program_of e.names e.table
 take_program e m k =
     ap (λ n. take n (program_of e.names e.table)) (k.table.sources ∙ sym (program-length e.names e.table e.table.sources.items)) ∙ take-length (program_of e.names e.table)
 
-pub space_over : (ts : List (List ℕ)) (base h : Heap) (o : Over) → over_world ts o ≡ copied_world (heap_world ts base) (space_of ts h) → space_after (over_world ts o) ≡ space_of ts h
+pub space_over : (ts : List (List ℕ)) (base h : Heap) (o : Over)
+    → over_world ts o ≡ copied_world (heap_world ts base) (space_of ts h)
+    → space_after (over_world ts o) ≡ space_of ts h
 space_over ts base h o e = ap space_after e
 
 space_mark : (ts : List (List ℕ)) (h : Heap) → space_at (space_of ts h) (mark_of h) ≡ space_of ts h
@@ -65,7 +78,13 @@ space_mark ts h =
 abbrev pub made_open : World → Program → ScratchSpace → Program → ScratchSpace → ℕ → Opened
 made_open w p x q y n = record { world = w; before = made p n x; behind = made q n y }
 
-pub opened-is : (e : Evaluator) (n : ℕ) (m : EvaluatorMark) (base h : Heap) (o : Over) (k : Marked) (names : List (List ℕ)) → IsMarked e m → IsKnown base names e.names → ((us more : List (List ℕ)) → base.ends ≤ length us → heap_world (us ++ more) base ≡ heap_world us base) → ((ts : List (List ℕ)) → over_world ts o ≡ copied_world (heap_world ts base) (space_of ts h)) → k ≡ mark_of h → opened_of e n m base o k ≡ opened (heap_world names base) (workspace_of e n h)
+pub opened-is : (e : Evaluator) (n : ℕ) (m : EvaluatorMark) (base h : Heap) (o : Over) (k : Marked) (names : List (List ℕ))
+    → IsMarked e m
+    → IsKnown base names e.names
+    → ((us more : List (List ℕ)) → base.ends ≤ length us → heap_world (us ++ more) base ≡ heap_world us base)
+    → ((ts : List (List ℕ)) → over_world ts o ≡ copied_world (heap_world ts base) (space_of ts h))
+    → k ≡ mark_of h
+    → opened_of e n m base o k ≡ opened (heap_world names base) (workspace_of e n h)
 opened-is e n m base h o k names marked known further over is =
     let p : Program = program_of e.names e.table in
     let x : ScratchSpace = space_of e.names h in
@@ -76,7 +95,15 @@ opened-is e n m base h o k names marked known further over is =
     ∙ ap (λ y. made_open (heap_world names base) p y p (space_after (over_world e.names o)) n) first
     ∙ ap (λ y. made_open (heap_world names base) p x p y n) there
 
-pub open-is : (e : Evaluator) (n : ℕ) (start m : EvaluatorMark) (base h : Heap) (o : Over) (k : Marked) (count : ℕ) (next : Addr) → IsWorking e n start → IsMarked e m → ((ts : List (List ℕ)) → over_world ts o ≡ copied_world (heap_world ts base) (space_of ts h)) → o.base ≡ base → k ≡ mark_of h → next ≡ next_of h → ((i : ℕ) → next ≡ Scratch i → count ≡ i) → IsOpen e n start m base o k count next
+pub open-is : (e : Evaluator) (n : ℕ) (start m : EvaluatorMark) (base h : Heap) (o : Over) (k : Marked) (count : ℕ) (next : Addr)
+    → IsWorking e n start
+    → IsMarked e m
+    → ((ts : List (List ℕ)) → over_world ts o ≡ copied_world (heap_world ts base) (space_of ts h))
+    → o.base ≡ base
+    → k ≡ mark_of h
+    → next ≡ next_of h
+    → ((i : ℕ) → next ≡ Scratch i → count ≡ i)
+    → IsOpen e n start m base o k count next
 open-is e n start m base h o k count next working marked over based is next_is number =
     let at : count ≡ length h.cells = number (length h.cells) next_is in
     let there : (ts : List (List ℕ)) → space_after (over_world ts o) ≡ space_of ts h = λ ts. space_over ts base h o (over ts) in
@@ -94,11 +121,16 @@ open-is e n start m base h o k count next working marked over based is next_is n
 
 -- ---- cut back
 
-trees_append : (ts : List (List ℕ)) (t : NodeTable) (ds es : List SourceEntry) → source_trees ts t (ds ++ es) ≡ source_trees ts t ds ++ source_trees ts t es
+trees_append : (ts : List (List ℕ)) (t : NodeTable) (ds es : List SourceEntry)
+    → source_trees ts t (ds ++ es) ≡ source_trees ts t ds ++ source_trees ts t es
 trees_append ts t [] es = refl
 trees_append ts t (d ∷ ds) es = ap (λ ps. source_tree ts t d ∷ ps) (trees_append ts t ds es)
 
-pub program-first : (b e : Evaluator) (n : ℕ) → IsCode b → WentOn b e → n ≡ length b.table.sources.items → take n (program_of e.names e.table) ≡ program_of b.names b.table
+pub program-first : (b e : Evaluator) (n : ℕ)
+    → IsCode b
+    → WentOn b e
+    → n ≡ length b.table.sources.items
+    → take n (program_of e.names e.table) ≡ program_of b.names b.table
 program-first b e n c g f =
     let w : IsWhole b.table = c.runs.whole in
     let first : Program = source_trees e.names e.table b.table.sources.items in
@@ -107,7 +139,10 @@ program-first b e n c g f =
     let stays : first ≡ program_of b.names b.table = sources-stay e.names b.table e.table b.table.sources.items w.table w.closed g.table.entries w.sources ∙ c.steady e.names g.names in
     ap (take n) parts ∙ ap (λ k. take k (first ++ more)) (f ∙ sym (program-length e.names e.table b.table.sources.items)) ∙ take-append_seam first more ∙ stays
 
-pub working-again : (first new : Evaluator) (n : ℕ) (m : EvaluatorMark) → IsWorking first n m → IsAgain first new → IsWorking new n m
+pub working-again : (first new : Evaluator) (n : ℕ) (m : EvaluatorMark)
+    → IsWorking first n m
+    → IsAgain first new
+    → IsWorking new n m
 working-again first new n m w a = record {
   code = (code-again first new w.code a).code;
   first = w.first;
@@ -117,21 +152,37 @@ working-again first new n m w a = record {
   count = w.count;
 }
 
-pub emptied-is : (old new : Evaluator) (n : ℕ) (m : EvaluatorMark) (h k : Heap) → IsWorking old n m → ((e : Evaluator) → IsWhole e.table → IsMarked e m → WentOn e old → IsAgain e new) → space_of new.names k ≡ first_space → workspace_of new n k ≡ emptied_workspace (workspace_of old n h)
+pub emptied-is : (old new : Evaluator) (n : ℕ) (m : EvaluatorMark) (h k : Heap)
+    → IsWorking old n m
+    → ((e : Evaluator) → IsWhole e.table → IsMarked e m → WentOn e old → IsAgain e new)
+    → space_of new.names k ≡ first_space
+    → workspace_of new n k ≡ emptied_workspace (workspace_of old n h)
 emptied-is old new n m h k w cut f =
     let a : IsAgain w.first new = cut w.first w.first_code.runs.whole w.marked w.goes_on in
     made_same (program_of new.names new.table) (take n (program_of old.names old.table)) n n (space_of new.names k) first_space ((code-again w.first new w.first_code a).program ∙ sym (program-first w.first old n w.first_code w.goes_on (sym w.count))) refl f
 
-pub emptied-working : (old new : Evaluator) (n : ℕ) (m : EvaluatorMark) → IsWorking old n m → ((e : Evaluator) → IsWhole e.table → IsMarked e m → WentOn e old → IsAgain e new) → IsWorking new n m
+pub emptied-working : (old new : Evaluator) (n : ℕ) (m : EvaluatorMark)
+    → IsWorking old n m
+    → ((e : Evaluator) → IsWhole e.table → IsMarked e m → WentOn e old → IsAgain e new)
+    → IsWorking new n m
 emptied-working old new n m w cut =
     let a : IsAgain w.first new = cut w.first w.first_code.runs.whole w.marked w.goes_on in
     working-again w.first new n m (working-first w.first n m w.first_code w.marked (sym w.count)) a
 
-pub forgotten-working : (e new : Evaluator) (n : ℕ) (start m : EvaluatorMark) (base : Heap) (o : Over) (k : Marked) (count : ℕ) (next : Addr) → IsOpen e n start m base o k count next → ((b : Evaluator) → IsWhole b.table → IsMarked b m → WentOn b e → IsAgain b new) → IsWorking new n start
+pub forgotten-working : (e new : Evaluator) (n : ℕ) (start m : EvaluatorMark) (base : Heap) (o : Over) (k : Marked) (count : ℕ) (next : Addr)
+    → IsOpen e n start m base o k count next
+    → ((b : Evaluator) → IsWhole b.table → IsMarked b m → WentOn b e → IsAgain b new)
+    → IsWorking new n start
 forgotten-working e new n start m base o k count next i cut =
     working-again i.before new n start i.before_working (cut i.before i.before_working.code.runs.whole i.marked i.goes_on)
 
-pub forgotten-is : (e new : Evaluator) (n : ℕ) (start m : EvaluatorMark) (base h g : Heap) (o : Over) (k : Marked) (count : ℕ) (next : Addr) → IsOpen e n start m base o k count next → ((b : Evaluator) → IsWhole b.table → IsMarked b m → WentOn b e → IsAgain b new) → new.names ≡ e.names → ((ts : List (List ℕ)) → space_of ts h ≡ space_after (over_world ts o)) → ((ts : List (List ℕ)) → space_of ts g ≡ space_at (space_of ts h) k) → workspace_of new n g ≡ (opened_of e n m base o k).before
+pub forgotten-is : (e new : Evaluator) (n : ℕ) (start m : EvaluatorMark) (base h g : Heap) (o : Over) (k : Marked) (count : ℕ) (next : Addr)
+    → IsOpen e n start m base o k count next
+    → ((b : Evaluator) → IsWhole b.table → IsMarked b m → WentOn b e → IsAgain b new)
+    → new.names ≡ e.names
+    → ((ts : List (List ℕ)) → space_of ts h ≡ space_after (over_world ts o))
+    → ((ts : List (List ℕ)) → space_of ts g ≡ space_at (space_of ts h) k)
+    → workspace_of new n g ≡ (opened_of e n m base o k).before
 forgotten-is e new n start m base h g o k count next i cut names over was =
     let a : IsAgain i.before new = cut i.before i.before_working.code.runs.whole i.marked i.goes_on in
     made_same (program_of new.names new.table) (take m.table.sources (program_of e.names e.table)) n n (space_of new.names g) (space_at (space_after (over_world e.names o)) k)
@@ -143,7 +194,10 @@ forgotten-is e new n start m base h g o k count next i cut names over was =
 abbrev get_at : List (List ℕ) → ℕ → List ℕ
 get_at ts i = unwrap_or (slice_get ts i) []
 
-same_entries : (ts us : List (List ℕ)) → length ts ≤ length us → ((i : ℕ) → i < length ts → get_at ts i ≡ get_at us i) → GoesOn ts us
+same_entries : (ts us : List (List ℕ))
+    → length ts ≤ length us
+    → ((i : ℕ) → i < length ts → get_at ts i ≡ get_at us i)
+    → GoesOn ts us
 same_entries [] us l h = record { more = us; is = refl }
 same_entries (t ∷ ts) [] l h = absurd (omega (arith, l))
 same_entries (t ∷ ts) (u ∷ us) l h =
@@ -155,7 +209,11 @@ or_there [] i d h = absurd (omega (arith, h))
 or_there (t ∷ ts) zero d h = refl
 or_there (t ∷ ts) (suc i) d h = or_there ts i d (omega (arith, h))
 
-pub names-go-on : (ts us : List (List ℕ)) (n : ℕ) → length ts ≤ length us → length ts ≤ n → ((i : ℕ) → 0 ≤ i → i < n → name_of ts i ≡ name_of us i) → GoesOn ts us
+pub names-go-on : (ts us : List (List ℕ)) (n : ℕ)
+    → length ts ≤ length us
+    → length ts ≤ n
+    → ((i : ℕ) → 0 ≤ i → i < n → name_of ts i ≡ name_of us i)
+    → GoesOn ts us
 unfolding name_of
 names-go-on ts us n l b h =
     same_entries ts us l (λ i k. sym (or_there ts i (spare ts i) k) ∙ h i (omega arith) (omega (arith, b, k)) ∙ or_there us i (spare us i) (omega (arith, l, k)))

@@ -70,7 +70,8 @@ abbrev mutual
   term_is_read (part f now later) ws r =
       terms_are_read now (terms_words later (a_form f ∷ ws)) r ∙ terms_are_read later (a_form f ∷ ws) (terms_read now r)
 
-  terms_are_read : (ts : Terms) (ws : List Word) (r : Read) → read_words r (terms_words ts ws) ≡ read_words (terms_read ts r) ws
+  terms_are_read : (ts : Terms) (ws : List Word) (r : Read)
+      → read_words r (terms_words ts ws) ≡ read_words (terms_read ts r) ws
   terms_are_read end ws r = refl
   terms_are_read (more t ts) ws r =
       term_is_read t (terms_words ts (a_part ∷ ws)) r ∙ terms_are_read ts (a_part ∷ ws) (term_read t r)

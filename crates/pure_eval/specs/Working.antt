@@ -29,7 +29,8 @@ pub record IsOpen (e : Evaluator) (scripts : ℕ) (start mark : EvaluatorMark) (
   pub marked : IsMarked before mark
   pub goes_on : WentOn before e
   pub base_is : world.base ≡ base
-  pub ready : (ts : List (List ℕ)) → over_world ts world ≡ copied_world (heap_world ts base) (space_after (over_world ts world))
+  pub ready : (ts : List (List ℕ))
+      → over_world ts world ≡ copied_world (heap_world ts base) (space_after (over_world ts world))
   pub marked_cells : cells.count ≡ count
   pub next_is : next ≡ next_kept (space_after (over_world e.names world))
 

@@ -9,7 +9,8 @@ use Rattle.remote_objects.specs.Making.{made_all}
 use Rattle.remote_objects.specs.Descriptors.{Slot, slots_of, content_made, descriptor, property_slot}
 use Rattle.remote_objects.specs.Laws.{AreDescriptors, DescribesEach, slot_name, key_of}
 
-described-each : (s : Sight) (detail : Detail) (group : Option (List ℕ)) (ps : List Slot) (h : State) → AreDescriptors ps (made_all (descriptor s detail group) ps h).made
+described-each : (s : Sight) (detail : Detail) (group : Option (List ℕ)) (ps : List Slot) (h : State)
+    → AreDescriptors ps (made_all (descriptor s detail group) ps h).made
 described-each s detail group [] h = tt
 described-each s detail group (p ∷ ps) h = (((content_made s detail group p.content h).made, refl), described-each s detail group ps (descriptor s detail group p h).handles)
 

@@ -24,14 +24,20 @@ use Rattle.remote_objects.proofs.MakingLemmas.{got-here}
 
 -- where a part is too long, the whole is
 pub stopped : {A B D : Type 0} (view : A → B) (r : Result A ByValueFault) (e : ByValueFault) (deep met left : ℕ) (whole : Given B) (d m : ℕ) (part : Given D)
-    → (Exceeds d m part → Exceeds deep met whole) → IsErrAnd r (λ k. k ≡ e) → Faults e d m part → Answers view r deep met left whole
+    → (Exceeds d m part → Exceeds deep met whole)
+    → IsErrAnd r (λ k. k ≡ e)
+    → Faults e d m part
+    → Answers view r deep met left whole
 stopped view (Ok a) e deep met left whole d m part up is says = absurd is
 stopped view (Err faults.TooLong) faults.TooLong deep met left whole d m part up is says = up says
 stopped view (Err faults.TooLong) faults.Memory deep met left whole d m part up is says = cc
 stopped view (Err faults.Memory) e deep met left whole d m part up is says = tt
 
 -- no value may be met
-pub not-met : {A B : Type 0} (view : A → B) (r : Result A ByValueFault) (e : ByValueFault) (deep met left : ℕ) (whole : Given B) → 0 < whole.met → (e ≡ faults.TooLong) × (met ≡ 0) → IsErrAnd r (λ k. k ≡ e)
+pub not-met : {A B : Type 0} (view : A → B) (r : Result A ByValueFault) (e : ByValueFault) (deep met left : ℕ) (whole : Given B)
+    → 0 < whole.met
+    → (e ≡ faults.TooLong) × (met ≡ 0)
+    → IsErrAnd r (λ k. k ≡ e)
     → Answers view r deep met left whole
 not-met view (Ok a) e deep met left whole some unmet is = absurd is
 not-met view (Err faults.TooLong) e deep met left whole some unmet is = inr (omega (arith, some, unmet.1))
@@ -50,7 +56,10 @@ pub record Goes {B : Type 0} (deep met left : ℕ) (done : List B) (rest whole :
   pub within : rest.depth ≤ deep → whole.depth ≤ deep
   pub deepest : rest.depth ≤ whole.depth
 
-front-is : {B : Type 0} (done new front rest whole : List B) → new ≡ done ++ front → done ++ (front ++ rest) ≡ whole → new ++ rest ≡ whole
+front-is : {B : Type 0} (done new front rest whole : List B)
+    → new ≡ done ++ front
+    → done ++ (front ++ rest) ≡ whole
+    → new ++ rest ≡ whole
 front-is done new front rest whole put is = ap (λ xs. xs ++ rest) put ∙ (append_assoc done front rest ∙ is)
 
 -- one is given
@@ -96,7 +105,10 @@ ends {A} f xs deep met left done whole none inv =
 -- ---- parts
 
 -- the same in another form
-pub fits-mapped : {A B : Type 0} (f : A → B) (a : A) (b : B) (deep met left : ℕ) (g : Given A) → b ≡ f a → Fits a deep met left g → Fits b deep met left (mapped f g)
+pub fits-mapped : {A B : Type 0} (f : A → B) (a : A) (b : B) (deep met left : ℕ) (g : Given A)
+    → b ≡ f a
+    → Fits a deep met left g
+    → Fits b deep met left (mapped f g)
 fits-mapped f a b deep met left g here fits = record { is = here ∙ ap f fits.is; within = fits.within; counted = fits.counted }
 
 -- ---- a list that is asked for each of its places
@@ -107,13 +119,17 @@ here-so xs i d h = rw add-one (drop-cons xs i d h)
 -- an element is put
 pub element-goes : {A B : Type 0} (f : A → Given (List B)) (xs : List A) (i : ℕ) (d : A) (deep met left more : ℕ) (done new : List B) (whole : Given (List B))
     → i < length xs → Fits new deep left more (mapped (λ parts. done ++ parts) (f (get_or xs i d)))
-    → Goes deep met left done (all_given f (drop i xs)) whole → Goes deep met more new (all_given f (drop (i + 1) xs)) whole
+    → Goes deep met left done (all_given f (drop i xs)) whole
+    → Goes deep met more new (all_given f (drop (i + 1) xs)) whole
 element-goes f xs i d deep met left more done new whole h fits inv =
     goes f (drop i xs) (get_or xs i d) (drop (i + 1) xs) deep met left more done new whole (here-so xs i d h) fits.is fits.within fits.counted inv
 
 -- an element is too long
 pub element-stops : {A B C D : Type 0} (view : C → D) (form : List B → D) (f : A → Given (List B)) (xs : List A) (i : ℕ) (d : A) (r : Result C ByValueFault) (fault : ByValueFault) (deep met left more : ℕ) (done : List B) (whole : Given (List B))
-    → i < length xs → Goes deep met left done (all_given f (drop i xs)) whole → Faults fault deep left (mapped (λ parts. done ++ parts) (f (get_or xs i d))) → IsErrAnd r (λ k. k ≡ fault)
+    → i < length xs
+    → Goes deep met left done (all_given f (drop i xs)) whole
+    → Faults fault deep left (mapped (λ parts. done ++ parts) (f (get_or xs i d)))
+    → IsErrAnd r (λ k. k ≡ fault)
     → Answers view r deep met more (mapped form whole)
 element-stops view form f xs i d r fault deep met left more done whole h inv says is =
     stopped view r fault deep met more (mapped form whole) deep left (mapped (λ parts. done ++ parts) (f (get_or xs i d))) (stops f (drop i xs) (get_or xs i d) (drop (i + 1) xs) deep met left done whole (here-so xs i d h) inv) is says
@@ -121,26 +137,35 @@ element-stops view form f xs i d r fault deep met left more done whole h inv say
 -- a property is put
 pub property-goes : {A B : Type 0} (f : A → Given (List B)) (xs : List A) (i : ℕ) (x : A) (deep met left more : ℕ) (done new : List B) (whole : Given (List B))
     → Some x ≡ slice_get xs i → Fits new deep left more (mapped (λ parts. done ++ parts) (f x))
-    → Goes deep met left done (all_given f (drop i xs)) whole → Goes deep met more new (all_given f (drop (i + 1) xs)) whole
+    → Goes deep met left done (all_given f (drop i xs)) whole
+    → Goes deep met more new (all_given f (drop (i + 1) xs)) whole
 property-goes f xs i x deep met left more done new whole e fits inv =
     goes f (drop i xs) x (drop (i + 1) xs) deep met left more done new whole (got-next xs i x e) fits.is fits.within fits.counted inv
 
 -- a property is too long
 pub property-stops : {A B C D : Type 0} (view : C → D) (form : List B → D) (f : A → Given (List B)) (xs : List A) (i : ℕ) (x : A) (r : Result C ByValueFault) (fault : ByValueFault) (deep met left more : ℕ) (done : List B) (whole : Given (List B))
-    → Some x ≡ slice_get xs i → Goes deep met left done (all_given f (drop i xs)) whole → Faults fault deep left (mapped (λ parts. done ++ parts) (f x)) → IsErrAnd r (λ k. k ≡ fault)
+    → Some x ≡ slice_get xs i
+    → Goes deep met left done (all_given f (drop i xs)) whole
+    → Faults fault deep left (mapped (λ parts. done ++ parts) (f x))
+    → IsErrAnd r (λ k. k ≡ fault)
     → Answers view r deep met more (mapped form whole)
 property-stops view form f xs i x r fault deep met left more done whole e inv says is =
     stopped view r fault deep met more (mapped form whole) deep left (mapped (λ parts. done ++ parts) (f x)) (stops f (drop i xs) x (drop (i + 1) xs) deep met left done whole (got-next xs i x e) inv) is says
 
 -- all are put
 pub list-ends : {A B D : Type 0} (form : List B → D) (f : A → Given (List B)) (xs : List A) (i : ℕ) (deep met left : ℕ) (done : List B) (made : D) (whole : Given (List B))
-    → length xs ≤ i → Goes deep met left done (all_given f (drop i xs)) whole → made ≡ form done → Fits made deep met left (mapped form whole)
+    → length xs ≤ i
+    → Goes deep met left done (all_given f (drop i xs)) whole
+    → made ≡ form done
+    → Fits made deep met left (mapped form whole)
 list-ends form f xs i deep met left done made whole past inv is =
     fits-mapped form done made deep met left whole is (ends f (drop i xs) deep met left done whole (drop_of_length-le xs past) inv)
 
 -- a function is null in a list
 pub element-put : (w : World) (way : Value → Given json.Json) (v : Value) (old new : List Json) (j put : Json) (deep met left : ℕ)
-    → Fits (json_view j) deep met left (way v) → json_view put ∷ [] ≡ element_of w v (json_view j) → new ≡ old ++ put ∷ []
+    → Fits (json_view j) deep met left (way v)
+    → json_view put ∷ [] ≡ element_of w v (json_view j)
+    → new ≡ old ++ put ∷ []
     → Fits (map json_view new) deep met left (mapped (λ parts. map json_view old ++ parts) (element_given w way v))
 element-put w way v old new j put deep met left fits same pushed = record {
   is = ap (map json_view) pushed ∙ (map-append json_view old (put ∷ [])
@@ -153,7 +178,10 @@ element-put w way v old new j put deep met left fits same pushed = record {
 abbrev chosen : Bool → Bool → List ℕ → Given json.Json → Given (List Pair)
 chosen b c key g = if b then (if c then left_out else mapped (member_of key) g) else no_parts
 
-chosen-is : (w : World) (way : Value → Given json.Json) (p : Property) (b c : Bool) → p.enumerable ≡ b → is_left_out w p.value ≡ c → chosen b c p.key (way p.value) ≡ member_given w way p
+chosen-is : (w : World) (way : Value → Given json.Json) (p : Property) (b c : Bool)
+    → p.enumerable ≡ b
+    → is_left_out w p.value ≡ c
+    → chosen b c p.key (way p.value) ≡ member_given w way p
 chosen-is w way p b c on out = sym (ap₂ (λ x y. chosen x y p.key (way p.value)) on out)
 
 low-none : (deep : ℕ) → 0 ≤ deep
@@ -163,32 +191,44 @@ none-met : (met : ℕ) → met + 0 ≡ met
 none-met met = omega arith
 
 -- a property that isn't enumerable isn't met
-pub member-none : (w : World) (way : Value → Given json.Json) (p : Property) (done : List Pair) (deep met : ℕ) → p.enumerable ≡ false
+pub member-none : (w : World) (way : Value → Given json.Json) (p : Property) (done : List Pair) (deep met : ℕ)
+    → p.enumerable ≡ false
     → Fits done deep met met (mapped (λ parts. done ++ parts) (member_given w way p))
 member-none w way p done deep met off =
     let P : Given (List Pair) → Type 0 = λ g. Fits done deep met met (mapped (λ parts. done ++ parts) g) in
     subst P (chosen-is w way p false (is_left_out w p.value) off refl) (record { is = sym (append-nil done); within = low-none deep; counted = none-met met })
 
-out-met : {A : Type 0} (r : Result A ByValueFault) (done : List Pair) (deep met left : ℕ) → Meets r met left → Puts done done r deep met left left_out
+out-met : {A : Type 0} (r : Result A ByValueFault) (done : List Pair) (deep met left : ℕ)
+    → Meets r met left
+    → Puts done done r deep met left left_out
 out-met (Ok a) done deep met left meets = record { is = sym (append-nil done); within = low-none deep; counted = omega (arith, meets) }
 out-met (Err faults.TooLong) done deep met left meets = let over : met < 1 = omega (arith, meets.1) in inr over
 out-met (Err faults.Memory) done deep met left meets = tt
 
 -- one that is left out is met
 pub member-out : {A : Type 0} (w : World) (way : Value → Given json.Json) (p : Property) (done : List Pair) (r : Result A ByValueFault) (deep met left : ℕ)
-    → p.enumerable ≡ true → is_left_out w p.value ≡ true → Meets r met left → Puts done done r deep met left (member_given w way p)
+    → p.enumerable ≡ true
+    → is_left_out w p.value ≡ true
+    → Meets r met left
+    → Puts done done r deep met left (member_given w way p)
 member-out w way p done r deep met left on out meets =
     let P : Given (List Pair) → Type 0 = λ g. Puts done done r deep met left g in
     subst P (chosen-is w way p true true on out) (out-met r done deep met left meets)
 
-pub member-stops : (w : World) (way : Value → Given json.Json) (p : Property) (deep met : ℕ) → p.enumerable ≡ true → is_left_out w p.value ≡ false
+pub member-stops : (w : World) (way : Value → Given json.Json) (p : Property) (deep met : ℕ)
+    → p.enumerable ≡ true
+    → is_left_out w p.value ≡ false
     → Exceeds deep met (way p.value) → Exceeds deep met (member_given w way p)
 member-stops w way p deep met on held long =
     let P : Given (List Pair) → Type 0 = λ g. Exceeds deep met g in
     subst P (chosen-is w way p true false on held) long
 
 pub member-put : (w : World) (way : Value → Given json.Json) (p : Property) (old new : List Member) (j : Json) (m : Member) (deep met left : ℕ)
-    → p.enumerable ≡ true → is_left_out w p.value ≡ false → Fits (json_view j) deep met left (way p.value) → member_view m ≡ (p.key, json_view j) → new ≡ old ++ m ∷ []
+    → p.enumerable ≡ true
+    → is_left_out w p.value ≡ false
+    → Fits (json_view j) deep met left (way p.value)
+    → member_view m ≡ (p.key, json_view j)
+    → new ≡ old ++ m ∷ []
     → Fits (map member_view new) deep met left (mapped (λ parts. map member_view old ++ parts) (member_given w way p))
 member-put w way p old new j m deep met left on held fits same pushed =
     let P : Given (List Pair) → Type 0 = λ g. Fits (map member_view new) deep met left (mapped (λ parts. map member_view old ++ parts) g) in
@@ -215,7 +255,9 @@ unfolding object_given
 object-counts w zero a = some-met 0
 object-counts w (suc n) a = some-met (parts_given w (value_given w n) (read_cell w a)).met
 
-object-deep : (w : World) (n : ℕ) (a : Addr) → 0 < n → around (parts_given w (value_given w (n - 1)) (read_cell w a)) ≡ object_given w n a
+object-deep : (w : World) (n : ℕ) (a : Addr)
+    → 0 < n
+    → around (parts_given w (value_given w (n - 1)) (read_cell w a)) ≡ object_given w n a
 unfolding object_given
 object-deep w zero a some = absurd (omega (arith, some))
 object-deep w (suc n) a some =
@@ -234,7 +276,11 @@ around-answers view (Err faults.Memory) deep met more left g some one-met says =
 
 -- an object's parts are given
 pub object-answers : {A : Type 0} (view : A → json.Json) (w : World) (r : Result A ByValueFault) (deep met more left : ℕ) (a : Addr) (cell : Option Cell)
-    → 0 < deep → suc more ≡ met → cell ≡ read_cell w a → Answers view r (deep - 1) more left (parts_given w (value_given w (deep - 1)) cell) → Answers view r deep met left (object_given w deep a)
+    → 0 < deep
+    → suc more ≡ met
+    → cell ≡ read_cell w a
+    → Answers view r (deep - 1) more left (parts_given w (value_given w (deep - 1)) cell)
+    → Answers view r deep met left (object_given w deep a)
 object-answers view w r deep met more left a cell some one-met found says =
     let P : Given json.Json → Type 0 = λ g. Answers view r deep met left g in
     let Q : Option Cell → Type 0 = λ k. Answers view r (deep - 1) more left (parts_given w (value_given w (deep - 1)) k) in
@@ -256,7 +302,9 @@ past-one g deep met (inr many) =
     ap (λ y. if nat_le g.depth deep && y then Some g.given else None) (lt-leb g.met met many) ∙ ap (λ x. if x then Some g.given else None) (and-false (nat_le g.depth deep))
 
 -- where both limits are kept a value is given
-pub gives-alone : {A : Type 0} (view : A → json.Json) (r : Result A ByValueFault) (deep met left : ℕ) (g : Given json.Json) → Answers view r deep met left g → Gives view r (if_within deep met g)
+pub gives-alone : {A : Type 0} (view : A → json.Json) (r : Result A ByValueFault) (deep met left : ℕ) (g : Given json.Json)
+    → Answers view r deep met left g
+    → Gives view r (if_within deep met g)
 gives-alone view (Ok a) deep met left g says =
     let few : g.met ≤ met = omega (arith, says.counted) in
     within-both g deep met says.within few ∙ ap Some (sym says.is)
@@ -265,16 +313,26 @@ gives-alone view (Err faults.Memory) deep met left g says = tt
 
 -- ---- remote objects
 
-pub value-stops : {A : Type 0} (view : A → json.Json) (r : Result A ByValueFault) (e : ByValueFault) (pairs : List Pair) (o : Option json.Json) → IsErrAnd r (λ k. k ≡ e) → (e ≡ faults.TooLong → o ≡ None)
+pub value-stops : {A : Type 0} (view : A → json.Json) (r : Result A ByValueFault) (e : ByValueFault) (pairs : List Pair) (o : Option json.Json)
+    → IsErrAnd r (λ k. k ≡ e)
+    → (e ≡ faults.TooLong → o ≡ None)
     → Gives view r (with_value pairs o)
 value-stops view (Ok a) e pairs o is says = absurd is
 value-stops view (Err faults.TooLong) e pairs o is says = ap (with_value pairs) (says (sym is))
 value-stops view (Err faults.Memory) e pairs o is says = tt
 
-pub stops-so : {A : Type 0} (view : A → json.Json) (e : ByValueFault) (o : Option json.Json) → Gives view (Err e) o → e ≡ faults.TooLong → o ≡ None
+pub stops-so : {A : Type 0} (view : A → json.Json) (e : ByValueFault) (o : Option json.Json)
+    → Gives view (Err e) o
+    → e ≡ faults.TooLong
+    → o ≡ None
 stops-so view faults.TooLong o says is = says
 stops-so view faults.Memory o says is = cc
 
-pub value-put : (pairs old new : List Pair) (j made : json.Json) (o : Option json.Json) → o ≡ Some j → old ≡ pairs → new ≡ old ++ (codes "value", j) ∷ [] → made ≡ object_of new → with_value pairs o ≡ Some made
+pub value-put : (pairs old new : List Pair) (j made : json.Json) (o : Option json.Json)
+    → o ≡ Some j
+    → old ≡ pairs
+    → new ≡ old ++ (codes "value", j) ∷ []
+    → made ≡ object_of new
+    → with_value pairs o ≡ Some made
 value-put pairs old new j made o given before after put =
     ap (with_value pairs) given ∙ ap Some (sym (put ∙ ap object_of (after ∙ ap (λ ps. ps ++ (codes "value", j) ∷ []) before)))

@@ -36,7 +36,8 @@ named-entries (Some (cells.Function code n l s t)) = refl
 named-entries (Some (cells.Bindings k n b o)) = refl
 named-entries None = refl
 
-are-previews : (w : World) (n : ℕ) (es : List Entry) → ArePreviews w (take n (map entry_name es)) (take n (map (property_preview w) es))
+are-previews : (w : World) (n : ℕ) (es : List Entry)
+    → ArePreviews w (take n (map entry_name es)) (take n (map (property_preview w) es))
 are-previews w zero [] = tt
 are-previews w zero (e ∷ es) = tt
 are-previews w (suc n) [] = tt

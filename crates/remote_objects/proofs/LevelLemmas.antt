@@ -18,7 +18,10 @@ use Rattle.remote_objects.proofs.GivenLemmas.{past-one}
 
 -- ---- the same, where nothing is deeper than so many levels
 
-all-same : {A B : Type 0} (f more : A → Given (List B)) (n : ℕ) (xs : List A) → ((x : A) → (f x).depth ≤ n → more x ≡ f x) → (all_given f xs).depth ≤ n → all_given more xs ≡ all_given f xs
+all-same : {A B : Type 0} (f more : A → Given (List B)) (n : ℕ) (xs : List A)
+    → ((x : A) → (f x).depth ≤ n → more x ≡ f x)
+    → (all_given f xs).depth ≤ n
+    → all_given more xs ≡ all_given f xs
 all-same f more n [] each low = refl
 all-same f more n (x ∷ xs) each low =
     let both : max (f x).depth (all_given f xs).depth ≤ n = low in
@@ -26,16 +29,25 @@ all-same f more n (x ∷ xs) each low =
     let others : (all_given f xs).depth ≤ n = omega (arith, both, le-max_right (f x).depth (all_given f xs).depth) in
     ap₂ behind (each x first) (all-same f more n xs each others)
 
-chosen-same : (b c : Bool) (key : List ℕ) (g h : Given Json) (n : ℕ) → (g.depth ≤ n → h ≡ g) → (if b then (if c then left_out else mapped (member_of key) g) else no_parts).depth ≤ n
+chosen-same : (b c : Bool) (key : List ℕ) (g h : Given Json) (n : ℕ)
+    → (g.depth ≤ n → h ≡ g)
+    → (if b then (if c then left_out else mapped (member_of key) g) else no_parts).depth ≤ n
     → (if b then (if c then left_out else mapped (member_of key) h) else no_parts) ≡ (if b then (if c then left_out else mapped (member_of key) g) else no_parts)
 chosen-same false c key g h n same low = refl
 chosen-same true true key g h n same low = refl
 chosen-same true false key g h n same low = ap (mapped (member_of key)) (same low)
 
-member-same : (w : World) (way more : Value → Given Json) (n : ℕ) → ((v : Value) → (way v).depth ≤ n → more v ≡ way v) → (p : Property) → (member_given w way p).depth ≤ n → member_given w more p ≡ member_given w way p
+member-same : (w : World) (way more : Value → Given Json) (n : ℕ)
+    → ((v : Value) → (way v).depth ≤ n → more v ≡ way v)
+    → (p : Property)
+    → (member_given w way p).depth ≤ n
+    → member_given w more p ≡ member_given w way p
 member-same w way more n each p low = chosen-same p.enumerable (is_left_out w p.value) p.key (way p.value) (more p.value) n (each p.value) low
 
-parts-same : (w : World) (way more : Value → Given Json) (n : ℕ) → ((v : Value) → (way v).depth ≤ n → more v ≡ way v) → (cell : Option Cell) → (parts_given w way cell).depth ≤ n
+parts-same : (w : World) (way more : Value → Given Json) (n : ℕ)
+    → ((v : Value) → (way v).depth ≤ n → more v ≡ way v)
+    → (cell : Option Cell)
+    → (parts_given w way cell).depth ≤ n
     → parts_given w more cell ≡ parts_given w way cell
 parts-same w way more n each None low = refl
 parts-same w way more n each (Some (cells.Object ps)) low = ap (mapped object_of) (all-same (member_given w way) (member_given w more) n ps (member-same w way more n each) low)
@@ -46,7 +58,10 @@ parts-same w way more n each (Some (cells.Text us)) low = refl
 parts-same w way more n each (Some (cells.Function code name len scope receiver)) low = refl
 parts-same w way more n each (Some (cells.Bindings kind name outer bs)) low = refl
 
-value-same : (w : World) (n : ℕ) → ((a : Addr) → (object_given w n a).depth ≤ n → object_given w (suc n) a ≡ object_given w n a) → (v : Value) → (value_given w n v).depth ≤ n
+value-same : (w : World) (n : ℕ)
+    → ((a : Addr) → (object_given w n a).depth ≤ n → object_given w (suc n) a ≡ object_given w n a)
+    → (v : Value)
+    → (value_given w n v).depth ≤ n
     → value_given w (suc n) v ≡ value_given w n v
 value-same w n each (values.Object a) low = each a low
 value-same w n each values.Undefined low = refl
@@ -55,7 +70,9 @@ value-same w n each (values.Bool b) low = refl
 value-same w n each (values.Number z) low = refl
 value-same w n each (values.Text a) low = refl
 
-object-same : (w : World) (n : ℕ) (a : Addr) → (object_given w n a).depth ≤ n → object_given w (suc n) a ≡ object_given w n a
+object-same : (w : World) (n : ℕ) (a : Addr)
+    → (object_given w n a).depth ≤ n
+    → object_given w (suc n) a ≡ object_given w n a
 unfolding object_given
 object-same w zero a low = let never : 1 ≤ 0 = low in absurd (omega (arith, never))
 object-same w (suc n) a low =
@@ -65,7 +82,9 @@ object-same w (suc n) a low =
 
 -- ---- no less deep, where more levels are looked at
 
-all-deeper : {A B : Type 0} (f more : A → Given (List B)) (xs : List A) → ((x : A) → (f x).depth ≤ (more x).depth) → (all_given f xs).depth ≤ (all_given more xs).depth
+all-deeper : {A B : Type 0} (f more : A → Given (List B)) (xs : List A)
+    → ((x : A) → (f x).depth ≤ (more x).depth)
+    → (all_given f xs).depth ≤ (all_given more xs).depth
 all-deeper f more [] each = le_refl 0
 all-deeper f more (x ∷ xs) each =
     let first : (f x).depth ≤ max (more x).depth (all_given more xs).depth = omega (arith, each x, le-max_left (more x).depth (all_given more xs).depth) in
@@ -78,10 +97,16 @@ chosen-deeper false c key g h deeper = le_refl 0
 chosen-deeper true true key g h deeper = le_refl 0
 chosen-deeper true false key g h deeper = deeper
 
-member-deeper : (w : World) (way more : Value → Given Json) → ((v : Value) → (way v).depth ≤ (more v).depth) → (p : Property) → (member_given w way p).depth ≤ (member_given w more p).depth
+member-deeper : (w : World) (way more : Value → Given Json)
+    → ((v : Value) → (way v).depth ≤ (more v).depth)
+    → (p : Property)
+    → (member_given w way p).depth ≤ (member_given w more p).depth
 member-deeper w way more each p = chosen-deeper p.enumerable (is_left_out w p.value) p.key (way p.value) (more p.value) (each p.value)
 
-parts-deeper : (w : World) (way more : Value → Given Json) → ((v : Value) → (way v).depth ≤ (more v).depth) → (cell : Option Cell) → (parts_given w way cell).depth ≤ (parts_given w more cell).depth
+parts-deeper : (w : World) (way more : Value → Given Json)
+    → ((v : Value) → (way v).depth ≤ (more v).depth)
+    → (cell : Option Cell)
+    → (parts_given w way cell).depth ≤ (parts_given w more cell).depth
 parts-deeper w way more each None = le_refl 0
 parts-deeper w way more each (Some (cells.Object ps)) = all-deeper (member_given w way) (member_given w more) ps (member-deeper w way more each)
 parts-deeper w way more each (Some (cells.Error class ps)) = all-deeper (member_given w way) (member_given w more) ps (member-deeper w way more each)
@@ -90,7 +115,10 @@ parts-deeper w way more each (Some (cells.Text us)) = le_refl 0
 parts-deeper w way more each (Some (cells.Function code name len scope receiver)) = le_refl 0
 parts-deeper w way more each (Some (cells.Bindings kind name outer bs)) = le_refl 0
 
-value-deeper : (w : World) (n : ℕ) → ((a : Addr) → (object_given w n a).depth ≤ (object_given w (suc n) a).depth) → (v : Value) → (value_given w n v).depth ≤ (value_given w (suc n) v).depth
+value-deeper : (w : World) (n : ℕ)
+    → ((a : Addr) → (object_given w n a).depth ≤ (object_given w (suc n) a).depth)
+    → (v : Value)
+    → (value_given w n v).depth ≤ (value_given w (suc n) v).depth
 value-deeper w n each (values.Object a) = each a
 value-deeper w n each values.Undefined = le_refl 0
 value-deeper w n each values.Null = le_refl 0
@@ -112,15 +140,24 @@ object-deeper w (suc n) a =
 
 -- ---- one level more makes no difference
 
-either-way : (g h : Given Json) (deep met n : ℕ) → deep ≤ n → (g.depth ≤ n → h ≡ g) → g.depth ≤ h.depth → (n < g.depth) ⊎ (g.depth ≤ n) → if_within deep met h ≡ if_within deep met g
+either-way : (g h : Given Json) (deep met n : ℕ)
+    → deep ≤ n
+    → (g.depth ≤ n → h ≡ g)
+    → g.depth ≤ h.depth
+    → (n < g.depth) ⊎ (g.depth ≤ n)
+    → if_within deep met h ≡ if_within deep met g
 either-way g h deep met n enough same deeper (inl high) = past-one h deep met (inl (omega (arith, enough, deeper, high))) ∙ sym (past-one g deep met (inl (omega (arith, enough, high))))
 either-way g h deep met n enough same deeper (inr low) = ap (if_within deep met) (same low)
 
-one-level : (w : World) (deep met n : ℕ) (v : Value) → deep ≤ n → if_within deep met (value_given w (suc n) v) ≡ if_within deep met (value_given w n v)
+one-level : (w : World) (deep met n : ℕ) (v : Value)
+    → deep ≤ n
+    → if_within deep met (value_given w (suc n) v) ≡ if_within deep met (value_given w n v)
 one-level w deep met n v enough =
     either-way (value_given w n v) (value_given w (suc n) v) deep met n enough (value-same w n (object-same w n) v) (value-deeper w n (object-deeper w n) v) (cases_lt n (value_given w n v).depth)
 
-more-levels : (w : World) (deep met k n : ℕ) (v : Value) → n ≡ k + deep → if_within deep met (value_given w n v) ≡ if_within deep met (value_given w deep v)
+more-levels : (w : World) (deep met k n : ℕ) (v : Value)
+    → n ≡ k + deep
+    → if_within deep met (value_given w n v) ≡ if_within deep met (value_given w deep v)
 more-levels w deep met zero n v is =
     let none : n ≡ deep = omega (arith, is) in
     ap (λ m. if_within deep met (value_given w m v)) none

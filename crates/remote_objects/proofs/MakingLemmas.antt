@@ -16,7 +16,9 @@ pub record Goes (done : List json.Json) (left whole : Made (List json.Json)) : T
   pub made : done ++ left.made ≡ whole.made
   pub handles : left.handles ≡ whole.handles
 
-pub one_more : (done all : List Json) (j : Json) (v : json.Json) (left : List json.Json) → all ≡ done ++ j ∷ [] → json_view j ≡ v
+pub one_more : (done all : List Json) (j : Json) (v : json.Json) (left : List json.Json)
+    → all ≡ done ++ j ∷ []
+    → json_view j ≡ v
     → map json_view all ++ left ≡ map json_view done ++ v ∷ left
 one_more done all j v left a b =
     ap (λ js. map json_view js ++ left) a
@@ -43,5 +45,7 @@ got-here [] i x e = cc
 got-here (y ∷ ys) zero x e = ap (λ z. z ∷ ys) (sym (same_Some x y e))
 got-here (y ∷ ys) (suc i) x e = got-here ys i x e
 
-pub property-here : (ps : List Property) (i : ℕ) (p : Property) → Some p ≡ slice_get ps i → map property_slot (drop i ps) ≡ property_slot p ∷ map property_slot (drop (i + 1) ps)
+pub property-here : (ps : List Property) (i : ℕ) (p : Property)
+    → Some p ≡ slice_get ps i
+    → map property_slot (drop i ps) ≡ property_slot p ∷ map property_slot (drop (i + 1) ps)
 property-here ps i p e = rw add-one (ap (map property_slot) (got-here ps i p e))

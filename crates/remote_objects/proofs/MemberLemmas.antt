@@ -7,7 +7,12 @@ use Rattle.cdp_json.specs.Parts.{Pair, location}
 use Rattle.remote_objects.specs.CallFrames.{function_pairs}
 
 -- three, of which the first and the last are known by what they say
-pub three_put : (old one two all : List Pair) (k l m : List ℕ) (a b d x z : Json) → a ≡ x → d ≡ z → one ≡ old ++ (k, a) ∷ [] → two ≡ one ++ (l, b) ∷ [] → all ≡ two ++ (m, d) ∷ []
+pub three_put : (old one two all : List Pair) (k l m : List ℕ) (a b d x z : Json)
+    → a ≡ x
+    → d ≡ z
+    → one ≡ old ++ (k, a) ∷ []
+    → two ≡ one ++ (l, b) ∷ []
+    → all ≡ two ++ (m, d) ∷ []
     → all ≡ old ++ (k, x) ∷ (l, b) ∷ (m, z) ∷ []
 three_put old one two all k l m a b d x z first last e f g =
     g ∙ (ap (λ ps. ps ++ (m, d) ∷ []) (f ∙ ap (λ ps. ps ++ (l, b) ∷ []) e)
@@ -15,6 +20,9 @@ three_put old one two all k l m a b d x z first last e f g =
     ∙ (append_assoc old ((k, a) ∷ []) ((l, b) ∷ (m, d) ∷ [])
     ∙ (ap (λ v. old ++ (k, v) ∷ (l, b) ∷ (m, d) ∷ []) first ∙ ap (λ v. old ++ (k, x) ∷ (l, b) ∷ (m, v) ∷ []) last))))
 
-pub function_put : (old all : List Pair) (o : Option Place) (place : Place) (j : Json) → o ≡ Some place → j ≡ location place → all ≡ old ++ (codes "functionLocation", j) ∷ []
+pub function_put : (old all : List Pair) (o : Option Place) (place : Place) (j : Json)
+    → o ≡ Some place
+    → j ≡ location place
+    → all ≡ old ++ (codes "functionLocation", j) ∷ []
     → all ≡ old ++ function_pairs o
 function_put old all o place j is said e = rw is (e ∙ ap (λ v. old ++ (codes "functionLocation", v) ∷ []) said)

@@ -24,7 +24,10 @@ enumerable-here : (f : Entry → json.Json) (ps : List Property) (i : ℕ) (p : 
     → map f (enumerable (drop i ps)) ≡ map f (entry_if p) ++ map f (enumerable (drop (i + 1) ps))
 enumerable-here f ps i p e = rw add-one (ap (λ xs. map f (enumerable xs)) (got-here ps i p e) ∙ map-append f (entry_if p) (enumerable (drop (suc i) ps)))
 
-few-more : (b : Bool) (f : Entry → json.Json) (p : Property) (done : List json.Json) → p.enumerable ≡ b → (p.enumerable && nat_eq (length done) 5) ≡ false → length done ≤ 5
+few-more : (b : Bool) (f : Entry → json.Json) (p : Property) (done : List json.Json)
+    → p.enumerable ≡ b
+    → (p.enumerable && nat_eq (length done) 5) ≡ false
+    → length done ≤ 5
     → length (done ++ map f (entry_if p)) ≤ 5
 few-more true f p done is test few =
     let other : nat_eq (length done) 5 ≡ false = sym (ap (λ b. b && nat_eq (length done) 5) is) ∙ test in
@@ -69,7 +72,10 @@ lists-full f ps i p done all e test inv =
     ap₂ listed_as (sym firsts) (sym (lt-ltb 5 (length all) more))
 
 -- nothing is left
-pub lists-all : (done left all : List json.Json) → left ≡ [] → Lists done left all → listed_as done false ≡ first_of 5 all
+pub lists-all : (done left all : List json.Json)
+    → left ≡ []
+    → Lists done left all
+    → listed_as done false ≡ first_of 5 all
 lists-all done left all none inv =
     let whole : done ≡ all = sym (append-nil done) ∙ (ap (λ js. done ++ js) (sym none) ∙ inv.whole) in
     let few : length all ≤ 5 = omega (arith, inv.few, ap length whole) in
@@ -88,7 +94,9 @@ length-indexed i [] = refl
 length-indexed i (v ∷ vs) = ap suc (length-indexed (i + 1) vs)
 
 -- the first of an array's elements are made of its first values
-pub first-values : (n : ℕ) (f : Entry → json.Json) (vs short : List Value) (done : List json.Json) → short ≡ take n vs → done ≡ map f (indexed 0 short)
+pub first-values : (n : ℕ) (f : Entry → json.Json) (vs short : List Value) (done : List json.Json)
+    → short ≡ take n vs
+    → done ≡ map f (indexed 0 short)
     → listed_as done (nat_lt n (length vs)) ≡ first_of n (map f (indexed 0 vs))
 first-values n f vs short done cut made =
     let firsts : done ≡ take n (map f (indexed 0 vs)) =

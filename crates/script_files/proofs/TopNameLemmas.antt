@@ -22,11 +22,13 @@ pub body_view : (ss : Stmts) → statements_view ss ≡ statements (map statemen
 unfolding expression_view property_view key_view statement_view block_view catch_view declarator_view declarators_view expressions_view properties_view statements_view
 body_view ss = fold_out-Stmts Expression Property Key Statement Statements Handler trees.Declarator trees.Declarators Expressions Properties Statements expression_step property_step key_step statement_step block_step catch_step declarator_step declarators_step expressions_step properties_step statements_step ss
 
-pub list_view : (ds : Declarators) → declarators_view ds ≡ declarators (map declarator_view (out-Declarators ds).items.items)
+pub list_view : (ds : Declarators)
+    → declarators_view ds ≡ declarators (map declarator_view (out-Declarators ds).items.items)
 unfolding expression_view property_view key_view statement_view block_view catch_view declarator_view declarators_view expressions_view properties_view statements_view
 list_view ds = fold_out-Declarators Expression Property Key Statement Statements Handler trees.Declarator trees.Declarators Expressions Properties Statements expression_step property_step key_step statement_step block_step catch_step declarator_step declarators_step expressions_step properties_step statements_step ds
 
-declarator_by : (n : List ℕ) (e : Option Expr) → declarator_view (record { name = n; initializer = e }) ≡ trees.declarator n (optional_view e)
+declarator_by : (n : List ℕ) (e : Option Expr)
+    → declarator_view (record { name = n; initializer = e }) ≡ trees.declarator n (optional_view e)
 unfolding expression_view property_view key_view statement_view block_view catch_view declarator_view declarators_view expressions_view properties_view statements_view
 declarator_by n None = fold_out-Declarator Expression Property Key Statement Statements Handler trees.Declarator trees.Declarators Expressions Properties Statements expression_step property_step key_step statement_step block_step catch_step declarator_step declarators_step expressions_step properties_step statements_step (record { name = n; initializer = None })
 declarator_by n (Some e) = fold_out-Declarator Expression Property Key Statement Statements Handler trees.Declarator trees.Declarators Expressions Properties Statements expression_step property_step key_step statement_step block_step catch_step declarator_step declarators_step expressions_step properties_step statements_step (record { name = n; initializer = Some e })
@@ -40,7 +42,11 @@ pub ruleset lists = (list_view)
 
 -- ---- one more
 
-pub statement_next : (items : List Stmt) (i : ℕ) (x : Stmt) → i < length items → x ≡ get_or items i x → (front now : List (List ℕ)) → now ≡ front ++ declared_by (statement_view x)
+pub statement_next : (items : List Stmt) (i : ℕ) (x : Stmt)
+    → i < length items
+    → x ≡ get_or items i x
+    → (front now : List (List ℕ))
+    → now ≡ front ++ declared_by (statement_view x)
     → now ++ declared_names (statements (map statement_view (drop (i + 1) items))) ≡ front ++ declared_names (statements (map statement_view (drop i items)))
 statement_next items i x h is front now e =
     let D : List Stmt → List (List ℕ) = λ ss. declared_names (statements (map statement_view ss)) in
@@ -49,10 +55,15 @@ statement_next items i x h is front now e =
     ∙ ap (λ y. front ++ D (y ∷ drop (i + 1) items)) is
     ∙ ap (λ ss. front ++ D ss) (sym (drop_more items i x h))
 
-first_name : (d : Declarator) (ds : trees.Declarators) → names_of_declarators (trees.a_declarator (declarator_view d) ds) ≡ d.name ∷ names_of_declarators ds
+first_name : (d : Declarator) (ds : trees.Declarators)
+    → names_of_declarators (trees.a_declarator (declarator_view d) ds) ≡ d.name ∷ names_of_declarators ds
 first_name d ds = ap (λ t. names_of_declarators (trees.a_declarator t ds)) (declarator_of d)
 
-pub declarator_next : (items : List Declarator) (i : ℕ) (x : Declarator) → i < length items → x ≡ get_or items i x → (front now : List (List ℕ)) → now ≡ front ++ x.name ∷ []
+pub declarator_next : (items : List Declarator) (i : ℕ) (x : Declarator)
+    → i < length items
+    → x ≡ get_or items i x
+    → (front now : List (List ℕ))
+    → now ≡ front ++ x.name ∷ []
     → now ++ names_of_declarators (declarators (map declarator_view (drop (i + 1) items))) ≡ front ++ names_of_declarators (declarators (map declarator_view (drop i items)))
 declarator_next items i x h is front now e =
     let D : List Declarator → List (List ℕ) = λ ds. names_of_declarators (declarators (map declarator_view ds)) in
@@ -65,10 +76,15 @@ declarator_next items i x h is front now e =
 -- ---- statements
 
 -- a statement that declares nothing
-pub no_names : (names : List (List ℕ)) (s : Stmt) (t : Statement) → statement_view s ≡ t → declared_by t ≡ [] → names ≡ names ++ declared_by (statement_view s)
+pub no_names : (names : List (List ℕ)) (s : Stmt) (t : Statement)
+    → statement_view s ≡ t
+    → declared_by t ≡ []
+    → names ≡ names ++ declared_by (statement_view s)
 no_names names s t e none = sym (ap (λ u. names ++ declared_by u) e ∙ ap (λ ns. names ++ ns) none ∙ append-nil names)
 
-pub if_declares_none : (names : List (List ℕ)) (node : NodeId) (test : Expr) (consequent : Box Stmt) (alternate : Option (Box Stmt)) (s : Stmt) → s ≡ views.If node test consequent alternate → names ≡ names ++ declared_by (statement_view s)
+pub if_declares_none : (names : List (List ℕ)) (node : NodeId) (test : Expr) (consequent : Box Stmt) (alternate : Option (Box Stmt)) (s : Stmt)
+    → s ≡ views.If node test consequent alternate
+    → names ≡ names ++ declared_by (statement_view s)
 if_declares_none names node test consequent None s e = no_names names s _ (ap statement_view e ∙ view_if_then node test consequent) refl
 if_declares_none names node test consequent (Some alternate) s e = no_names names s _ (ap statement_view e ∙ view_if_else node test consequent alternate) refl
 

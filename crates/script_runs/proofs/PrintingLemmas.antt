@@ -9,7 +9,10 @@ lines-append [] ys = refl
 lines-append (x ∷ xs) ys = ap (λ rest. printed_line x ++ rest) (lines-append xs ys) ∙ sym (append_assoc (printed_line x) (printed_lines xs) (printed_lines ys))
 
 -- one text more
-pub lines-more : (xs : List (List ℕ)) (i : ℕ) (x : List ℕ) → i < length xs → x ≡ get_or xs i x → printed_lines (take (i + 1) xs) ≡ printed_lines (take i xs) ++ printed_line x
+pub lines-more : (xs : List (List ℕ)) (i : ℕ) (x : List ℕ)
+    → i < length xs
+    → x ≡ get_or xs i x
+    → printed_lines (take (i + 1) xs) ≡ printed_lines (take i xs) ++ printed_line x
 lines-more xs i x within is =
     ap printed_lines (take_more xs i x within)
     ∙ lines-append (take i xs) (get_or xs i x ∷ [])
@@ -17,7 +20,10 @@ lines-more xs i x within is =
     ∙ ap (λ l. printed_lines (take i xs) ++ l) (append-nil (printed_line x))
 
 -- a text among all
-pub lines-at : (xs : List (List ℕ)) (i : ℕ) (x : List ℕ) → i < length xs → x ≡ get_or xs i x → printed_lines xs ≡ printed_lines (take i xs) ++ printed_line x ++ printed_lines (drop (i + 1) xs)
+pub lines-at : (xs : List (List ℕ)) (i : ℕ) (x : List ℕ)
+    → i < length xs
+    → x ≡ get_or xs i x
+    → printed_lines xs ≡ printed_lines (take i xs) ++ printed_line x ++ printed_lines (drop (i + 1) xs)
 lines-at xs i x within is =
     ap printed_lines (sym (take-append-drop i xs))
     ∙ lines-append (take i xs) (drop i xs)
@@ -30,7 +36,10 @@ pub less-part : (old new : Option (List ℕ)) (bytes : List ℕ) → GainsLess o
 less-part old new bytes (part, rest, some, e, g) = (part, rest, e, g)
 
 -- a first part of some bytes is one of more
-pub part-longer : (old new : Option (List ℕ)) (bytes more all : List ℕ) → all ≡ bytes ++ more → GainsPrefix old new bytes → GainsPrefix old new all
+pub part-longer : (old new : Option (List ℕ)) (bytes more all : List ℕ)
+    → all ≡ bytes ++ more
+    → GainsPrefix old new bytes
+    → GainsPrefix old new all
 part-longer old new bytes more all is (part, rest, e, g) = (part, rest ++ more, is ∙ ap (λ b. b ++ more) e ∙ append_assoc part rest more, g)
 
 -- all of them are a first part

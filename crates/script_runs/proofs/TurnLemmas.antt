@@ -21,11 +21,15 @@ use Rattle.script_runs.proofs.PrintingLemmas.{lines-append}
 -- ---- one turn
 
 -- the texts that are taken are behind those taken before
-taken_run : (n : Machine) (w : World) (taken : List (List ℕ)) → run_at (record n { context = record n.context { printed = [] } }) w (taken ++ n.context.printed) ≡ run_at n w taken
+taken_run : (n : Machine) (w : World) (taken : List (List ℕ))
+    → run_at (record n { context = record n.context { printed = [] } }) w (taken ++ n.context.printed) ≡ run_at n w taken
 taken_run n w taken =
     ap (λ (ps : List (List ℕ)). run_by n.ended (term_of n) (record { world = w; frames = n.context.frames; outer_this = n.context.outer_this; input = n.context.input; printed = ps })) (append-nil (taken ++ n.context.printed))
 
-turned_there : (m n : Machine) (v w : World) (k : ℕ) (texts : List (List ℕ)) → HasSameCode m n → ((taken : List (List ℕ)) → run_at n w taken ≡ steps_in k (program_of m) script_scope (run_at m v taken)) → texts ≡ n.context.printed
+turned_there : (m n : Machine) (v w : World) (k : ℕ) (texts : List (List ℕ))
+    → HasSameCode m n
+    → ((taken : List (List ℕ)) → run_at n w taken ≡ steps_in k (program_of m) script_scope (run_at m v taken))
+    → texts ≡ n.context.printed
     → HasTurned m v (record n { context = record n.context { printed = [] } }) w texts
 turned_there m n v w k texts code run e = record {
   steps = k;
@@ -34,8 +38,13 @@ turned_there m n v w k texts code run e = record {
   run = λ taken. ap (λ (ts : List (List ℕ)). run_at (record n { context = record n.context { printed = [] } }) w (taken ++ ts)) e ∙ taken_run n w taken ∙ run taken;
 }
 
-pub has_turned : (m n o : Machine) (v : World) (h : Heap) (k : ℕ) (why : Why) (texts : List (List ℕ)) → HasSameCode m n → n.ended ≡ end_of_run why → (why ≡ whys.Memory → ⊥)
-    → (IsKept n.ended → (taken : List (List ℕ)) → run_at n (heap_world n.names h) taken ≡ steps_in k (program_of m) script_scope (run_at m v taken)) → texts ≡ n.context.printed → o ≡ record n { context = record n.context { printed = [] } }
+pub has_turned : (m n o : Machine) (v : World) (h : Heap) (k : ℕ) (why : Why) (texts : List (List ℕ))
+    → HasSameCode m n
+    → n.ended ≡ end_of_run why
+    → (why ≡ whys.Memory → ⊥)
+    → (IsKept n.ended → (taken : List (List ℕ)) → run_at n (heap_world n.names h) taken ≡ steps_in k (program_of m) script_scope (run_at m v taken))
+    → texts ≡ n.context.printed
+    → o ≡ record n { context = record n.context { printed = [] } }
     → HasTurned m v o (heap_world o.names h) texts
 has_turned m n o v h k why texts code end kept run e is =
     let P : Machine → Type 0 = λ o. HasTurned m v o (heap_world o.names h) texts in
@@ -43,7 +52,9 @@ has_turned m n o v h k why texts code end kept run e is =
 
 -- ---- one turn behind another
 
-pub come_nowhere : (m : Machine) (v : World) (before : Option (List ℕ)) → m.context.printed ≡ [] → HasCome m v m v before before
+pub come_nowhere : (m : Machine) (v : World) (before : Option (List ℕ))
+    → m.context.printed ≡ []
+    → HasCome m v m v before before
 come_nowhere m v before none = record {
   texts = [];
   turned = record { steps = 0; code = same-code m; rest = none; run = λ taken. ap (run_at m v) (append-nil taken) };
@@ -51,13 +62,17 @@ come_nowhere m v before none = record {
 }
 
 -- steps behind a turn
-steps_behind : (m n : Machine) (v w : World) (texts : List (List ℕ)) (h : HasTurned m v n w texts) (taken : List (List ℕ)) (k : ℕ) → run_from n w (taken ++ texts) k ≡ run_from m v taken (h.steps + k)
+steps_behind : (m n : Machine) (v w : World) (texts : List (List ℕ)) (h : HasTurned m v n w texts) (taken : List (List ℕ)) (k : ℕ)
+    → run_from n w (taken ++ texts) k ≡ run_from m v taken (h.steps + k)
 steps_behind m n v w texts h taken k =
     ap (λ (p : Program). steps_in k p script_scope (run_at n w (taken ++ texts))) (same_program m n h.code)
     ∙ ap (steps_in k (program_of m) script_scope) (h.run taken)
     ∙ sym (steps-more h.steps k (program_of m) script_scope (run_at m v taken))
 
-pub come_on : (m n o : Machine) (v w x : World) (before now after : Option (List ℕ)) → HasCome m v n w before now → HasCome n w o x now after → HasCome m v o x before after
+pub come_on : (m n o : Machine) (v w x : World) (before now after : Option (List ℕ))
+    → HasCome m v n w before now
+    → HasCome n w o x now after
+    → HasCome m v o x before after
 come_on m n o v w x before now after h i = record {
   texts = h.texts ++ i.texts;
   turned = record {
@@ -72,23 +87,33 @@ come_on m n o v w x before now after h i = record {
       ∙ ap (λ b. gains before b) (sym (lines-append h.texts i.texts));
 }
 
-prints_behind : (m n : Machine) (v w : World) (texts more : List (List ℕ)) → HasTurned m v n w texts → Prints n w more → Prints m v (texts ++ more)
+prints_behind : (m n : Machine) (v w : World) (texts more : List (List ℕ))
+    → HasTurned m v n w texts
+    → Prints n w more
+    → Prints m v (texts ++ more)
 prints_behind m n v w texts more h i = record {
   steps = h.steps + i.steps;
   are = λ taken. ap printed_of (sym (steps_behind m n v w texts h taken i.steps)) ∙ i.are (taken ++ texts) ∙ append_assoc taken texts more;
 }
 
-parts_behind : (texts more : List (List ℕ)) → printed_lines (texts ++ more) ≡ printed_lines texts ++ printed_lines more ++ []
+parts_behind : (texts more : List (List ℕ))
+    → printed_lines (texts ++ more) ≡ printed_lines texts ++ printed_lines more ++ []
 parts_behind texts more = lines-append texts more ∙ sym (append-nil (printed_lines texts ++ printed_lines more))
 
-pub cut_on : (m n : Machine) (v w : World) (before now after : Option (List ℕ)) → HasCome m v n w before now → IsCutFrom n w now after → IsCutFrom m v before after
+pub cut_on : (m n : Machine) (v w : World) (before now after : Option (List ℕ))
+    → HasCome m v n w before now
+    → IsCutFrom n w now after
+    → IsCutFrom m v before after
 cut_on m n v w before now after h i = record {
   texts = h.texts ++ i.texts;
   prints = prints_behind m n v w h.texts i.texts h.turned i.prints;
   part = GainsPrefix-behind before now after (printed_lines h.texts) (printed_lines i.texts) [] (printed_lines (h.texts ++ i.texts)) h.written (parts_behind h.texts i.texts) i.part;
 }
 
-pub less_on : (m n : Machine) (v w : World) (before now after : Option (List ℕ)) → HasCome m v n w before now → IsLessFrom n w now after → IsLessFrom m v before after
+pub less_on : (m n : Machine) (v w : World) (before now after : Option (List ℕ))
+    → HasCome m v n w before now
+    → IsLessFrom n w now after
+    → IsLessFrom m v before after
 less_on m n v w before now after h i = record {
   texts = h.texts ++ i.texts;
   prints = prints_behind m n v w h.texts i.texts h.turned i.prints;

@@ -30,7 +30,10 @@ use Rattle.js_language.specs.Boxes.{unboxed}
 use Rattle.js_language.specs.Places.{declarator_places, expression_places, optional_places, plain, property_places, statement_places}
 
 -- a block with room for it is read with one level less
-block_read : (n : ℕ) → 1 ≤ n → (context : Context) (names : List Identifier) (ts : List Token) → (below n).block context names ts ≡ braces (below (n - 1)) context names ts
+block_read : (n : ℕ)
+    → 1 ≤ n
+    → (context : Context) (names : List Identifier) (ts : List Token)
+    → (below n).block context names ts ≡ braces (below (n - 1)) context names ts
 unfolding below
 block_read zero l context names ts = absurd (omega (arith, l))
 block_read (suc n) l context names ts = let e : (suc n) - 1 ≡ n = omega arith in rw e refl

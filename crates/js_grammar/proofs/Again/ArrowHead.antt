@@ -22,44 +22,67 @@ use Rattle.js_grammar.proofs.Again.Level.{strength_high, target_level}
 
 -- ---- names in parentheses, token by token
 
-past_true_other : (k : TokenKind) (ts : List Token) → IsNext (fixed k) (head_of ts) → is_same_kind k kinds.RightParenthesis ≡ false → is_same_kind k kinds.Name ≡ false → past_names true ts ≡ None
+past_true_other : (k : TokenKind) (ts : List Token)
+    → IsNext (fixed k) (head_of ts)
+    → is_same_kind k kinds.RightParenthesis ≡ false
+    → is_same_kind k kinds.Name ≡ false
+    → past_names true ts ≡ None
 past_true_other k [] m c a = absurd m
 past_true_other k (t ∷ ts) m c a = rw (m, c, a) refl
 
-past_false_other : (k : TokenKind) (ts : List Token) → IsNext (fixed k) (head_of ts) → is_same_kind k kinds.RightParenthesis ≡ false → is_same_kind k kinds.Comma ≡ false → past_names false ts ≡ None
+past_false_other : (k : TokenKind) (ts : List Token)
+    → IsNext (fixed k) (head_of ts)
+    → is_same_kind k kinds.RightParenthesis ≡ false
+    → is_same_kind k kinds.Comma ≡ false
+    → past_names false ts ≡ None
 past_false_other k [] m c a = absurd m
 past_false_other k (t ∷ ts) m c a = rw (m, c, a) refl
 
-past_name : (ts : List Token) → IsNext (fixed kinds.Name) (head_of ts) → past_names true ts ≡ past_names false (tail_of ts)
+past_name : (ts : List Token)
+    → IsNext (fixed kinds.Name) (head_of ts)
+    → past_names true ts ≡ past_names false (tail_of ts)
 past_name [] m = absurd m
 past_name (t ∷ ts) m = rw m refl
 
-past_comma : (ts : List Token) → IsNext (fixed kinds.Comma) (head_of ts) → past_names false ts ≡ past_names true (tail_of ts)
+past_comma : (ts : List Token)
+    → IsNext (fixed kinds.Comma) (head_of ts)
+    → past_names false ts ≡ past_names true (tail_of ts)
 past_comma [] m = absurd m
 past_comma (t ∷ ts) m = rw m refl
 
-past_close : (name_next : Bool) (ts : List Token) → IsNext (fixed kinds.RightParenthesis) (head_of ts) → past_names name_next ts ≡ Some (name_next, tail_of ts)
+past_close : (name_next : Bool) (ts : List Token)
+    → IsNext (fixed kinds.RightParenthesis) (head_of ts)
+    → past_names name_next ts ≡ Some (name_next, tail_of ts)
 past_close name_next [] m = absurd m
 past_close true (t ∷ ts) m = rw m refl
 past_close false (t ∷ ts) m = rw m refl
 
 -- ---- kinds apart
 
-apart_operator : (k : TokenKind) (o : BinaryOperator) → operator_by k ≡ Some o → (is_same_kind k kinds.RightParenthesis ≡ false) × (is_same_kind k kinds.Comma ≡ false)
+apart_operator : (k : TokenKind) (o : BinaryOperator)
+    → operator_by k ≡ Some o
+    → (is_same_kind k kinds.RightParenthesis ≡ false) × (is_same_kind k kinds.Comma ≡ false)
 apart_operator kinds.RightParenthesis o e = absurd cc
 apart_operator kinds.Comma o e = absurd cc
 apart_operator _ o e = (refl, refl)
 
-apart_joint : (k : TokenKind) (o : AssignmentOperator) → joint_by k ≡ assigns_by o → (is_same_kind k kinds.RightParenthesis ≡ false) × (is_same_kind k kinds.Comma ≡ false)
+apart_joint : (k : TokenKind) (o : AssignmentOperator)
+    → joint_by k ≡ assigns_by o
+    → (is_same_kind k kinds.RightParenthesis ≡ false) × (is_same_kind k kinds.Comma ≡ false)
 apart_joint kinds.RightParenthesis o e = absurd cc
 apart_joint kinds.Comma o e = absurd cc
 apart_joint _ o e = (refl, refl)
 
-apart_update : (o : UpdateOperator) → (is_same_kind (update_kind o) kinds.RightParenthesis ≡ false) × (is_same_kind (update_kind o) kinds.Comma ≡ false) × (is_same_kind (update_kind o) kinds.Name ≡ false) × (is_same_kind (update_kind o) kinds.Arrow ≡ false)
+apart_update : (o : UpdateOperator)
+    → (is_same_kind (update_kind o) kinds.RightParenthesis ≡ false)
+    × (is_same_kind (update_kind o) kinds.Comma ≡ false)
+    × (is_same_kind (update_kind o) kinds.Name ≡ false)
+    × (is_same_kind (update_kind o) kinds.Arrow ≡ false)
 apart_update updates.Increment = (refl, refl, refl, refl)
 apart_update updates.Decrement = (refl, refl, refl, refl)
 
-apart_unary : (o : UnaryOperator) → (is_same_kind (unary_kind o) kinds.RightParenthesis ≡ false) × (is_same_kind (unary_kind o) kinds.Name ≡ false)
+apart_unary : (o : UnaryOperator)
+    → (is_same_kind (unary_kind o) kinds.RightParenthesis ≡ false) × (is_same_kind (unary_kind o) kinds.Name ≡ false)
 apart_unary unaries.Delete = (refl, refl)
 apart_unary unaries.Void = (refl, refl)
 apart_unary unaries.Typeof = (refl, refl)
@@ -83,7 +106,12 @@ goes_on ts us r (inr p) (inl more) = inl (p ∙ more)
 goes_on ts us r (inr p) (inr more) = inr (p ∙ more)
 
 -- before what is neither a comma nor a parenthesis
-stuck_before : (k : TokenKind) (ts us r : List Token) → Passes ts us → IsNext (fixed k) (head_of us) → is_same_kind k kinds.RightParenthesis ≡ false → is_same_kind k kinds.Comma ≡ false → Passes ts r
+stuck_before : (k : TokenKind) (ts us r : List Token)
+    → Passes ts us
+    → IsNext (fixed k) (head_of us)
+    → is_same_kind k kinds.RightParenthesis ≡ false
+    → is_same_kind k kinds.Comma ≡ false
+    → Passes ts r
 stuck_before k ts us r p m c a = goes_on ts us r p (inl (past_false_other k us m c a))
 
 mutual
@@ -136,7 +164,11 @@ mutual
       let p = parts (flat e) (more_expressions es) ts r m in
       goes_on ts p.0 r (passes e w.1.0 ts p.0 p.1) (passes_more es w.1.2 p.0 r p.2)
 
-  passes_more : (es : Expressions) → AreAssignments es → (ts r : List Token) → Matches (more_expressions es) ts r → PassesMore ts r
+  passes_more : (es : Expressions)
+      → AreAssignments es
+      → (ts r : List Token)
+      → Matches (more_expressions es) ts r
+      → PassesMore ts r
   passes_more trees.no_expressions w ts r m = inr (ap (λ (l : List Token). past_names false l) m)
   passes_more (trees.an_expression e es) w ts r m =
       let p = parts (flat e) (more_expressions es ++ []) (tail_of ts) r m.1 in
@@ -165,11 +197,15 @@ level_low (trees.arrow_block ps body) l = absurd (omega arith)
 level_low (trees.comma es) l = absurd (omega arith)
 level_low _ l = refl
 
-no_head_of_kind : (k : TokenKind) (ts : List Token) → IsNext (fixed k) (head_of ts) → ((s : List ℕ) (v : ℕ) (us : List Token) → classes.head_by (classes.start_by k s v) us ≡ no_arrow) → arrow_head ts ≡ no_arrow
+no_head_of_kind : (k : TokenKind) (ts : List Token)
+    → IsNext (fixed k) (head_of ts)
+    → ((s : List ℕ) (v : ℕ) (us : List Token) → classes.head_by (classes.start_by k s v) us ≡ no_arrow)
+    → arrow_head ts ≡ no_arrow
 no_head_of_kind k [] m e = absurd m
 no_head_of_kind k (t ∷ ts) m e = rw m (e t.string_value t.numeric_value ts)
 
-unary_no_head : (o : UnaryOperator) (s : List ℕ) (v : ℕ) (us : List Token) → classes.head_by (classes.start_by (unary_kind o) s v) us ≡ no_arrow
+unary_no_head : (o : UnaryOperator) (s : List ℕ) (v : ℕ) (us : List Token)
+    → classes.head_by (classes.start_by (unary_kind o) s v) us ≡ no_arrow
 unary_no_head unaries.Delete s v us = refl
 unary_no_head unaries.Void s v us = refl
 unary_no_head unaries.Typeof s v us = refl
@@ -178,24 +214,44 @@ unary_no_head unaries.Minus s v us = refl
 unary_no_head unaries.BitwiseNot s v us = refl
 unary_no_head unaries.LogicalNot s v us = refl
 
-update_no_head : (o : UpdateOperator) (s : List ℕ) (v : ℕ) (us : List Token) → classes.head_by (classes.start_by (update_kind o) s v) us ≡ no_arrow
+update_no_head : (o : UpdateOperator) (s : List ℕ) (v : ℕ) (us : List Token)
+    → classes.head_by (classes.start_by (update_kind o) s v) us ≡ no_arrow
 update_no_head updates.Increment s v us = refl
 update_no_head updates.Decrement s v us = refl
 
-name_no_head : (a : Identifier) (ts r : List Token) → IsNext (identifier a) (head_of ts) → tail_of ts ≡ r → is_arrow (head_of r) ≡ false → arrow_head ts ≡ no_arrow
+name_no_head : (a : Identifier) (ts r : List Token)
+    → IsNext (identifier a) (head_of ts)
+    → tail_of ts ≡ r
+    → is_arrow (head_of r) ≡ false
+    → arrow_head ts ≡ no_arrow
 name_no_head a ts r m same n = rw (start_name a (head_of ts) m, same, n) refl
 
-parenthesized_no_head : (e : Expression) → Well e → (ts r : List Token) → Matches (flat (trees.parenthesized e)) ts r → is_arrow (head_of r) ≡ false → arrow_head ts ≡ no_arrow
+parenthesized_no_head : (e : Expression)
+    → Well e
+    → (ts r : List Token)
+    → Matches (flat (trees.parenthesized e)) ts r
+    → is_arrow (head_of r) ≡ false
+    → arrow_head ts ≡ no_arrow
 parenthesized_no_head e w ts r m n =
     let p = parts (flat e) (token (fixed kinds.RightParenthesis) ∷ []) (tail_of ts) r m.1 in
     let close : past_names false p.0 ≡ Some (false, tail_of p.0) = past_close false p.0 p.2.0 in
     rw (start_fixed kinds.LeftParenthesis classes.parenthesis (head_of ts) m.0 (λ s v. refl)) (either p.0 p.2.1 close (passes e w (tail_of ts) p.0 p.1))
   where
-    either : (us : List Token) → tail_of us ≡ r → past_names false us ≡ Some (false, tail_of us) → Passes (tail_of ts) us → listed_by (past_names true (tail_of ts)) ≡ no_arrow
+    either : (us : List Token)
+        → tail_of us ≡ r
+        → past_names false us ≡ Some (false, tail_of us)
+        → Passes (tail_of ts) us
+        → listed_by (past_names true (tail_of ts)) ≡ no_arrow
     either us same close (inl none) = rw none refl
     either us same close (inr passed) = rw (passed, close, same, n) refl
 
-pub no_head : (e : Expression) → Well e → is_low e ≡ true → (ts r : List Token) → Matches (flat e) ts r → (edge e ≡ plain → is_arrow (head_of r) ≡ false) → arrow_head ts ≡ no_arrow
+pub no_head : (e : Expression)
+    → Well e
+    → is_low e ≡ true
+    → (ts r : List Token)
+    → Matches (flat e) ts r
+    → (edge e ≡ plain → is_arrow (head_of r) ≡ false)
+    → arrow_head ts ≡ no_arrow
 no_head trees.this w l ts r m n = no_head_of_kind kinds.This ts m.0 (λ s v us. refl)
 no_head (trees.name a) w l ts r m n = name_no_head a ts r m.0 m.1 (n refl)
 no_head (trees.number v) w l ts r m n = no_head_of_kind kinds.Number ts (kind_of_number v (head_of ts) m.0) (λ s v us. refl)
@@ -239,20 +295,27 @@ no_head (trees.comma es) w l ts r m n = absurd cc
 
 -- ---- what an arrow function begins with
 
-names_end : (ns : List Identifier) (ts r : List Token) → Matches ((more_names ns ++ (trailing_comma ∷ [])) ++ (token (fixed kinds.RightParenthesis) ∷ [])) ts r → (only : Bool) × (past_names false ts ≡ Some (only, r))
+names_end : (ns : List Identifier) (ts r : List Token)
+    → Matches ((more_names ns ++ (trailing_comma ∷ [])) ++ (token (fixed kinds.RightParenthesis) ∷ [])) ts r
+    → (only : Bool) × (past_names false ts ≡ Some (only, r))
 names_end [] ts r (inl m) = (true, past_comma ts m.0 ∙ past_close true (tail_of ts) m.1.0 ∙ ap (λ (l : List Token). Some (true, l)) m.1.1)
 names_end [] ts r (inr m) = (false, past_close false ts m.0 ∙ ap (λ (l : List Token). Some (false, l)) m.1)
 names_end (a ∷ ns) ts r m =
     let p = names_end ns (tail_of (tail_of ts)) r m.1.1 in
     (p.0, past_comma ts m.0 ∙ past_name (tail_of ts) (kind_of_identifier a (head_of (tail_of ts)) m.1.0) ∙ p.1)
 
-names_all : (ns : List Identifier) (ts r : List Token) → Matches (flat_names ns ++ (token (fixed kinds.RightParenthesis) ∷ [])) ts r → (only : Bool) × (past_names true ts ≡ Some (only, r))
+names_all : (ns : List Identifier) (ts r : List Token)
+    → Matches (flat_names ns ++ (token (fixed kinds.RightParenthesis) ∷ [])) ts r
+    → (only : Bool) × (past_names true ts ≡ Some (only, r))
 names_all [] ts r m = (true, past_close true ts m.0 ∙ ap (λ (l : List Token). Some (true, l)) m.1)
 names_all (a ∷ ns) ts r m =
     let p = names_end ns (tail_of ts) r m.1 in
     (p.0, past_name ts (kind_of_identifier a (head_of ts) m.0) ∙ p.1)
 
-pub list_head : (ns : List Identifier) (ts r : List Token) → Matches (flat_parameters ns) ts r → is_arrow (head_of r) ≡ true → (only : Bool) × (arrow_head ts ≡ listed only)
+pub list_head : (ns : List Identifier) (ts r : List Token)
+    → Matches (flat_parameters ns) ts r
+    → is_arrow (head_of r) ≡ true
+    → (only : Bool) × (arrow_head ts ≡ listed only)
 list_head ns ts r m a =
     let p = names_all ns (tail_of ts) r m.1 in
     (p.0, rw (start_fixed kinds.LeftParenthesis classes.parenthesis (head_of ts) m.0 (λ s v. refl), p.1) (either p.0))
@@ -261,5 +324,8 @@ list_head ns ts r m a =
     either true = refl
     either false = rw a refl
 
-pub name_head : (a : Identifier) (ts : List Token) → IsNext (identifier a) (head_of ts) → is_arrow (head_of (tail_of ts)) ≡ true → arrow_head ts ≡ one_parameter
+pub name_head : (a : Identifier) (ts : List Token)
+    → IsNext (identifier a) (head_of ts)
+    → is_arrow (head_of (tail_of ts)) ≡ true
+    → arrow_head ts ≡ one_parameter
 name_head a ts m n = rw (start_name a (head_of ts) m, n) refl

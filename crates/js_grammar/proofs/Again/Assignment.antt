@@ -36,19 +36,37 @@ use Rattle.js_grammar.proofs.Again.ArrowHead.{no_head, level_low, list_head, nam
 abbrev RestAgain : Below → Parameters → Expression → List Mark → Type 0
 RestAgain b ps x ms = (ts r : List Token) → Matches (beside (fixed kinds.Arrow) ∷ ms) ts r → Stops (edge x) r → arrow_rest b ps (names_of_parameters ps) ts ≡ Ok (x, r)
 
-value_rest : (q : SeqAgain) (n : ℕ) (b : Below) → AgainBelow n b → (ps : Parameters) (e : Expression) → Well e → 1 ≤ level e → begins_with_brace (flat e) ≡ false → height e ≤ n → RestAgain b ps (trees.arrow ps e) (flat e ++ [])
+value_rest : (q : SeqAgain) (n : ℕ) (b : Below)
+    → AgainBelow n b
+    → (ps : Parameters) (e : Expression)
+    → Well e
+    → 1 ≤ level e
+    → begins_with_brace (flat e) ≡ false
+    → height e ≤ n
+    → RestAgain b ps (trees.arrow ps e) (flat e ++ [])
 unfolding arrow_rest
 value_rest q n b h ps e w v no_brace l ts r m s =
     let inner : Matches (flat e) (tail_of ts) r = and_nothing (flat e) (tail_of ts) r m.2 in
     rw (expect_near_again kinds.Arrow ts (tail_of ts) (m.0, m.1, refl), front_no_brace (flat e) (expression_front e w) no_brace (tail_of ts) r inner, q n b h (an_assignment ∷ []) (e, tt) (tail_of ts) r ((w, v), tt) (omega arith) refl s m.2) refl
 
-block_rest : (q : SeqAgain) (n : ℕ) (b : Below) → AgainBelow n b → (ps : Parameters) (body : Statements) → DifferIn (names_of_parameters ps) body → WellStatements function_body body → height_of_statements body ≤ n → RestAgain b ps (trees.arrow_block ps body) (flats.in_braces (flat_statements body) ++ [])
+block_rest : (q : SeqAgain) (n : ℕ) (b : Below)
+    → AgainBelow n b
+    → (ps : Parameters) (body : Statements)
+    → DifferIn (names_of_parameters ps) body
+    → WellStatements function_body body
+    → height_of_statements body ≤ n
+    → RestAgain b ps (trees.arrow_block ps body) (flats.in_braces (flat_statements body) ++ [])
 unfolding arrow_rest
 block_rest q n b h ps body d w l ts r m s =
     let names : List Identifier = names_of_parameters ps in
     rw (expect_near_again kinds.Arrow ts (tail_of ts) (m.0, m.1, refl), next_again kinds.LeftBrace (head_of (tail_of ts)) m.2.0, q n b h (in_braces function_body (with_names [] names) ∷ []) (body, tt) (tail_of ts) r ((fresh_behind names (declared_names body) d.1, w), tt) (omega arith) refl tt m.2) refl
 
-one_again : (b : Below) (a : Identifier) (x : Expression) (ms : List Mark) → RestAgain b (trees.one_name a) x ms → (ts r : List Token) → Matches (token (identifier a) ∷ beside (fixed kinds.Arrow) ∷ ms) ts r → Stops (edge x) r → arrow_of_one b ts ≡ Ok (x, r)
+one_again : (b : Below) (a : Identifier) (x : Expression) (ms : List Mark)
+    → RestAgain b (trees.one_name a) x ms
+    → (ts r : List Token)
+    → Matches (token (identifier a) ∷ beside (fixed kinds.Arrow) ∷ ms) ts r
+    → Stops (edge x) r
+    → arrow_of_one b ts ≡ Ok (x, r)
 unfolding arrow_of_one
 one_again b a x ms rest ts r m s = rw (name_again a ts (tail_of ts) (m.0, refl)) (rest (tail_of ts) r m.1 s)
 
@@ -56,13 +74,25 @@ fresh_test : (taken names : List Identifier) → AreFresh taken names → are_fr
 fresh_test taken [] f = refl
 fresh_test taken (a ∷ names) f = rw f.0 (fresh_test (a ∷ taken) names f.1)
 
-list_again : (b : Below) (ns : List Identifier) (x : Expression) (ms : List Mark) → AreFresh [] ns → RestAgain b (trees.name_list ns) x ms → (only : Bool) (ts r : List Token) → Matches (flat_parameters ns ++ (beside (fixed kinds.Arrow) ∷ ms)) ts r → Stops (edge x) r → arrow_of_list b only ts ≡ Ok (x, r)
+list_again : (b : Below) (ns : List Identifier) (x : Expression) (ms : List Mark)
+    → AreFresh [] ns
+    → RestAgain b (trees.name_list ns) x ms
+    → (only : Bool) (ts r : List Token)
+    → Matches (flat_parameters ns ++ (beside (fixed kinds.Arrow) ∷ ms)) ts r
+    → Stops (edge x) r
+    → arrow_of_list b only ts ≡ Ok (x, r)
 unfolding arrow_of_list
 list_again b ns x ms f rest only ts r m s =
     let p = parts (flat_parameters ns) (beside (fixed kinds.Arrow) ∷ ms) ts r m in
     rw (expect_again kinds.LeftParenthesis ts (tail_of ts) (p.1.0, refl), names_again ns (tail_of ts) p.0 p.1.1, fresh_test [] ns f) (rest p.0 r p.2 s)
 
-arrow_again : (n : ℕ) (b : Below) (ps : Parameters) (x : Expression) (ms : List Mark) → AreFresh [] (names_of_parameters ps) → RestAgain b ps x ms → (ts r : List Token) → Matches (flat_arrow_parameters ps ++ (beside (fixed kinds.Arrow) ∷ ms)) ts r → Stops (edge x) r → assignment b n ts ≡ Ok (x, r)
+arrow_again : (n : ℕ) (b : Below) (ps : Parameters) (x : Expression) (ms : List Mark)
+    → AreFresh [] (names_of_parameters ps)
+    → RestAgain b ps x ms
+    → (ts r : List Token)
+    → Matches (flat_arrow_parameters ps ++ (beside (fixed kinds.Arrow) ∷ ms)) ts r
+    → Stops (edge x) r
+    → assignment b n ts ≡ Ok (x, r)
 unfolding assignment
 arrow_again n b (trees.one_name a) x ms f rest ts r m s =
     rw (name_head a ts m.0 (arrow_fixed (head_of (tail_of ts)) m.1.0 m.1.1)) (one_again b a x ms rest ts r m s)
@@ -83,18 +113,43 @@ stops_joint plain r n s = s.3
 stops_joint update r n s = s.1
 stops_joint braces r n s = absurd (n refl)
 
-operation_assignment : (q : SeqAgain) (n : ℕ) (b : Below) → AgainBelow n b → ObjectsAgain n b → (e : Expression) → Well e → 3 ≤ level e → height e ≤ suc n → (ts r : List Token) → Matches (flat e) ts r → Stops (edge e) r → assignment b n ts ≡ Ok (e, r)
+operation_assignment : (q : SeqAgain) (n : ℕ) (b : Below)
+    → AgainBelow n b
+    → ObjectsAgain n b
+    → (e : Expression)
+    → Well e
+    → 3 ≤ level e
+    → height e ≤ suc n
+    → (ts r : List Token)
+    → Matches (flat e) ts r
+    → Stops (edge e) r
+    → assignment b n ts ≡ Ok (e, r)
 unfolding assignment joined
 operation_assignment q n b h os e w v l ts r m s =
     rw (no_head e w (level_low e (omega (arith, v))) ts r m (stops_arrow (edge e) r s), operation_again q n b h os 3 e w v v l ts r m (assignment_stops 3 (edge e) r s), stops_joint (edge e) r (operation_edge e w v) s) refl
 
 -- a token of a kind that goes on with no operation
-other_stops : (k : TokenKind) → link_by k ≡ no_link → update_by k ≡ None → operator_by k ≡ None → (m : ℕ) (d : Edge) (r : List Token) → IsNext (fixed k) (head_of r) → StopsOperation m d r
+other_stops : (k : TokenKind)
+    → link_by k ≡ no_link
+    → update_by k ≡ None
+    → operator_by k ≡ None
+    → (m : ℕ) (d : Edge) (r : List Token)
+    → IsNext (fixed k) (head_of r)
+    → StopsOperation m d r
 other_stops k l u o m plain r next = (link_fixed k (head_of r) next ∙ l, no_update_fixed k (head_of r) next u, rw (operator_fixed k (head_of r) next, o) refl)
 other_stops k l u o m update r next = rw (operator_fixed k (head_of r) next, o) refl
 other_stops k l u o m braces r next = tt
 
-conditional_again : (q : SeqAgain) (n : ℕ) (b : Below) → AgainBelow n b → ObjectsAgain n b → (t c a : Expression) → Well (trees.conditional t c a) → height (trees.conditional t c a) ≤ suc n → (ts r : List Token) → Matches (flat (trees.conditional t c a)) ts r → Stops (edge a) r → assignment b n ts ≡ Ok (trees.conditional t c a, r)
+conditional_again : (q : SeqAgain) (n : ℕ) (b : Below)
+    → AgainBelow n b
+    → ObjectsAgain n b
+    → (t c a : Expression)
+    → Well (trees.conditional t c a)
+    → height (trees.conditional t c a) ≤ suc n
+    → (ts r : List Token)
+    → Matches (flat (trees.conditional t c a)) ts r
+    → Stops (edge a) r
+    → assignment b n ts ≡ Ok (trees.conditional t c a, r)
 unfolding assignment joined
 conditional_again q n b h os t c a w l ts r m s =
     let p = parts (flat t) (token (fixed kinds.Question) ∷ (flat c ++ (token (fixed kinds.Colon) ∷ (flat a ++ [])))) ts r m in
@@ -103,7 +158,16 @@ conditional_again q n b h os t c a w l ts r m s =
     let test : operation b n 3 ts ≡ Ok (t, p.0) = operation_again q n b h os 3 t w.0 w.1 w.1 (omega arith) ts p.0 p.1 (other_stops kinds.Question refl refl refl 3 (edge t) p.0 p.2.0) in
     rw (no_head t w.0 (level_low t (omega (arith, w.1))) ts p.0 p.1 (λ d. no_arrow_fixed kinds.Question (head_of p.0) p.2.0 refl), test, found, low, q n b h (tok kinds.Question ∷ an_assignment ∷ tok kinds.Colon ∷ an_assignment ∷ []) (tt, (c, (tt, (a, tt)))) p.0 r (tt, ((w.2, w.3), (tt, ((w.4, w.5), tt)))) (omega arith) refl s p.2) refl
 
-assign_again : (q : SeqAgain) (n : ℕ) (b : Below) → AgainBelow n b → ObjectsAgain n b → (o : AssignmentOperator) (t v : Expression) → Well (trees.assign o t v) → height (trees.assign o t v) ≤ suc n → (ts r : List Token) → Matches (flat (trees.assign o t v)) ts r → Stops (edge v) r → assignment b n ts ≡ Ok (trees.assign o t v, r)
+assign_again : (q : SeqAgain) (n : ℕ) (b : Below)
+    → AgainBelow n b
+    → ObjectsAgain n b
+    → (o : AssignmentOperator) (t v : Expression)
+    → Well (trees.assign o t v)
+    → height (trees.assign o t v) ≤ suc n
+    → (ts r : List Token)
+    → Matches (flat (trees.assign o t v)) ts r
+    → Stops (edge v) r
+    → assignment b n ts ≡ Ok (trees.assign o t v, r)
 unfolding assignment joined
 assign_again q n b h os o t v w l ts r m s =
     let p = parts (flat t) (token (fixed (assign_kind o)) ∷ (flat v ++ [])) ts r m in
@@ -117,7 +181,13 @@ assign_again q n b h os o t v w l ts r m s =
 abbrev AssignmentAgain : ℕ → Below → Expression → Type 0
 AssignmentAgain n b e = height e ≤ suc n → (ts r : List Token) → Matches (flat e) ts r → Stops (edge e) r → assignment b n ts ≡ Ok (e, r)
 
-assignment_reads : (q : SeqAgain) (n : ℕ) (b : Below) → AgainBelow n b → ObjectsAgain n b → (e : Expression) → 1 ≤ level e → Well e → AssignmentAgain n b e
+assignment_reads : (q : SeqAgain) (n : ℕ) (b : Below)
+    → AgainBelow n b
+    → ObjectsAgain n b
+    → (e : Expression)
+    → 1 ≤ level e
+    → Well e
+    → AssignmentAgain n b e
 assignment_reads q n b h os (trees.arrow ps e) v w l ts r m s = arrow_again n b ps (trees.arrow ps e) (flat e ++ []) w.0 (value_rest q n b h ps e w.1 w.2 w.3 (omega arith)) ts r m s
 assignment_reads q n b h os (trees.arrow_block ps body) v w l ts r m s = arrow_again n b ps (trees.arrow_block ps body) (flats.in_braces (flat_statements body) ++ []) w.0.0 (block_rest q n b h ps body w.0 w.1 (omega arith)) ts r m s
 assignment_reads q n b h os (trees.conditional t c a) v w l ts r m s = conditional_again q n b h os t c a w l ts r m s
@@ -141,16 +211,47 @@ assignment_reads q n b h os (trees.object ps) v w l ts r m s = operation_assignm
 assignment_reads q n b h os (trees.function o ps body) v w l ts r m s = operation_assignment q n b h os (trees.function o ps body) w (omega arith) l ts r m s
 assignment_reads q n b h os (trees.parenthesized e) v w l ts r m s = operation_assignment q n b h os (trees.parenthesized e) w (omega arith) l ts r m s
 
-pub assignment_is_read : (q : SeqAgain) (n : ℕ) (b : Below) → AgainBelow n b → ObjectsAgain n b → (e : Expression) → Well e → 1 ≤ level e → height e ≤ suc n → (ts r : List Token) → Matches (flat e) ts r → Stops (edge e) r → assignment b n ts ≡ Ok (e, r)
+pub assignment_is_read : (q : SeqAgain) (n : ℕ) (b : Below)
+    → AgainBelow n b
+    → ObjectsAgain n b
+    → (e : Expression)
+    → Well e
+    → 1 ≤ level e
+    → height e ≤ suc n
+    → (ts r : List Token)
+    → Matches (flat e) ts r
+    → Stops (edge e) r
+    → assignment b n ts ≡ Ok (e, r)
 assignment_is_read q n b h os e w v l ts r m s = assignment_reads q n b h os e v w l ts r m s
 
 -- ---- expressions with commas
 
-one_expression : (q : SeqAgain) (n : ℕ) (b : Below) → AgainBelow n b → ObjectsAgain n b → (e : Expression) → Well e → 1 ≤ level e → height e ≤ suc n → (ts r : List Token) → Matches (flat e) ts r → Stops (edge e) r → NoComma r → expression b n ts ≡ Ok (e, r)
+one_expression : (q : SeqAgain) (n : ℕ) (b : Below)
+    → AgainBelow n b
+    → ObjectsAgain n b
+    → (e : Expression)
+    → Well e
+    → 1 ≤ level e
+    → height e ≤ suc n
+    → (ts r : List Token)
+    → Matches (flat e) ts r
+    → Stops (edge e) r
+    → NoComma r
+    → expression b n ts ≡ Ok (e, r)
 unfolding expression
 one_expression q n b h os e w v l ts r m s c = rw (assignment_is_read q n b h os e w v l ts r m s, c) refl
 
-comma_expression : (q : SeqAgain) (n : ℕ) (b : Below) → AgainBelow n b → ObjectsAgain n b → (e f : Expression) (es : Expressions) → Well (trees.comma (trees.an_expression e (trees.an_expression f es))) → height (trees.comma (trees.an_expression e (trees.an_expression f es))) ≤ suc n → (ts r : List Token) → Matches (flat (trees.comma (trees.an_expression e (trees.an_expression f es)))) ts r → Stops (edge (trees.comma (trees.an_expression e (trees.an_expression f es)))) r → NoComma r → expression b n ts ≡ Ok (trees.comma (trees.an_expression e (trees.an_expression f es)), r)
+comma_expression : (q : SeqAgain) (n : ℕ) (b : Below)
+    → AgainBelow n b
+    → ObjectsAgain n b
+    → (e f : Expression) (es : Expressions)
+    → Well (trees.comma (trees.an_expression e (trees.an_expression f es)))
+    → height (trees.comma (trees.an_expression e (trees.an_expression f es))) ≤ suc n
+    → (ts r : List Token)
+    → Matches (flat (trees.comma (trees.an_expression e (trees.an_expression f es)))) ts r
+    → Stops (edge (trees.comma (trees.an_expression e (trees.an_expression f es)))) r
+    → NoComma r
+    → expression b n ts ≡ Ok (trees.comma (trees.an_expression e (trees.an_expression f es)), r)
 unfolding expression
 comma_expression q n b h os e f es w l ts r m s c =
     let rest : Expressions = trees.an_expression f es in
@@ -159,7 +260,17 @@ comma_expression q n b h os e f es w l ts r m s c =
     let low : nat_le (height e) n ≡ true = le-leb (height e) n (omega arith) in
     rw (assignment_is_read q n b h os e w.1.0 w.1.1 (omega arith) ts p.0 p.1 (comma_stops p.0 comma (edge e)), comma, low, more_again n b h e rest w.1.2 (omega arith) p.0 r p.2 s c) refl
 
-pub expression_is_read : (q : SeqAgain) (n : ℕ) (b : Below) → AgainBelow n b → ObjectsAgain n b → (e : Expression) → Well e → height e ≤ suc n → (ts r : List Token) → Matches (flat e) ts r → Stops (edge e) r → NoComma r → expression b n ts ≡ Ok (e, r)
+pub expression_is_read : (q : SeqAgain) (n : ℕ) (b : Below)
+    → AgainBelow n b
+    → ObjectsAgain n b
+    → (e : Expression)
+    → Well e
+    → height e ≤ suc n
+    → (ts r : List Token)
+    → Matches (flat e) ts r
+    → Stops (edge e) r
+    → NoComma r
+    → expression b n ts ≡ Ok (e, r)
 expression_is_read q n b h os (trees.comma trees.no_expressions) w l ts r m s c = absurd cc
 expression_is_read q n b h os (trees.comma (trees.an_expression e trees.no_expressions)) w l ts r m s c = absurd cc
 expression_is_read q n b h os (trees.comma (trees.an_expression e (trees.an_expression f es))) w l ts r m s c = comma_expression q n b h os e f es w l ts r m s c
@@ -174,14 +285,27 @@ stops_at_end plain = (refl, refl, refl, refl, refl)
 stops_at_end update = (refl, refl)
 stops_at_end braces = tt
 
-arrow_code : (b : Below) (ps : Parameters) (x : Expression) (ms : List Mark) → AreFresh [] (names_of_parameters ps) → RestAgain b ps x ms → (ts : List Token) → Matches (flat_arrow_parameters ps ++ (beside (fixed kinds.Arrow) ∷ ms)) ts [] → function_code_by b (start (head_of ts)) ts ≡ Ok (x, [])
+arrow_code : (b : Below) (ps : Parameters) (x : Expression) (ms : List Mark)
+    → AreFresh [] (names_of_parameters ps)
+    → RestAgain b ps x ms
+    → (ts : List Token)
+    → Matches (flat_arrow_parameters ps ++ (beside (fixed kinds.Arrow) ∷ ms)) ts []
+    → function_code_by b (start (head_of ts)) ts ≡ Ok (x, [])
 arrow_code b (trees.one_name a) x ms f rest ts m =
     rw (start_name a (head_of ts) m.0) (one_again b a x ms rest ts [] m (stops_at_end (edge x)))
 arrow_code b (trees.name_list ns) x ms f rest ts m =
     let p = parts (flat_parameters ns) (beside (fixed kinds.Arrow) ∷ ms) ts [] m in
     rw (start_fixed kinds.LeftParenthesis classes.parenthesis (head_of ts) p.1.0 (λ s v. refl), parameters_again ns f ts p.0 p.1) (rest p.0 [] p.2 (stops_at_end (edge x)))
 
-pub function_code_again : (q : SeqAgain) (n : ℕ) (b : Below) → AgainBelow n b → (e : Expression) → is_function e ≡ true → Well e → height e ≤ suc n → (ts : List Token) → Matches (flat e) ts [] → function_code_by b (start (head_of ts)) ts ≡ Ok (e, [])
+pub function_code_again : (q : SeqAgain) (n : ℕ) (b : Below)
+    → AgainBelow n b
+    → (e : Expression)
+    → is_function e ≡ true
+    → Well e
+    → height e ≤ suc n
+    → (ts : List Token)
+    → Matches (flat e) ts []
+    → function_code_by b (start (head_of ts)) ts ≡ Ok (e, [])
 function_code_again q n b h (trees.function o ps body) i w l ts m = rw (start_fixed kinds.Function classes.function_word (head_of ts) m.0 (λ s v. refl)) (function_again q n b h o ps body w l ts [] m)
 function_code_again q n b h (trees.arrow ps e) i w l ts m = arrow_code b ps (trees.arrow ps e) (flat e ++ []) w.0 (value_rest q n b h ps e w.1 w.2 w.3 (omega arith)) ts m
 function_code_again q n b h (trees.arrow_block ps body) i w l ts m = arrow_code b ps (trees.arrow_block ps body) (flats.in_braces (flat_statements body) ++ []) w.0.0 (block_rest q n b h ps body w.0 w.1 (omega arith)) ts m

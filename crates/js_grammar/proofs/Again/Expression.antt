@@ -14,17 +14,68 @@ use Rattle.js_grammar.proofs.Again.Unary as unaries
 use Rattle.js_grammar.proofs.Again.Operation as operations
 use Rattle.js_grammar.proofs.Again.Assignment as assignments
 
-pub assignment_again : SeqAgain → (n : ℕ) (b : Below) → AgainBelow n b → (e : Expression) → Well e → 1 ≤ level e → height e ≤ suc n → (ts r : List Token) → Matches (flat e) ts r → Stops (edge e) r → assignment b n ts ≡ Ok (e, r)
+pub assignment_again : SeqAgain
+    → (n : ℕ) (b : Below)
+    → AgainBelow n b
+    → (e : Expression)
+    → Well e
+    → 1 ≤ level e
+    → height e ≤ suc n
+    → (ts r : List Token)
+    → Matches (flat e) ts r
+    → Stops (edge e) r
+    → assignment b n ts ≡ Ok (e, r)
 assignment_again q n b h e w v l ts r m s = assignments.assignment_is_read q n b h (objects_again q n b h) e w v l ts r m s
 
-pub expression_again : SeqAgain → (n : ℕ) (b : Below) → AgainBelow n b → (e : Expression) → Well e → height e ≤ suc n → (ts r : List Token) → Matches (flat e) ts r → Stops (edge e) r → NoComma r → expression b n ts ≡ Ok (e, r)
+pub expression_again : SeqAgain
+    → (n : ℕ) (b : Below)
+    → AgainBelow n b
+    → (e : Expression)
+    → Well e
+    → height e ≤ suc n
+    → (ts r : List Token)
+    → Matches (flat e) ts r
+    → Stops (edge e) r
+    → NoComma r
+    → expression b n ts ≡ Ok (e, r)
 expression_again q n b h e w l ts r m s c = assignments.expression_is_read q n b h (objects_again q n b h) e w l ts r m s c
 
-pub operation_again : SeqAgain → (n : ℕ) (b : Below) → AgainBelow n b → (m : ℕ) (e : Expression) → Well e → 3 ≤ level e → m ≤ level e → height e ≤ suc n → (ts r : List Token) → Matches (flat e) ts r → StopsOperation m (edge e) r → operation b n m ts ≡ Ok (e, r)
+pub operation_again : SeqAgain
+    → (n : ℕ) (b : Below)
+    → AgainBelow n b
+    → (m : ℕ) (e : Expression)
+    → Well e
+    → 3 ≤ level e
+    → m ≤ level e
+    → height e ≤ suc n
+    → (ts r : List Token)
+    → Matches (flat e) ts r
+    → StopsOperation m (edge e) r
+    → operation b n m ts ≡ Ok (e, r)
 operation_again q n b h m e w v low l ts r marks s = operations.operation_again q n b h (objects_again q n b h) m e w v low l ts r marks s
 
-pub unary_again : SeqAgain → (n : ℕ) (b : Below) → AgainBelow n b → (e : Expression) → Well e → 13 ≤ level e → height e ≤ suc n → (ts r : List Token) → Matches (flat e) ts r → StopsUnary (edge e) r → unary b n ts ≡ Ok (e, r)
+pub unary_again : SeqAgain
+    → (n : ℕ) (b : Below)
+    → AgainBelow n b
+    → (e : Expression)
+    → Well e
+    → 13 ≤ level e
+    → height e ≤ suc n
+    → (ts r : List Token)
+    → Matches (flat e) ts r
+    → StopsUnary (edge e) r
+    → unary b n ts ≡ Ok (e, r)
 unary_again q n b h e w v l ts r m s = unaries.unary_again q n b h (objects_again q n b h) e w v l ts r m s
 
-pub call_again : SeqAgain → (n : ℕ) (b : Below) → AgainBelow n b → (e : Expression) → Well e → 15 ≤ level e → height e ≤ suc n → (ts r : List Token) → Matches (flat e) ts r → link (head_of r) ≡ no_link → call b n ts ≡ Ok (e, r)
+pub call_again : SeqAgain
+    → (n : ℕ) (b : Below)
+    → AgainBelow n b
+    → (e : Expression)
+    → Well e
+    → 15 ≤ level e
+    → height e ≤ suc n
+    → (ts r : List Token)
+    → Matches (flat e) ts r
+    → link (head_of r) ≡ no_link
+    → call b n ts ≡ Ok (e, r)
 call_again q n b h e w v l ts r m s = unaries.call_again q n b h (objects_again q n b h) e w v l ts r m s

@@ -121,7 +121,11 @@ symbol_opens (numeric_literal n) (Some t) b m = ap opens m.0
 symbol_opens (string_literal n) (Some t) b m = ap opens m.0
 
 -- the first token of marks that begin so
-pub front_next : (ms : List Mark) → (f : Front ms) → (ts r : List Token) → Matches ms ts r → IsNext f.symbol (head_of ts)
+pub front_next : (ms : List Mark)
+    → (f : Front ms)
+    → (ts r : List Token)
+    → Matches ms ts r
+    → IsNext f.symbol (head_of ts)
 front_next ms f ts r m =
     let n : Matches (token f.symbol ∷ f.left) ts r = subst (λ (l : List Mark). Matches l ts r) f.marks m in
     n.0
@@ -129,7 +133,11 @@ front_next ms f ts r m =
 pub front_opens : (ms : List Mark) → Front ms → (ts r : List Token) → Matches ms ts r → opens_next (head_of ts) ≡ true
 front_opens ms f ts r m = symbol_opens f.symbol (head_of ts) f.begins (front_next ms f ts r m)
 
-pub expression_opens : (e : Expression) → Well e → (ts r : List Token) → Matches (flat e) ts r → opens_next (head_of ts) ≡ true
+pub expression_opens : (e : Expression)
+    → Well e
+    → (ts r : List Token)
+    → Matches (flat e) ts r
+    → opens_next (head_of ts) ≡ true
 expression_opens e w ts r m = front_opens (flat e) (expression_front e w) ts r m
 
 -- ---- what begins an expression is no token of these
@@ -151,11 +159,19 @@ closes_opens kinds.Colon c = refl
 closes_opens _ c = absurd cc
 
 -- an expression that begins with neither a brace nor function begins an expression statement
-pub opens_first : (o : Option Token) → opens_next o ≡ true → is_kind kinds.LeftBrace o ≡ false → is_kind kinds.Function o ≡ false → first o ≡ an_expression
+pub opens_first : (o : Option Token)
+    → opens_next o ≡ true
+    → is_kind kinds.LeftBrace o ≡ false
+    → is_kind kinds.Function o ≡ false
+    → first o ≡ an_expression
 opens_first None b c d = refl
 opens_first (Some t) b c d = by_kind t.kind b c d
   where
-    by_kind : (k : TokenKind) → opens k ≡ true → is_same_kind k kinds.LeftBrace ≡ false → is_same_kind k kinds.Function ≡ false → first_by k ≡ an_expression
+    by_kind : (k : TokenKind)
+        → opens k ≡ true
+        → is_same_kind k kinds.LeftBrace ≡ false
+        → is_same_kind k kinds.Function ≡ false
+        → first_by k ≡ an_expression
     by_kind kinds.Name b c d = refl
     by_kind kinds.Number b c d = refl
     by_kind kinds.String b c d = refl
@@ -179,7 +195,11 @@ opens_first (Some t) b c d = by_kind t.kind b c d
     by_kind _ b c d = absurd cc
 
 -- a symbol whose token is of a kind that is no name's or literal's is that kind
-symbol_of_kind : (k : TokenKind) (s : Symbol) (o : Option Token) → opens_symbol s ≡ true → is_same_kind kinds.Name k ≡ false → is_same_kind kinds.Number k ≡ false → is_same_kind kinds.String k ≡ false
+symbol_of_kind : (k : TokenKind) (s : Symbol) (o : Option Token)
+    → opens_symbol s ≡ true
+    → is_same_kind kinds.Name k ≡ false
+    → is_same_kind kinds.Number k ≡ false
+    → is_same_kind kinds.String k ≡ false
     → IsNext s o → is_kind k o ≡ true → s ≡ fixed k
 symbol_of_kind k s None b x y z m e = absurd m
 symbol_of_kind k (fixed j) (Some t) b x y z m e = ap (λ (i : TokenKind). fixed i) (sym m ∙ kind_is k t e)
@@ -188,7 +208,12 @@ symbol_of_kind k (identifier_name n) (Some t) b x y z m e = absurd cc
 symbol_of_kind k (numeric_literal n) (Some t) b x y z m e = let same : is_same_kind t.kind k ≡ false = ap (λ (i : TokenKind). is_same_kind i k) m.0 ∙ y in absurd cc
 symbol_of_kind k (string_literal n) (Some t) b x y z m e = let same : is_same_kind t.kind k ≡ false = ap (λ (i : TokenKind). is_same_kind i k) m.0 ∙ z in absurd cc
 
-pub front_no_brace : (ms : List Mark) → Front ms → begins_with_brace ms ≡ false → (ts r : List Token) → Matches ms ts r → is_kind kinds.LeftBrace (head_of ts) ≡ false
+pub front_no_brace : (ms : List Mark)
+    → Front ms
+    → begins_with_brace ms ≡ false
+    → (ts r : List Token)
+    → Matches ms ts r
+    → is_kind kinds.LeftBrace (head_of ts) ≡ false
 front_no_brace ms f n ts r m = by_test (is_kind kinds.LeftBrace (head_of ts)) refl
   where
     by_test : (x : Bool) → is_kind kinds.LeftBrace (head_of ts) ≡ x → x ≡ false
@@ -198,7 +223,12 @@ front_no_brace ms f n ts r m = by_test (is_kind kinds.LeftBrace (head_of ts)) re
         absurd cc
     by_test false e = refl
 
-pub front_no_function : (ms : List Mark) → Front ms → begins_with_function ms ≡ false → (ts r : List Token) → Matches ms ts r → is_kind kinds.Function (head_of ts) ≡ false
+pub front_no_function : (ms : List Mark)
+    → Front ms
+    → begins_with_function ms ≡ false
+    → (ts r : List Token)
+    → Matches ms ts r
+    → is_kind kinds.Function (head_of ts) ≡ false
 front_no_function ms f n ts r m = by_test (is_kind kinds.Function (head_of ts)) refl
   where
     by_test : (x : Bool) → is_kind kinds.Function (head_of ts) ≡ x → x ≡ false
@@ -213,7 +243,10 @@ pub opens_no_return : (o : Option Token) → opens_next o ≡ true → is_on_lin
 opens_no_return None b l = absurd cc
 opens_no_return (Some t) b l = by_kind t.kind t.newline_before b l
   where
-    by_kind : (k : TokenKind) (line : Bool) → opens k ≡ true → not line ≡ true → (is_same_kind k kinds.Semicolon || absent_before after_word k line) ≡ false
+    by_kind : (k : TokenKind) (line : Bool)
+        → opens k ≡ true
+        → not line ≡ true
+        → (is_same_kind k kinds.Semicolon || absent_before after_word k line) ≡ false
     by_kind k true b l = absurd cc
     by_kind kinds.Semicolon false b l = absurd cc
     by_kind kinds.RightBrace false b l = absurd cc
@@ -232,7 +265,13 @@ abbrev pub stops_by : TokenKind → Bool
 stops_by kinds.Comma = true
 stops_by k = closes k
 
-kind_stops : (k : TokenKind) → stops_by k ≡ true → (link_by k ≡ no_link) × (update_by k ≡ None) × (operator_by k ≡ None) × (joint_by k ≡ no_joint) × (is_same_kind k kinds.Arrow ≡ false)
+kind_stops : (k : TokenKind)
+    → stops_by k ≡ true
+    → (link_by k ≡ no_link)
+    × (update_by k ≡ None)
+    × (operator_by k ≡ None)
+    × (joint_by k ≡ no_joint)
+    × (is_same_kind k kinds.Arrow ≡ false)
 kind_stops kinds.Comma s = (refl, refl, refl, refl, refl)
 kind_stops kinds.RightParenthesis s = (refl, refl, refl, refl, refl)
 kind_stops kinds.RightBracket s = (refl, refl, refl, refl, refl)
@@ -254,7 +293,12 @@ token_stops t r s =
     let k = kind_stops t.kind s in
     (k.0, line_update t.newline_before t.kind k.1, k.2, k.3, and_false (is_on_line (Some t)) (is_same_kind t.kind kinds.Arrow) k.4)
 
-pub next_stops : (k : TokenKind) → stops_by k ≡ true → (r : List Token) → is_kind k (head_of r) ≡ true → (g : Edge) → Stops g r
+pub next_stops : (k : TokenKind)
+    → stops_by k ≡ true
+    → (r : List Token)
+    → is_kind k (head_of r) ≡ true
+    → (g : Edge)
+    → Stops g r
 next_stops k s [] e g = absurd cc
 next_stops k s (t ∷ r) e g = stops_all (t ∷ r) (token_stops t r (ap stops_by (kind_is k t e) ∙ s)) g
 
@@ -267,7 +311,12 @@ closes_stops_by kinds.Colon c = (refl, refl)
 closes_stops_by _ c = absurd cc
 
 -- an expression ends before a token that closes
-pub closes_stops : (k : TokenKind) → closes k ≡ true → (r : List Token) → is_kind k (head_of r) ≡ true → (g : Edge) → Stops g r × NoComma r
+pub closes_stops : (k : TokenKind)
+    → closes k ≡ true
+    → (r : List Token)
+    → is_kind k (head_of r) ≡ true
+    → (g : Edge)
+    → Stops g r × NoComma r
 closes_stops k c r e g =
     let s = closes_stops_by k c in
     (next_stops k s.0 r e g, kind_not k kinds.Comma (head_of r) e s.1)
@@ -292,7 +341,10 @@ not_and true true e = absurd cc
 not_and true false e = (refl, refl)
 not_and false b e = absurd cc
 
-goes_on_by : (g : Edge) (k : TokenKind) (line : Bool) → follows_by k ≡ true → absent_before (after_expression g) k line ≡ true → (k ≡ kinds.RightBrace) ⊎ ((line ≡ true) × (continues g k ≡ false))
+goes_on_by : (g : Edge) (k : TokenKind) (line : Bool)
+    → follows_by k ≡ true
+    → absent_before (after_expression g) k line ≡ true
+    → (k ≡ kinds.RightBrace) ⊎ ((line ≡ true) × (continues g k ≡ false))
 goes_on_by g kinds.Semicolon line f a = absurd cc
 goes_on_by g kinds.RightBrace line f a = inl refl
 goes_on_by g _ line f a = inr (not_and line _ a)
@@ -364,7 +416,9 @@ no_finally_by : (k : TokenKind) → follows_by k ≡ true → is_same_kind k kin
 no_finally_by kinds.Finally f = absurd cc
 no_finally_by _ f = refl
 
-pub follows_no_finally : (r : List Token) → follows_statement (head_of r) ≡ true → is_kind kinds.Finally (head_of r) ≡ false
+pub follows_no_finally : (r : List Token)
+    → follows_statement (head_of r) ≡ true
+    → is_kind kinds.Finally (head_of r) ≡ false
 follows_no_finally [] f = refl
 follows_no_finally (t ∷ r) f = no_finally_by t.kind f
 
@@ -372,12 +426,17 @@ pub follows_no_comma : (r : List Token) → follows_statement (head_of r) ≡ tr
 follows_no_comma [] f = refl
 follows_no_comma (t ∷ r) f = no_comma_by t.kind f
 
-pub follows_no_assign : (r : List Token) → follows_statement (head_of r) ≡ true → is_kind kinds.Assign (head_of r) ≡ false
+pub follows_no_assign : (r : List Token)
+    → follows_statement (head_of r) ≡ true
+    → is_kind kinds.Assign (head_of r) ≡ false
 follows_no_assign [] f = refl
 follows_no_assign (t ∷ r) f = no_assign_by t.kind f
 
 -- where its semicolon is absent, and what follows may follow a statement, an expression ends
-pub absent_stops : (g : Edge) (r : List Token) → follows_statement (head_of r) ≡ true → absent (after_expression g) (head_of r) ≡ true → Stops g r
+pub absent_stops : (g : Edge) (r : List Token)
+    → follows_statement (head_of r) ≡ true
+    → absent (after_expression g) (head_of r) ≡ true
+    → Stops g r
 absent_stops plain [] f a = (refl, refl, refl, refl, refl)
 absent_stops braces [] f a = tt
 absent_stops update [] f a = (refl, refl)
@@ -392,14 +451,20 @@ absent_stops g (t ∷ r) f a = elim (goes_on_by g t.kind t.newline_before f a) [
     by_edge update l c = (no_operator_by t.kind f c, no_joint_by t.kind f)
 
 -- an expression ends before the semicolon of its statement, also where that is absent
-pub semicolon_stops : (g : Edge) (ts r : List Token) → follows_statement (head_of r) ≡ true → Matches (semicolon (after_expression g) ∷ []) ts r → Stops g ts × NoComma ts
+pub semicolon_stops : (g : Edge) (ts r : List Token)
+    → follows_statement (head_of r) ≡ true
+    → Matches (semicolon (after_expression g) ∷ []) ts r
+    → Stops g ts × NoComma ts
 semicolon_stops g ts r f (inl m) = closes_stops kinds.Semicolon refl ts (next_again kinds.Semicolon (head_of ts) m.0) g
 semicolon_stops g ts r f (inr m) =
     let here : follows_statement (head_of ts) ≡ true = subst (λ (l : List Token). follows_statement (head_of l) ≡ true) (sym m.1) f in
     (absent_stops g ts here m.0, follows_no_comma ts here)
 
 -- a declared name ends before the semicolon of its statement, also where that is absent
-pub word_stops : (end : End) (ts r : List Token) → follows_statement (head_of r) ≡ true → Matches (semicolon end ∷ []) ts r → (is_kind kinds.Assign (head_of ts) ≡ false) × NoComma ts
+pub word_stops : (end : End) (ts r : List Token)
+    → follows_statement (head_of r) ≡ true
+    → Matches (semicolon end ∷ []) ts r
+    → (is_kind kinds.Assign (head_of ts) ≡ false) × NoComma ts
 word_stops end ts r f (inl m) =
     let s : is_kind kinds.Semicolon (head_of ts) ≡ true = next_again kinds.Semicolon (head_of ts) m.0 in
     (kind_not kinds.Semicolon kinds.Assign (head_of ts) s refl, kind_not kinds.Semicolon kinds.Comma (head_of ts) s refl)
@@ -505,16 +570,22 @@ starts_no_else_by kinds.Else s = absurd cc
 starts_no_else_by _ s = refl
 
 -- what begins a statement may follow one, ends no list and is no else
-pub starts_follows : (o : Option Token) → starts_next o ≡ true → (follows_statement o ≡ true) × (ends_list o ≡ false) × (is_kind kinds.Else o ≡ false)
+pub starts_follows : (o : Option Token)
+    → starts_next o ≡ true
+    → (follows_statement o ≡ true) × (ends_list o ≡ false) × (is_kind kinds.Else o ≡ false)
 starts_follows None s = absurd cc
 starts_follows (Some t) s = (starts_follows_by t.kind s, starts_no_end_by t.kind s, starts_no_else_by t.kind s)
 
-ends_follows_by : (k : TokenKind) → is_same_kind k kinds.RightBrace ≡ true → (follows_by k ≡ true) × (is_same_kind k kinds.Else ≡ false)
+ends_follows_by : (k : TokenKind)
+    → is_same_kind k kinds.RightBrace ≡ true
+    → (follows_by k ≡ true) × (is_same_kind k kinds.Else ≡ false)
 ends_follows_by kinds.RightBrace e = (refl, refl)
 ends_follows_by _ e = absurd cc
 
 -- what ends a list may follow a statement, and is no else
-pub ends_follows : (o : Option Token) → ends_list o ≡ true → (follows_statement o ≡ true) × (is_kind kinds.Else o ≡ false)
+pub ends_follows : (o : Option Token)
+    → ends_list o ≡ true
+    → (follows_statement o ≡ true) × (is_kind kinds.Else o ≡ false)
 ends_follows None e = (refl, refl)
 ends_follows (Some t) e = ends_follows_by t.kind e
 
@@ -554,7 +625,11 @@ statement_front c trees.debugger w = starts_with kinds.Debugger _ refl
 statement_front c (trees.declared_function n ps body) w = starts_with kinds.Function _ refl
 
 -- a statement begins so, and takes a token
-pub statement_starts : (c : Context) (s : Statement) → WellStatement c s → (ts r : List Token) → Matches (flat_statement s) ts r → (starts_next (head_of ts) ≡ true) × (length r < length ts)
+pub statement_starts : (c : Context) (s : Statement)
+    → WellStatement c s
+    → (ts r : List Token)
+    → Matches (flat_statement s) ts r
+    → (starts_next (head_of ts) ≡ true) × (length r < length ts)
 statement_starts c s w ts r m =
     let f = statement_front c s w in
     let n : Matches (token f.symbol ∷ f.left) ts r = subst (λ (l : List Mark). Matches l ts r) f.marks m in

@@ -17,7 +17,10 @@ use Rattle.js_syntax.proofs.KindLemmas.{next_again, kind_not}
 
 -- ---- a token of a kind
 
-pub start_fixed : (k : TokenKind) (c : Start) (o : Option Token) → IsNext (fixed k) o → ((s : List ℕ) (v : ℕ) → start_by k s v ≡ c) → start o ≡ c
+pub start_fixed : (k : TokenKind) (c : Start) (o : Option Token)
+    → IsNext (fixed k) o
+    → ((s : List ℕ) (v : ℕ) → start_by k s v ≡ c)
+    → start o ≡ c
 start_fixed k c None m e = absurd m
 start_fixed k c (Some t) m e = rw m (e t.string_value t.numeric_value)
 
@@ -50,7 +53,10 @@ joint_fixed k None m = absurd m
 joint_fixed k (Some t) m = rw m refl
 
 -- a token of a kind that is no update
-pub no_update_fixed : (k : TokenKind) (o : Option Token) → IsNext (fixed k) o → update_by k ≡ None → update_near o ≡ None
+pub no_update_fixed : (k : TokenKind) (o : Option Token)
+    → IsNext (fixed k) o
+    → update_by k ≡ None
+    → update_near o ≡ None
 no_update_fixed k None m e = absurd m
 no_update_fixed k (Some t) m e = rw m (either t.newline_before)
   where
@@ -59,7 +65,10 @@ no_update_fixed k (Some t) m e = rw m (either t.newline_before)
     either false = e
 
 -- an update on the line of the token before it
-pub update_fixed : (k : TokenKind) (o : Option Token) → IsNext (fixed k) o → is_on_line o ≡ true → update_near o ≡ update_by k
+pub update_fixed : (k : TokenKind) (o : Option Token)
+    → IsNext (fixed k) o
+    → is_on_line o ≡ true
+    → update_near o ≡ update_by k
 update_fixed k None m l = absurd m
 update_fixed k (Some t) m l = rw m (either t.newline_before l)
   where
@@ -68,10 +77,16 @@ update_fixed k (Some t) m l = rw m (either t.newline_before l)
     either false e = refl
 
 -- a token of a kind is of no other
-pub other_kind : (k j : TokenKind) (o : Option Token) → IsNext (fixed k) o → is_same_kind k j ≡ false → is_kind j o ≡ false
+pub other_kind : (k j : TokenKind) (o : Option Token)
+    → IsNext (fixed k) o
+    → is_same_kind k j ≡ false
+    → is_kind j o ≡ false
 other_kind k j o m e = kind_not k j o (next_again k o m) e
 
-pub no_arrow_fixed : (k : TokenKind) (o : Option Token) → IsNext (fixed k) o → is_same_kind k kinds.Arrow ≡ false → is_arrow o ≡ false
+pub no_arrow_fixed : (k : TokenKind) (o : Option Token)
+    → IsNext (fixed k) o
+    → is_same_kind k kinds.Arrow ≡ false
+    → is_arrow o ≡ false
 no_arrow_fixed k o m e = rw (other_kind k kinds.Arrow o m e) (never (is_on_line o))
   where
     never : (b : Bool) → (b && false) ≡ false

@@ -152,7 +152,10 @@ operation_unary m update r s = tt
 operation_unary m braces r s = tt
 
 -- an operation ends before what doesn't go on with it
-pub operation_stops : (m : ℕ) (d : Edge) (r : List Token) → (d ≡ braces → ⊥) → StopsOperation m d r → operator_from m (operator (head_of r)) ≡ None
+pub operation_stops : (m : ℕ) (d : Edge) (r : List Token)
+    → (d ≡ braces → ⊥)
+    → StopsOperation m d r
+    → operator_from m (operator (head_of r)) ≡ None
 operation_stops m plain r n s = s.2
 operation_stops m update r n s = s
 operation_stops m braces r n s = absurd (n refl)

@@ -14,7 +14,12 @@ use Rattle.js_syntax.proofs.PlacedTokenLemmas.{next_shorter}
 -- ---- what elements are
 
 -- a good element is read again before what ends it
-abbrev pub ReadAgain : {S A : Type 0} → (S → Reader A) → (A → List Mark) → (S → A → Type 0) → (A → List Token → Type 0) → Type 0
+abbrev pub ReadAgain : {S A : Type 0}
+    → (S → Reader A)
+    → (A → List Mark)
+    → (S → A → Type 0)
+    → (A → List Token → Type 0)
+    → Type 0
 ReadAgain {S} {A} one f Good Ends = (s : S) (x : A) → Good s x → (ts r : List Token) → Matches (f x) ts r → Ends x r → one s ts ≡ Ok (x, r)
 
 -- a good element doesn't begin with what a test finds

@@ -23,14 +23,24 @@ use Rattle.js_grammar.proofs.Again.Unary.{unary_again}
 abbrev ChainAgain : ℕ → Below → Expression → Type 0
 ChainAgain n b e = (m k : ℕ) → m ≤ level e → height e ≤ suc n → k + spine e ≡ suc n → (ts r : List Token) → Matches (flat e) ts r → StopsOperation (suc (level e)) (edge e) r → operation b n m ts ≡ chain b n m k e r
 
-unary_chain : (q : SeqAgain) (n : ℕ) (b : Below) → AgainBelow n b → ObjectsAgain n b → (e : Expression) → 13 ≤ level e → spine e ≡ 0 → Well e → ChainAgain n b e
+unary_chain : (q : SeqAgain) (n : ℕ) (b : Below)
+    → AgainBelow n b
+    → ObjectsAgain n b
+    → (e : Expression)
+    → 13 ≤ level e
+    → spine e ≡ 0
+    → Well e
+    → ChainAgain n b e
 unfolding operation
 unary_chain q n b h os e v z w m k low l s ts r ms stops =
     let same : suc n ≡ k = omega arith in
     rw (unary_again q n b h os e w v l ts r ms (operation_unary (suc (level e)) (edge e) r stops)) (ap (λ (k : ℕ). chain b n m k e r) same)
 
 -- what an operator ends
-operator_stops : (o : BinaryOperator) (m : ℕ) (d : Edge) (r : List Token) → strength o < m → IsNext (fixed (binary_kind o)) (head_of r) → StopsOperation m d r
+operator_stops : (o : BinaryOperator) (m : ℕ) (d : Edge) (r : List Token)
+    → strength o < m
+    → IsNext (fixed (binary_kind o)) (head_of r)
+    → StopsOperation m d r
 operator_stops o m d r l next =
     let is : IsOperator (binary_kind o) o = operator_again o in
     let weak : nat_le m (strength o) ≡ false = lt-leb m (strength o) l in
@@ -38,12 +48,21 @@ operator_stops o m d r l next =
     let none : operator_from m (operator (head_of r)) ≡ None = rw (found, weak) refl in
     by_edge d (link_fixed (binary_kind o) (head_of r) next ∙ is.link) (no_update_fixed (binary_kind o) (head_of r) next is.update) none
   where
-    by_edge : (d : Edge) → link (head_of r) ≡ no_link → update_near (head_of r) ≡ None → operator_from m (operator (head_of r)) ≡ None → StopsOperation m d r
+    by_edge : (d : Edge)
+        → link (head_of r) ≡ no_link
+        → update_near (head_of r) ≡ None
+        → operator_from m (operator (head_of r)) ≡ None
+        → StopsOperation m d r
     by_edge plain a c e = (a, c, e)
     by_edge update a c e = e
     by_edge braces a c e = tt
 
-binary_chain : (n : ℕ) (b : Below) → AgainBelow n b → (o : BinaryOperator) (x y : Expression) → Well (trees.binary o x y) → ChainAgain n b x → ChainAgain n b (trees.binary o x y)
+binary_chain : (n : ℕ) (b : Below)
+    → AgainBelow n b
+    → (o : BinaryOperator) (x y : Expression)
+    → Well (trees.binary o x y)
+    → ChainAgain n b x
+    → ChainAgain n b (trees.binary o x y)
 unfolding chain
 binary_chain n b h o x y w left m k low l s ts r ms stops =
     let inner : List Mark = token (fixed (binary_kind o)) ∷ (flat y ++ []) in
@@ -57,7 +76,13 @@ binary_chain n b h o x y w left m k low l s ts r ms stops =
     left m (suc k) (omega (arith, w.1)) (omega arith) (omega arith) ts p.0 p.1 (operator_stops o (suc (level x)) (edge x) p.0 (omega (arith, w.1)) p.2.0)
     ∙ rw (found, from, lower, operand) refl
 
-chain_again : (q : SeqAgain) (n : ℕ) (b : Below) → AgainBelow n b → ObjectsAgain n b → (e : Expression) → 3 ≤ level e → Well e → ChainAgain n b e
+chain_again : (q : SeqAgain) (n : ℕ) (b : Below)
+    → AgainBelow n b
+    → ObjectsAgain n b
+    → (e : Expression)
+    → 3 ≤ level e
+    → Well e
+    → ChainAgain n b e
 chain_again q n b h os (trees.binary o x y) v w = binary_chain n b h o x y w (chain_again q n b h os x (omega (arith, w.1, strength_high o)) w.0)
 chain_again q n b h os (trees.arrow ps e) v w = absurd (omega arith)
 chain_again q n b h os (trees.arrow_block ps body) v w = absurd (omega arith)
@@ -81,11 +106,24 @@ chain_again q n b h os (trees.object ps) v w = unary_chain q n b h os (trees.obj
 chain_again q n b h os (trees.function o ps body) v w = unary_chain q n b h os (trees.function o ps body) (omega arith) refl w
 chain_again q n b h os (trees.parenthesized e) v w = unary_chain q n b h os (trees.parenthesized e) (omega arith) refl w
 
-chain_end : (b : Below) (n m k : ℕ) (e : Expression) (r : List Token) → operator_from m (operator (head_of r)) ≡ None → chain b n m (suc k) e r ≡ Ok (e, r)
+chain_end : (b : Below) (n m k : ℕ) (e : Expression) (r : List Token)
+    → operator_from m (operator (head_of r)) ≡ None
+    → chain b n m (suc k) e r ≡ Ok (e, r)
 unfolding chain
 chain_end b n m k e r s = rw s refl
 
-pub operation_again : (q : SeqAgain) (n : ℕ) (b : Below) → AgainBelow n b → ObjectsAgain n b → (m : ℕ) (e : Expression) → Well e → 3 ≤ level e → m ≤ level e → height e ≤ suc n → (ts r : List Token) → Matches (flat e) ts r → StopsOperation m (edge e) r → operation b n m ts ≡ Ok (e, r)
+pub operation_again : (q : SeqAgain) (n : ℕ) (b : Below)
+    → AgainBelow n b
+    → ObjectsAgain n b
+    → (m : ℕ) (e : Expression)
+    → Well e
+    → 3 ≤ level e
+    → m ≤ level e
+    → height e ≤ suc n
+    → (ts r : List Token)
+    → Matches (flat e) ts r
+    → StopsOperation m (edge e) r
+    → operation b n m ts ≡ Ok (e, r)
 operation_again q n b h os m e w v v' l ts r ms stops =
     let low : spine e < height e = spine_low e in
     let k : ℕ = n - spine e in

@@ -52,12 +52,23 @@ trailing_marks (trees.an_expression e es) = refl
 abbrev pub GoodAssignment : ℕ → Unit {0} → Expression → Type 0
 GoodAssignment n s e = Well e × (1 ≤ level e) × (height e ≤ n)
 
-good_assignments : (n : ℕ) (es : Expressions) → AreAssignments es → height_of_expressions es ≤ n → AllGood no_state (GoodAssignment n) tt (list_of es)
+good_assignments : (n : ℕ) (es : Expressions)
+    → AreAssignments es
+    → height_of_expressions es ≤ n
+    → AllGood no_state (GoodAssignment n) tt (list_of es)
 good_assignments n trees.no_expressions w h = tt
 good_assignments n (trees.an_expression e es) w h = ((w.0, w.1, omega (arith, h)), good_assignments n es w.2 (omega (arith, h)))
 
-pub arguments_again : (n : ℕ) (b : Below) → AgainBelow n b → (k : TokenKind) → closes k ≡ true → (es : Expressions) → AreAssignments es → height_of_expressions es ≤ n
-    → (ts r : List Token) → Matches (flat_expressions es ++ (trailing es ++ (token (fixed k) ∷ []))) ts r → arguments_before b k ts ≡ Ok (es, r)
+pub arguments_again : (n : ℕ) (b : Below)
+    → AgainBelow n b
+    → (k : TokenKind)
+    → closes k ≡ true
+    → (es : Expressions)
+    → AreAssignments es
+    → height_of_expressions es ≤ n
+    → (ts r : List Token)
+    → Matches (flat_expressions es ++ (trailing es ++ (token (fixed k) ∷ []))) ts r
+    → arguments_before b k ts ≡ Ok (es, r)
 unfolding arguments_before
 arguments_again n b a k c es w h ts r m =
     let n_marks : flat_expressions es ++ (trailing es ++ (token (fixed k) ∷ [])) ≡ with_commas flat (list_of es) ++ (behind_last (list_of es) ++ (token (fixed k) ∷ [])) = rw (list_marks es, trailing_marks es) refl in
@@ -70,13 +81,23 @@ arguments_again n b a k c es w h ts r m =
     rw (read, list_is es) refl
 
 -- the last of these ends here
-last_stops : (e : Expression) (es : Expressions) (r : List Token) → Stops (edge_of_last (trees.an_expression e es)) r → LastEnds (λ e r. Stops (edge e) r) (list_of es) r
+last_stops : (e : Expression) (es : Expressions) (r : List Token)
+    → Stops (edge_of_last (trees.an_expression e es)) r
+    → LastEnds (λ e r. Stops (edge e) r) (list_of es) r
 last_stops e trees.no_expressions r s = tt
 last_stops e (trees.an_expression f trees.no_expressions) r s = s
 last_stops e (trees.an_expression f (trees.an_expression g es)) r s = last_stops f (trees.an_expression g es) r s
 
-pub more_again : (n : ℕ) (b : Below) → AgainBelow n b → (e : Expression) (es : Expressions) → AreAssignments es → height_of_expressions es ≤ n
-    → (ts r : List Token) → Matches (more_expressions es) ts r → Stops (edge_of_last (trees.an_expression e es)) r → NoComma r → more_assignments b ts ≡ Ok (es, r)
+pub more_again : (n : ℕ) (b : Below)
+    → AgainBelow n b
+    → (e : Expression) (es : Expressions)
+    → AreAssignments es
+    → height_of_expressions es ≤ n
+    → (ts r : List Token)
+    → Matches (more_expressions es) ts r
+    → Stops (edge_of_last (trees.an_expression e es)) r
+    → NoComma r
+    → more_assignments b ts ≡ Ok (es, r)
 unfolding more_assignments
 more_again n b a e es w h ts r m s no_comma =
     let read : others (one_of b.assignment) no_state (suc (length ts)) tt ts ≡ Ok (list_of es, r) =
@@ -90,11 +111,14 @@ more_again n b a e es w h ts r m s no_comma =
 -- ---- names
 
 -- names up to the parenthesis behind them
-names_marks : (ns : List Identifier) → flat_names ns ++ (token (fixed kinds.RightParenthesis) ∷ []) ≡ with_commas an_identifier ns ++ (behind_last ns ++ (token (fixed kinds.RightParenthesis) ∷ []))
+names_marks : (ns : List Identifier)
+    → flat_names ns ++ (token (fixed kinds.RightParenthesis) ∷ []) ≡ with_commas an_identifier ns ++ (behind_last ns ++ (token (fixed kinds.RightParenthesis) ∷ []))
 names_marks [] = refl
 names_marks (n ∷ ns) = ap (λ (l : List Mark). token (identifier n) ∷ l) (append_assoc (more_names ns) (trailing_comma ∷ []) (token (fixed kinds.RightParenthesis) ∷ []) ∙ ap (λ (l : List Mark). l ++ (trailing_comma ∷ token (fixed kinds.RightParenthesis) ∷ [])) (more_names_is ns))
 
-name_no_closer : (n : Identifier) (o : Option Token) → IsNext (identifier n) o → is_kind kinds.RightParenthesis o ≡ false
+name_no_closer : (n : Identifier) (o : Option Token)
+    → IsNext (identifier n) o
+    → is_kind kinds.RightParenthesis o ≡ false
 name_no_closer n None m = refl
 name_no_closer n (Some t) m = kind_not kinds.Name kinds.RightParenthesis (Some t) (next_again kinds.Name (Some t) m.0) refl
 
@@ -102,7 +126,9 @@ any_names : (ns : List Identifier) → AllGood no_state (λ (s : Unit {0}) (n : 
 any_names [] = tt
 any_names (n ∷ ns) = (tt, any_names ns)
 
-pub names_again : (ns : List Identifier) (ts r : List Token) → Matches (flat_names ns ++ (token (fixed kinds.RightParenthesis) ∷ [])) ts r → names_before ts ≡ Ok (ns, r)
+pub names_again : (ns : List Identifier) (ts r : List Token)
+    → Matches (flat_names ns ++ (token (fixed kinds.RightParenthesis) ∷ [])) ts r
+    → names_before ts ≡ Ok (ns, r)
 unfolding names_before
 names_again ns ts r m =
     elements_again (one_of name_at) no_state an_identifier (λ (s : Unit {0}) (n : Identifier). Unit {0}) kinds.RightParenthesis refl
@@ -115,7 +141,11 @@ good_names : (taken ns : List Identifier) → AreFresh taken ns → AllGood with
 good_names taken [] f = tt
 good_names taken (n ∷ ns) f = (f.0, good_names (n ∷ taken) ns f.1)
 
-pub parameters_again : (ns : List Identifier) → AreFresh [] ns → (ts r : List Token) → Matches (flat_parameters ns) ts r → parameters_at ts ≡ Ok (ns, r)
+pub parameters_again : (ns : List Identifier)
+    → AreFresh [] ns
+    → (ts r : List Token)
+    → Matches (flat_parameters ns) ts r
+    → parameters_at ts ≡ Ok (ns, r)
 unfolding parameters_at
 parameters_again ns f ts r m =
     let start : expect kinds.LeftParenthesis ts ≡ Ok (tt, tail_of ts) = expect_again kinds.LeftParenthesis ts (tail_of ts) (m.0, refl) in
@@ -130,7 +160,10 @@ parameters_again ns f ts r m =
 -- ---- names that differ
 
 -- names that differ from some and from one another differ from fewer
-fresh_under : (ns taken fewer : List Identifier) → ((n : Identifier) → is_among taken n ≡ false → is_among fewer n ≡ false) → AreFresh taken ns → AreFresh fewer ns
+fresh_under : (ns taken fewer : List Identifier)
+    → ((n : Identifier) → is_among taken n ≡ false → is_among fewer n ≡ false)
+    → AreFresh taken ns
+    → AreFresh fewer ns
 fresh_under [] taken fewer u f = tt
 fresh_under (n ∷ ns) taken fewer u f = (u n f.0, fresh_under ns (n ∷ taken) (n ∷ fewer) under f.1)
   where
@@ -141,7 +174,9 @@ fresh_under (n ∷ ns) taken fewer u f = (u n f.0, fresh_under ns (n ∷ taken) 
     under : (m : Identifier) → is_among (n ∷ taken) m ≡ false → is_among (n ∷ fewer) m ≡ false
     under m e = or_false (pointwise nat_eq n m) (is_among taken m) (is_among fewer m) (u m) e
 
-fresh_parts : (taken ms ns : List Identifier) → AreFresh taken (ms ++ ns) → AreFresh taken ms × AreFresh (with_names taken ms) ns
+fresh_parts : (taken ms ns : List Identifier)
+    → AreFresh taken (ms ++ ns)
+    → AreFresh taken ms × AreFresh (with_names taken ms) ns
 fresh_parts taken [] ns f = (tt, f)
 fresh_parts taken (m ∷ ms) ns f = let p = fresh_parts (m ∷ taken) ms ns f.1 in ((f.0, p.0), p.1)
 
@@ -153,7 +188,10 @@ or_both : (x y : Bool) → x ≡ false → y ≡ false → (x || y) ≡ false
 or_both true y e f = absurd cc
 or_both false y e f = f
 
-among_names : (ns taken : List Identifier) (m : Identifier) → is_among ns m ≡ false → is_among taken m ≡ false → is_among (with_names taken ns) m ≡ false
+among_names : (ns taken : List Identifier) (m : Identifier)
+    → is_among ns m ≡ false
+    → is_among taken m ≡ false
+    → is_among (with_names taken ns) m ≡ false
 among_names [] taken m e f = f
 among_names (n ∷ ns) taken m e f =
     let p = or_parts (pointwise nat_eq n m) (is_among ns m) e in
@@ -181,15 +219,26 @@ statements_marks (trees.a_statement s ss) = ap (λ (l : List Mark). flat_stateme
 abbrev pub GoodItem : ℕ → Context → List Identifier → Statement → Type 0
 GoodItem n context taken s = WellStatement context s × AreFresh taken (declared_by s) × (height_of_statement s ≤ n)
 
-good_items : (n : ℕ) (context : Context) (taken : List Identifier) (ss : Statements) → WellStatements context ss → AreFresh taken (declared_names ss) → height_of_statements ss ≤ n
+good_items : (n : ℕ) (context : Context) (taken : List Identifier) (ss : Statements)
+    → WellStatements context ss
+    → AreFresh taken (declared_names ss)
+    → height_of_statements ss ≤ n
     → AllGood with_declared (GoodItem n context) taken (statements_of ss)
 good_items n context taken trees.no_statements w f h = tt
 good_items n context taken (trees.a_statement s ss) w f h =
     let p = fresh_parts taken (declared_by s) (declared_names ss) f in
     ((w.0, p.0, omega (arith, h)), good_items n context (with_declared taken s) ss w.1 p.1 (omega (arith, h)))
 
-pub statements_again : (n : ℕ) (b : Below) → AgainBelow n b → (context : Context) (taken : List Identifier) (ss : Statements) → WellStatements context ss → AreFresh taken (declared_names ss) → height_of_statements ss ≤ n
-    → (ts r : List Token) → Matches (flat_statements ss) ts r → ends_list (head_of r) ≡ true → items_at b context taken ts ≡ Ok (ss, r)
+pub statements_again : (n : ℕ) (b : Below)
+    → AgainBelow n b
+    → (context : Context) (taken : List Identifier) (ss : Statements)
+    → WellStatements context ss
+    → AreFresh taken (declared_names ss)
+    → height_of_statements ss ≤ n
+    → (ts r : List Token)
+    → Matches (flat_statements ss) ts r
+    → ends_list (head_of r) ≡ true
+    → items_at b context taken ts ≡ Ok (ss, r)
 unfolding items_at
 statements_again n b a context taken ss w f h ts r m e =
     let read : items (λ names r. b.item context names r) with_declared (suc (length ts)) taken ts ≡ Ok (statements_of ss, r) =
@@ -206,7 +255,12 @@ brace_ends : (o : Option Token) → is_kind kinds.RightBrace o ≡ true → ends
 brace_ends None e = refl
 brace_ends (Some t) e = e
 
-pub braces_again : (n : ℕ) (b : Below) → AgainBelow n b → (context : Context) (taken : List Identifier) (ss : Statements) → WellStatements context ss → AreFresh taken (declared_names ss) → height_of_statements ss ≤ n
+pub braces_again : (n : ℕ) (b : Below)
+    → AgainBelow n b
+    → (context : Context) (taken : List Identifier) (ss : Statements)
+    → WellStatements context ss
+    → AreFresh taken (declared_names ss)
+    → height_of_statements ss ≤ n
     → (ts r : List Token) → Matches (flats.in_braces (flat_statements ss)) ts r → braces b context taken ts ≡ Ok (ss, r)
 unfolding braces
 braces_again n b a context taken ss w f h ts r m =
@@ -215,8 +269,15 @@ braces_again n b a context taken ss w f h ts r m =
     let end : ends_list (head_of p.0) ≡ true = brace_ends (head_of p.0) (next_again kinds.RightBrace (head_of p.0) p.2.0) in
     rw (start, statements_again n b a context taken ss w f h (tail_of ts) p.0 p.1 end, expect_again kinds.RightBrace p.0 r p.2) refl
 
-pub code_again : (n : ℕ) (b : Below) → AgainBelow n b → (f : Code) → DifferIn f.parameters f.body → WellStatements function_body f.body → height_of_statements f.body ≤ n
-    → (ts r : List Token) → Matches (flat_parameters f.parameters ++ flats.in_braces (flat_statements f.body)) ts r → code_at b ts ≡ Ok (f, r)
+pub code_again : (n : ℕ) (b : Below)
+    → AgainBelow n b
+    → (f : Code)
+    → DifferIn f.parameters f.body
+    → WellStatements function_body f.body
+    → height_of_statements f.body ≤ n
+    → (ts r : List Token)
+    → Matches (flat_parameters f.parameters ++ flats.in_braces (flat_statements f.body)) ts r
+    → code_at b ts ≡ Ok (f, r)
 unfolding code_at
 code_again n b a f d w h ts r m =
     let p = parts (flat_parameters f.parameters) (flats.in_braces (flat_statements f.body)) ts r m in
@@ -233,8 +294,14 @@ DeclaratorEnds (trees.declarator n (trees.present e)) r = Stops (edge e) r
 abbrev pub GoodDeclarator : ℕ → Bool → List Identifier → Declarator → Type 0
 GoodDeclarator n constant taken d = WellDeclarator d × (constant ≡ true → has_initializer d ≡ true) × (is_among taken (name_of d) ≡ false) × (height_of_declarator d ≤ n)
 
-pub declarator_again : (n : ℕ) (b : Below) → AgainBelow n b → (constant : Bool) (taken : List Identifier) (d : Declarator) → GoodDeclarator n constant taken d
-    → (ts r : List Token) → Matches (flat_declarator d) ts r → DeclaratorEnds d r → declarator_at b constant taken ts ≡ Ok (d, r)
+pub declarator_again : (n : ℕ) (b : Below)
+    → AgainBelow n b
+    → (constant : Bool) (taken : List Identifier) (d : Declarator)
+    → GoodDeclarator n constant taken d
+    → (ts r : List Token)
+    → Matches (flat_declarator d) ts r
+    → DeclaratorEnds d r
+    → declarator_at b constant taken ts ≡ Ok (d, r)
 unfolding declarator_at
 declarator_again n b a true taken (trees.declarator x trees.omitted) g ts r m e = let no : false ≡ true = g.1 refl in absurd cc
 declarator_again n b a false taken (trees.declarator x trees.omitted) g ts r m e =
@@ -256,11 +323,17 @@ more_declarators_marks : (ds : Declarators) → more_declarators ds ≡ behind_c
 more_declarators_marks trees.no_declarators = refl
 more_declarators_marks (trees.a_declarator d ds) = ap (λ (l : List Mark). token (fixed kinds.Comma) ∷ (flat_declarator d ++ l)) (append-nil (more_declarators ds) ∙ more_declarators_marks ds)
 
-first_initialized : (constant : Bool) (d : Declarator) (ds : Declarators) → IsInitialized constant (trees.a_declarator d ds) → (constant ≡ true → has_initializer d ≡ true) × IsInitialized constant ds
+first_initialized : (constant : Bool) (d : Declarator) (ds : Declarators)
+    → IsInitialized constant (trees.a_declarator d ds)
+    → (constant ≡ true → has_initializer d ≡ true) × IsInitialized constant ds
 first_initialized true d ds i = (λ e. i.0, i.1)
 first_initialized false d ds i = (λ e. absurd cc, tt)
 
-good_declarators : (n : ℕ) (constant : Bool) (taken : List Identifier) (ds : Declarators) → WellDeclarators ds → IsInitialized constant ds → AreFresh taken (names_of_declarators ds) → height_of_declarators ds ≤ n
+good_declarators : (n : ℕ) (constant : Bool) (taken : List Identifier) (ds : Declarators)
+    → WellDeclarators ds
+    → IsInitialized constant ds
+    → AreFresh taken (names_of_declarators ds)
+    → height_of_declarators ds ≤ n
     → AllGood with_declarator (GoodDeclarator n constant) taken (declarators_of ds)
 good_declarators n constant taken trees.no_declarators w i f h = tt
 good_declarators n constant taken (trees.a_declarator (trees.declarator x e) ds) w i f h =
@@ -275,8 +348,18 @@ declarator_comma (trees.declarator n (trees.present e)) u c = comma_stops u c (e
 abbrev pub DeclaratorsEnd : Declarators → List Token → Type 0
 DeclaratorsEnd ds r = LastEnds DeclaratorEnds (declarators_of ds) r × NoComma r
 
-pub declarators_again : (n : ℕ) (b : Below) → AgainBelow n b → (constant : Bool) (taken : List Identifier) (ds : Declarators) → is_some_declarator ds ≡ true → WellDeclarators ds → IsInitialized constant ds → AreFresh taken (names_of_declarators ds) → height_of_declarators ds ≤ n
-    → (ts r : List Token) → Matches (flat_declarators ds) ts r → DeclaratorsEnd ds r → declarators_at b constant taken ts ≡ Ok (ds, r)
+pub declarators_again : (n : ℕ) (b : Below)
+    → AgainBelow n b
+    → (constant : Bool) (taken : List Identifier) (ds : Declarators)
+    → is_some_declarator ds ≡ true
+    → WellDeclarators ds
+    → IsInitialized constant ds
+    → AreFresh taken (names_of_declarators ds)
+    → height_of_declarators ds ≤ n
+    → (ts r : List Token)
+    → Matches (flat_declarators ds) ts r
+    → DeclaratorsEnd ds r
+    → declarators_at b constant taken ts ≡ Ok (ds, r)
 unfolding declarators_at
 declarators_again n b a constant taken trees.no_declarators some w i f h ts r m e = absurd cc
 declarators_again n b a constant taken (trees.a_declarator d ds) some w i f h ts r m e =
@@ -291,11 +374,16 @@ declarators_again n b a constant taken (trees.a_declarator d ds) some w i f h ts
     (subst (λ (l : List Mark). Matches l p.0 r) (more_declarators_marks ds) p.2) in
     rw (first, rest, declarators_are ds) refl
   where
-    first_ends : (ds : Declarators) (us : List Token) → Matches (more_declarators ds) us r → DeclaratorsEnd (trees.a_declarator d ds) r → DeclaratorEnds d us
+    first_ends : (ds : Declarators) (us : List Token)
+        → Matches (more_declarators ds) us r
+        → DeclaratorsEnd (trees.a_declarator d ds) r
+        → DeclaratorEnds d us
     first_ends trees.no_declarators us q e = subst (λ (l : List Token). DeclaratorEnds d l) (sym q) e.0
     first_ends (trees.a_declarator c cs) us q e = declarator_comma d us (next_again kinds.Comma (head_of us) q.0)
 
-    rest_end : (ds : Declarators) → LastEnds DeclaratorEnds (d ∷ declarators_of ds) r → LastEnds DeclaratorEnds (declarators_of ds) r
+    rest_end : (ds : Declarators)
+        → LastEnds DeclaratorEnds (d ∷ declarators_of ds) r
+        → LastEnds DeclaratorEnds (declarators_of ds) r
     rest_end trees.no_declarators e = tt
     rest_end (trees.a_declarator c cs) e = e
 
@@ -304,7 +392,9 @@ declarator_closes (trees.declarator n trees.omitted) r s = kind_not kinds.Semico
 declarator_closes (trees.declarator n (trees.present e)) r s = (closes_stops kinds.Semicolon refl r s (edge e)).0
 
 -- they end at a semicolon
-pub declarators_close : (ds : Declarators) (r : List Token) → is_kind kinds.Semicolon (head_of r) ≡ true → DeclaratorsEnd ds r
+pub declarators_close : (ds : Declarators) (r : List Token)
+    → is_kind kinds.Semicolon (head_of r) ≡ true
+    → DeclaratorsEnd ds r
 declarators_close ds r s = (last ds, kind_not kinds.Semicolon kinds.Comma (head_of r) s refl)
   where
     last : (ds : Declarators) → LastEnds DeclaratorEnds (declarators_of ds) r
@@ -313,7 +403,10 @@ declarators_close ds r s = (last ds, kind_not kinds.Semicolon kinds.Comma (head_
     last (trees.a_declarator d (trees.a_declarator c ds)) = last (trees.a_declarator c ds)
 
 -- and at the semicolon of their statement, also where that is absent
-pub declarators_end : (ds : Declarators) (ts r : List Token) → follows_statement (head_of r) ≡ true → Matches (semicolon (end_of_declarators ds) ∷ []) ts r → DeclaratorsEnd ds ts
+pub declarators_end : (ds : Declarators) (ts r : List Token)
+    → follows_statement (head_of r) ≡ true
+    → Matches (semicolon (end_of_declarators ds) ∷ []) ts r
+    → DeclaratorsEnd ds ts
 declarators_end trees.no_declarators ts r f m = (tt, (word_stops after_word ts r f m).1)
 declarators_end (trees.a_declarator (trees.declarator n trees.omitted) trees.no_declarators) ts r f m = word_stops after_word ts r f m
 declarators_end (trees.a_declarator (trees.declarator n (trees.present e)) trees.no_declarators) ts r f m = semicolon_stops (edge e) ts r f m
@@ -321,8 +414,16 @@ declarators_end (trees.a_declarator d (trees.a_declarator c ds)) ts r f m = decl
 
 -- ---- expressions with what ends them
 
-pub optional_again : (n : ℕ) (b : Below) → AgainBelow n b → (k : TokenKind) → closes k ≡ true → (e : OptionalExpression) → WellOptional e → height_of_optional e ≤ n
-    → (ts r : List Token) → Matches (flat_optional e ++ (token (fixed k) ∷ [])) ts r → optional_before b k ts ≡ Ok (e, r)
+pub optional_again : (n : ℕ) (b : Below)
+    → AgainBelow n b
+    → (k : TokenKind)
+    → closes k ≡ true
+    → (e : OptionalExpression)
+    → WellOptional e
+    → height_of_optional e ≤ n
+    → (ts r : List Token)
+    → Matches (flat_optional e ++ (token (fixed k) ∷ [])) ts r
+    → optional_before b k ts ≡ Ok (e, r)
 unfolding optional_before
 optional_again n b a k c trees.omitted w h ts r m = rw (next_again k (head_of ts) m.0) (ap (λ (l : List Token). Ok (trees.omitted, l)) m.1)
 optional_again n b a k c (trees.present e) w h ts r m =
@@ -331,7 +432,10 @@ optional_again n b a k c (trees.present e) w h ts r m =
     rw (opens_not k (head_of ts) (expression_opens e w ts p.0 p.1) (closes_opens k c), a.expression e w h ts p.0 p.1 s.0 s.1, expect_again k p.0 r p.2) refl
 
 pub ended_again : (n : ℕ) (b : Below) → AgainBelow n b → (e : Expression) → Well e → height e ≤ n
-    → (ts r : List Token) → Matches (flat e ++ (semicolon (after_expression (edge e)) ∷ [])) ts r → follows_statement (head_of r) ≡ true → ended_expression b ts ≡ Ok (e, r)
+    → (ts r : List Token)
+    → Matches (flat e ++ (semicolon (after_expression (edge e)) ∷ [])) ts r
+    → follows_statement (head_of r) ≡ true
+    → ended_expression b ts ≡ Ok (e, r)
 unfolding ended_expression
 ended_again n b a e w h ts r m f =
     let p = parts (flat e) (semicolon (after_expression (edge e)) ∷ []) ts r m in

@@ -31,7 +31,9 @@ use Rattle.js_grammar.proofs.Again.Primary.{ObjectsAgain}
 
 -- ---- keys
 
-word_start_by : (k : TokenKind) (s : List ℕ) (v : ℕ) → is_word k ≡ true → key_start_by k s v ≡ cond (is_word k) (a_word_key s) no_key
+word_start_by : (k : TokenKind) (s : List ℕ) (v : ℕ)
+    → is_word k ≡ true
+    → key_start_by k s v ≡ cond (is_word k) (a_word_key s) no_key
 word_start_by kinds.String s v e = absurd cc
 word_start_by kinds.Number s v e = absurd cc
 word_start_by kinds.LeftBracket s v e = absurd cc
@@ -53,7 +55,14 @@ computed_start : (o : Option Token) → IsNext (fixed kinds.LeftBracket) o → k
 computed_start None m = absurd m
 computed_start (Some t) m = rw m refl
 
-key_again : (q : SeqAgain) (n : ℕ) (b : Below) → AgainBelow n b → (k : Key) → WellKey k → height_of_key k ≤ n → (ts r : List Token) → Matches (flat_key k) ts r → key_at b ts ≡ Ok (k, r)
+key_again : (q : SeqAgain) (n : ℕ) (b : Below)
+    → AgainBelow n b
+    → (k : Key)
+    → WellKey k
+    → height_of_key k ≤ n
+    → (ts r : List Token)
+    → Matches (flat_key k) ts r
+    → key_at b ts ≡ Ok (k, r)
 unfolding key_at
 key_again q n b h (trees.word_key a) w l ts r m = rw (word_start a (head_of ts) m.0) (ap (λ (l : List Token). Ok (trees.word_key a, l)) m.1)
 key_again q n b h (trees.string_key v) w l ts r m = rw (string_start v (head_of ts) m.0) (ap (λ (l : List Token). Ok (trees.string_key v, l)) m.1)
@@ -72,7 +81,12 @@ no_shorthand classes.colon = refl
 no_shorthand classes.parameters = refl
 no_shorthand classes.no_member = refl
 
-long_key : (k : Key) (c : AfterKey) → ((x : Bool) → is_shorthand_by x c ≡ false) → (ts r : List Token) → Matches (flat_key k) ts r → after_key (head_of r) ≡ c → is_shorthand ts ≡ false
+long_key : (k : Key) (c : AfterKey)
+    → ((x : Bool) → is_shorthand_by x c ≡ false)
+    → (ts r : List Token)
+    → Matches (flat_key k) ts r
+    → after_key (head_of r) ≡ c
+    → is_shorthand ts ≡ false
 long_key (trees.word_key a) c long ts r m e = rw (m.1, e) (long (is_kind kinds.Name (head_of ts)))
 long_key (trees.string_key v) c long ts r m e = rw (other_kind kinds.String kinds.Name (head_of ts) (kind_of_string v (head_of ts) m.0) refl) (no_shorthand (after_key (head_of (tail_of ts))))
 long_key (trees.number_key v) c long ts r m e = rw (other_kind kinds.Number kinds.Name (head_of ts) (kind_of_number v (head_of ts) m.0) refl) (no_shorthand (after_key (head_of (tail_of ts))))
@@ -86,7 +100,10 @@ parameters_long : (x : Bool) → is_shorthand_by x classes.parameters ≡ false
 parameters_long true = refl
 parameters_long false = refl
 
-after_no_member : (k : TokenKind) (o : Option Token) → after_key_by k ≡ classes.no_member → is_kind k o ≡ true → after_key o ≡ classes.no_member
+after_no_member : (k : TokenKind) (o : Option Token)
+    → after_key_by k ≡ classes.no_member
+    → is_kind k o ≡ true
+    → after_key o ≡ classes.no_member
 after_no_member k None e i = refl
 after_no_member k (Some t) e i = rw (kind_is k t i) e
 
@@ -104,20 +121,38 @@ member_alone : (r : List Token) → EndsMember r → after_key (head_of r) ≡ c
 member_alone r (inl close) = after_no_member kinds.RightBrace (head_of r) refl close
 member_alone r (inr comma) = after_no_member kinds.Comma (head_of r) refl comma
 
-shorthand_again : (n : ℕ) (b : Below) (a : Identifier) (ts r : List Token) → Matches (flat_property (trees.shorthand a)) ts r → EndsMember r → property_at b n ts ≡ Ok (trees.shorthand a, r)
+shorthand_again : (n : ℕ) (b : Below) (a : Identifier) (ts r : List Token)
+    → Matches (flat_property (trees.shorthand a)) ts r
+    → EndsMember r
+    → property_at b n ts ≡ Ok (trees.shorthand a, r)
 unfolding property_at
 shorthand_again n b a ts r m s =
     let short : is_shorthand ts ≡ true = rw ((text_is a (head_of ts) m.0).0, m.1, member_alone r s) refl in
     rw (short, name_again a ts r m) refl
 
-value_again : (q : SeqAgain) (n : ℕ) (b : Below) → AgainBelow n b → (k : Key) (e : Expression) → WellProperty (trees.value k e) → height_of_property (trees.value k e) ≤ n → (ts r : List Token) → Matches (flat_property (trees.value k e)) ts r → EndsMember r → property_at b n ts ≡ Ok (trees.value k e, r)
+value_again : (q : SeqAgain) (n : ℕ) (b : Below)
+    → AgainBelow n b
+    → (k : Key) (e : Expression)
+    → WellProperty (trees.value k e)
+    → height_of_property (trees.value k e) ≤ n
+    → (ts r : List Token)
+    → Matches (flat_property (trees.value k e)) ts r
+    → EndsMember r
+    → property_at b n ts ≡ Ok (trees.value k e, r)
 unfolding property_at
 value_again q n b h k e w l ts r m s =
     let p = parts (flat_key k) (token (fixed kinds.Colon) ∷ (flat e ++ [])) ts r m in
     let colon : after_key (head_of p.0) ≡ classes.colon = after_fixed kinds.Colon (head_of p.0) p.2.0 in
     rw (long_key k classes.colon colon_long ts p.0 p.1 colon, key_again q n b h k w.0 (omega arith) ts p.0 p.1, colon, q n b h (tok kinds.Colon ∷ an_assignment ∷ []) (tt, (e, tt)) p.0 r (tt, ((w.1, w.2), tt)) (omega arith) refl (member_stops (edge e) r s) p.2) refl
 
-method_again : (q : SeqAgain) (n : ℕ) (b : Below) → AgainBelow n b → (k : Key) (ps : List Identifier) (body : Statements) → WellProperty (trees.method k ps body) → height_of_property (trees.method k ps body) ≤ n → (ts r : List Token) → Matches (flat_property (trees.method k ps body)) ts r → property_at b n ts ≡ Ok (trees.method k ps body, r)
+method_again : (q : SeqAgain) (n : ℕ) (b : Below)
+    → AgainBelow n b
+    → (k : Key) (ps : List Identifier) (body : Statements)
+    → WellProperty (trees.method k ps body)
+    → height_of_property (trees.method k ps body) ≤ n
+    → (ts r : List Token)
+    → Matches (flat_property (trees.method k ps body)) ts r
+    → property_at b n ts ≡ Ok (trees.method k ps body, r)
 unfolding property_at
 method_again q n b h k ps body w l ts r m =
     let p = parts (flat_key k) (flat_parameters ps ++ (flats.in_braces (flat_statements body) ++ [])) ts r m in
@@ -126,7 +161,15 @@ method_again q n b h k ps body w l ts r m =
     let inner : Matches (flat_parameters ps ++ flats.in_braces (flat_statements body)) p.0 r = subst (λ (l : List Mark). Matches (flat_parameters ps ++ l) p.0 r) (append-nil (flats.in_braces (flat_statements body))) p.2 in
     rw (long_key k classes.parameters parameters_long ts p.0 p.1 parameters, key_again q n b h k w.0 (omega arith) ts p.0 p.1, parameters, low, h.function (record { parameters = ps; body = body }) w.1 w.2 (omega arith) p.0 r inner) refl
 
-property_again : (q : SeqAgain) (n : ℕ) (b : Below) → AgainBelow n b → (x : Property) → WellProperty x → height_of_property x ≤ n → (ts r : List Token) → Matches (flat_property x) ts r → EndsMember r → property_at b n ts ≡ Ok (x, r)
+property_again : (q : SeqAgain) (n : ℕ) (b : Below)
+    → AgainBelow n b
+    → (x : Property)
+    → WellProperty x
+    → height_of_property x ≤ n
+    → (ts r : List Token)
+    → Matches (flat_property x) ts r
+    → EndsMember r
+    → property_at b n ts ≡ Ok (x, r)
 property_again q n b h (trees.shorthand a) w l ts r m s = shorthand_again n b a ts r m s
 property_again q n b h (trees.value k e) w l ts r m s = value_again q n b h k e w l ts r m s
 property_again q n b h (trees.method k ps body) w l ts r m s = method_again q n b h k ps body w l ts r m
@@ -141,13 +184,17 @@ name_no_brace : (a : List ℕ) (o : Option Token) → IsNext (identifier_name a)
 name_no_brace a None m = refl
 name_no_brace a (Some t) m = word_no_brace t.kind m.0
 
-key_no_brace : (k : Key) (ms : List Mark) (ts r : List Token) → Matches (flat_key k ++ ms) ts r → is_kind kinds.RightBrace (head_of ts) ≡ false
+key_no_brace : (k : Key) (ms : List Mark) (ts r : List Token)
+    → Matches (flat_key k ++ ms) ts r
+    → is_kind kinds.RightBrace (head_of ts) ≡ false
 key_no_brace (trees.word_key a) ms ts r m = name_no_brace a (head_of ts) m.0
 key_no_brace (trees.string_key v) ms ts r m = other_kind kinds.String kinds.RightBrace (head_of ts) (kind_of_string v (head_of ts) m.0) refl
 key_no_brace (trees.number_key v) ms ts r m = other_kind kinds.Number kinds.RightBrace (head_of ts) (kind_of_number v (head_of ts) m.0) refl
 key_no_brace (trees.computed_key e) ms ts r m = other_kind kinds.LeftBracket kinds.RightBrace (head_of ts) m.0 refl
 
-property_no_brace : (x : Property) (ts r : List Token) → Matches (flat_property x) ts r → is_kind kinds.RightBrace (head_of ts) ≡ false
+property_no_brace : (x : Property) (ts r : List Token)
+    → Matches (flat_property x) ts r
+    → is_kind kinds.RightBrace (head_of ts) ≡ false
 property_no_brace (trees.shorthand a) ts r m = other_kind kinds.Name kinds.RightBrace (head_of ts) (kind_of_identifier a (head_of ts) m.0) refl
 property_no_brace (trees.value k e) ts r m = key_no_brace k (token (fixed kinds.Colon) ∷ (flat e ++ [])) ts r m
 property_no_brace (trees.method k ps body) ts r m = key_no_brace k (flat_parameters ps ++ (flats.in_braces (flat_statements body) ++ [])) ts r m
@@ -178,7 +225,10 @@ trailing_marks (trees.a_property x xs) = refl
 abbrev GoodMember : ℕ → Unit {0} → Property → Type 0
 GoodMember n s x = WellProperty x × (height_of_property x ≤ n)
 
-good_members : (n : ℕ) (xs : Properties) → WellProperties xs → height_of_properties xs ≤ n → AllGood no_state (GoodMember n) tt (members_of xs)
+good_members : (n : ℕ) (xs : Properties)
+    → WellProperties xs
+    → height_of_properties xs ≤ n
+    → AllGood no_state (GoodMember n) tt (members_of xs)
 good_members n trees.no_properties w h = tt
 good_members n (trees.a_property x xs) w h = ((w.0, omega (arith, h)), good_members n xs w.1 (omega (arith, h)))
 

@@ -37,7 +37,12 @@ member_links n b e a x k l s ts r m =
     x (suc k) (omega arith) (omega arith) ts p.0 p.1
     ∙ rw (link_fixed kinds.Dot (head_of p.0) p.2.0, low, word_again a (tail_of p.0) r p.2.1) refl
 
-index_links : (q : SeqAgain) (n : ℕ) (b : Below) → AgainBelow n b → (e i : Expression) → Well i → LinksAgain n b e → LinksAgain n b (trees.index e i)
+index_links : (q : SeqAgain) (n : ℕ) (b : Below)
+    → AgainBelow n b
+    → (e i : Expression)
+    → Well i
+    → LinksAgain n b e
+    → LinksAgain n b (trees.index e i)
 unfolding links
 index_links q n b h e i w x k l s ts r m =
     let p = parts (flat e) (token (fixed kinds.LeftBracket) ∷ (flat i ++ (token (fixed kinds.RightBracket) ∷ []))) ts r m in
@@ -45,7 +50,12 @@ index_links q n b h e i w x k l s ts r m =
     x (suc k) (omega arith) (omega arith) ts p.0 p.1
     ∙ rw (link_fixed kinds.LeftBracket (head_of p.0) p.2.0, low, q n b h (tok kinds.LeftBracket ∷ an_expression ∷ tok kinds.RightBracket ∷ []) (tt, (i, (tt, tt))) p.0 r (tt, (w, (tt, tt))) (omega arith) refl tt p.2) refl
 
-call_links : (q : SeqAgain) (n : ℕ) (b : Below) → AgainBelow n b → (f : Expression) (es : trees.Expressions) → Well (trees.call f es) → LinksAgain n b f → LinksAgain n b (trees.call f es)
+call_links : (q : SeqAgain) (n : ℕ) (b : Below)
+    → AgainBelow n b
+    → (f : Expression) (es : trees.Expressions)
+    → Well (trees.call f es)
+    → LinksAgain n b f
+    → LinksAgain n b (trees.call f es)
 unfolding links
 call_links q n b h f es w x k l s ts r m =
     let inside : List Mark = flat_expressions es ++ (trailing es ++ (token (fixed kinds.RightParenthesis) ∷ [])) in
@@ -54,13 +64,26 @@ call_links q n b h f es w x k l s ts r m =
     x (suc k) (omega arith) (omega arith) ts p.0 p.1
     ∙ rw (link_fixed kinds.LeftParenthesis (head_of p.0) p.2.0, low, q n b h (tok kinds.LeftParenthesis ∷ arguments kinds.RightParenthesis ∷ []) (tt, (es, tt)) p.0 r (tt, (w.2, tt)) (omega arith) refl tt (p.2.0, before_nothing inside (tail_of p.0) r p.2.1)) refl
 
-primary_links : (q : SeqAgain) (n : ℕ) (b : Below) → AgainBelow n b → ObjectsAgain n b → (e : Expression) → is_primary e ≡ true → arms e ≡ 0 → Well e → LinksAgain n b e
+primary_links : (q : SeqAgain) (n : ℕ) (b : Below)
+    → AgainBelow n b
+    → ObjectsAgain n b
+    → (e : Expression)
+    → is_primary e ≡ true
+    → arms e ≡ 0
+    → Well e
+    → LinksAgain n b e
 unfolding call
 primary_links q n b h os e p z w k l s ts r m =
     let same : suc n ≡ k = omega arith in
     rw (primary_again q n b h os e p w l ts r m) (ap (λ (k : ℕ). links b n k e r) same)
 
-links_again : (q : SeqAgain) (n : ℕ) (b : Below) → AgainBelow n b → ObjectsAgain n b → (e : Expression) → 15 ≤ level e → Well e → LinksAgain n b e
+links_again : (q : SeqAgain) (n : ℕ) (b : Below)
+    → AgainBelow n b
+    → ObjectsAgain n b
+    → (e : Expression)
+    → 15 ≤ level e
+    → Well e
+    → LinksAgain n b e
 links_again q n b h os (trees.member e a) v w = member_links n b e a (links_again q n b h os e w.1 w.0)
 links_again q n b h os (trees.index e i) v w = index_links q n b h e i w.2 (links_again q n b h os e w.1 w.0)
 links_again q n b h os (trees.call f es) v w = call_links q n b h f es w (links_again q n b h os f w.1 w.0)
@@ -84,11 +107,23 @@ links_again q n b h os (trees.object ps) v w = primary_links q n b h os (trees.o
 links_again q n b h os (trees.function o ps body) v w = primary_links q n b h os (trees.function o ps body) refl refl w
 links_again q n b h os (trees.parenthesized e) v w = primary_links q n b h os (trees.parenthesized e) refl refl w
 
-links_end : (b : Below) (n k : ℕ) (e : Expression) (r : List Token) → link (head_of r) ≡ no_link → links b n (suc k) e r ≡ Ok (e, r)
+links_end : (b : Below) (n k : ℕ) (e : Expression) (r : List Token)
+    → link (head_of r) ≡ no_link
+    → links b n (suc k) e r ≡ Ok (e, r)
 unfolding links
 links_end b n k e r s = rw s refl
 
-pub call_again : (q : SeqAgain) (n : ℕ) (b : Below) → AgainBelow n b → ObjectsAgain n b → (e : Expression) → Well e → 15 ≤ level e → height e ≤ suc n → (ts r : List Token) → Matches (flat e) ts r → link (head_of r) ≡ no_link → call b n ts ≡ Ok (e, r)
+pub call_again : (q : SeqAgain) (n : ℕ) (b : Below)
+    → AgainBelow n b
+    → ObjectsAgain n b
+    → (e : Expression)
+    → Well e
+    → 15 ≤ level e
+    → height e ≤ suc n
+    → (ts r : List Token)
+    → Matches (flat e) ts r
+    → link (head_of r) ≡ no_link
+    → call b n ts ≡ Ok (e, r)
 call_again q n b h os e w v l ts r m s =
     let low : arms e < height e = arms_low e in
     let k : ℕ = n - arms e in
@@ -99,13 +134,24 @@ call_again q n b h os e w v l ts r m s =
 abbrev PostfixAgain : ℕ → Below → Expression → Type 0
 PostfixAgain n b e = height e ≤ suc n → (ts r : List Token) → Matches (flat e) ts r → StopsUnary (edge e) r → postfix b n ts ≡ Ok (e, r)
 
-call_postfix : (q : SeqAgain) (n : ℕ) (b : Below) → AgainBelow n b → ObjectsAgain n b → (e : Expression) → 15 ≤ level e → Well e → PostfixAgain n b e
+call_postfix : (q : SeqAgain) (n : ℕ) (b : Below)
+    → AgainBelow n b
+    → ObjectsAgain n b
+    → (e : Expression)
+    → 15 ≤ level e
+    → Well e
+    → PostfixAgain n b e
 unfolding postfix
 call_postfix q n b h os e v w l ts r m s =
     let stops : StopsUnary plain r = subst (λ (d : Edge). StopsUnary d r) (call_edge e v) s in
     rw (call_again q n b h os e w v l ts r m stops.0, stops.1) refl
 
-update_postfix : (q : SeqAgain) (n : ℕ) (b : Below) → AgainBelow n b → ObjectsAgain n b → (o : UpdateOperator) (e : Expression) → Well (trees.postfix o e) → PostfixAgain n b (trees.postfix o e)
+update_postfix : (q : SeqAgain) (n : ℕ) (b : Below)
+    → AgainBelow n b
+    → ObjectsAgain n b
+    → (o : UpdateOperator) (e : Expression)
+    → Well (trees.postfix o e)
+    → PostfixAgain n b (trees.postfix o e)
 unfolding postfix
 update_postfix q n b h os o e w l ts r m s =
     let p = parts (flat e) (beside (fixed (update_kind o)) ∷ []) ts r m in
@@ -115,7 +161,13 @@ update_postfix q n b h os o e w l ts r m s =
     let low : nat_le (height e) n ≡ true = le-leb (height e) n (omega arith) in
     rw (call_again q n b h os e w.0 (omega arith) (omega arith) ts p.0 p.1 ends, found, w.1, low) (ap (λ (l : List Token). Ok (trees.postfix o e, l)) p.2.2)
 
-postfix_again : (q : SeqAgain) (n : ℕ) (b : Below) → AgainBelow n b → ObjectsAgain n b → (e : Expression) → 14 ≤ level e → Well e → PostfixAgain n b e
+postfix_again : (q : SeqAgain) (n : ℕ) (b : Below)
+    → AgainBelow n b
+    → ObjectsAgain n b
+    → (e : Expression)
+    → 14 ≤ level e
+    → Well e
+    → PostfixAgain n b e
 postfix_again q n b h os (trees.postfix o e) v w = update_postfix q n b h os o e w
 postfix_again q n b h os (trees.arrow ps e) v w = absurd (omega arith)
 postfix_again q n b h os (trees.arrow_block ps body) v w = absurd (omega arith)
@@ -142,7 +194,12 @@ postfix_again q n b h os (trees.parenthesized e) v w = call_postfix q n b h os (
 -- ---- unary expressions
 
 -- an update, a call, a member or a primary begins with no prefix
-no_prefix_before : (e : Expression) → Well e → 14 ≤ level e → (ts r : List Token) → Matches (flat e) ts r → prefix (head_of ts) ≡ no_prefix
+no_prefix_before : (e : Expression)
+    → Well e
+    → 14 ≤ level e
+    → (ts r : List Token)
+    → Matches (flat e) ts r
+    → prefix (head_of ts) ≡ no_prefix
 no_prefix_before (trees.postfix o e) w v ts r m = let p = parts (flat e) (beside (fixed (update_kind o)) ∷ []) ts r m in no_prefix_before e w.0 (omega (arith, target_level e w.1)) ts p.0 p.1
 no_prefix_before (trees.member e a) w v ts r m = let p = parts (flat e) (token (fixed kinds.Dot) ∷ token (identifier_name a) ∷ []) ts r m in no_prefix_before e w.0 (omega (arith, w.1)) ts p.0 p.1
 no_prefix_before (trees.index e i) w v ts r m = let p = parts (flat e) (token (fixed kinds.LeftBracket) ∷ (flat i ++ (token (fixed kinds.RightBracket) ∷ []))) ts r m in no_prefix_before e w.0 (omega (arith, w.1)) ts p.0 p.1
@@ -170,11 +227,21 @@ no_prefix_before (trees.parenthesized e) w v ts r m = prefix_fixed kinds.LeftPar
 abbrev UnaryAgain : ℕ → Below → Expression → Type 0
 UnaryAgain n b e = height e ≤ suc n → (ts r : List Token) → Matches (flat e) ts r → StopsUnary (edge e) r → unary b n ts ≡ Ok (e, r)
 
-postfix_unary : (q : SeqAgain) (n : ℕ) (b : Below) → AgainBelow n b → ObjectsAgain n b → (e : Expression) → 14 ≤ level e → Well e → UnaryAgain n b e
+postfix_unary : (q : SeqAgain) (n : ℕ) (b : Below)
+    → AgainBelow n b
+    → ObjectsAgain n b
+    → (e : Expression)
+    → 14 ≤ level e
+    → Well e
+    → UnaryAgain n b e
 unfolding unary
 postfix_unary q n b h os e v w l ts r m s = rw (no_prefix_before e w v ts r m) (postfix_again q n b h os e v w l ts r m s)
 
-prefix_unary : (n : ℕ) (b : Below) → AgainBelow n b → (o : UpdateOperator) (e : Expression) → Well (trees.prefix o e) → UnaryAgain n b (trees.prefix o e)
+prefix_unary : (n : ℕ) (b : Below)
+    → AgainBelow n b
+    → (o : UpdateOperator) (e : Expression)
+    → Well (trees.prefix o e)
+    → UnaryAgain n b (trees.prefix o e)
 unfolding unary
 prefix_unary n b h o e w l ts r m s =
     let high : level e ≡ 15 = target_level e w.1 in
@@ -182,14 +249,23 @@ prefix_unary n b h o e w l ts r m s =
     let inner : Matches (flat e) (tail_of ts) r = and_nothing (flat e) (tail_of ts) r m.1 in
     rw (is, h.call e w.0 (omega arith) (omega arith) (tail_of ts) r inner s.0, w.1) refl
 
-operand_unary : (n : ℕ) (b : Below) → AgainBelow n b → (o : UnaryOperator) (e : Expression) → prefix_by (unary_kind o) ≡ classes.a_unary o → Well (trees.unary o e) → UnaryAgain n b (trees.unary o e)
+operand_unary : (n : ℕ) (b : Below)
+    → AgainBelow n b
+    → (o : UnaryOperator) (e : Expression)
+    → prefix_by (unary_kind o) ≡ classes.a_unary o
+    → Well (trees.unary o e)
+    → UnaryAgain n b (trees.unary o e)
 unfolding unary
 operand_unary n b h o e p w l ts r m s =
     let is : prefix (head_of ts) ≡ classes.a_unary o = prefix_fixed (unary_kind o) (head_of ts) m.0 ∙ p in
     let inner : Matches (flat e) (tail_of ts) r = and_nothing (flat e) (tail_of ts) r m.1 in
     rw (is, h.unary e w.0 w.1 (omega arith) (tail_of ts) r inner s) refl
 
-delete_unary : (n : ℕ) (b : Below) → AgainBelow n b → (e : Expression) → Well (trees.unary unaries.Delete e) → UnaryAgain n b (trees.unary unaries.Delete e)
+delete_unary : (n : ℕ) (b : Below)
+    → AgainBelow n b
+    → (e : Expression)
+    → Well (trees.unary unaries.Delete e)
+    → UnaryAgain n b (trees.unary unaries.Delete e)
 unfolding unary
 delete_unary n b h e w l ts r m s =
     let high : level e ≡ 15 = property_level e w.2 in
@@ -197,7 +273,11 @@ delete_unary n b h e w l ts r m s =
     let inner : Matches (flat e) (tail_of ts) r = and_nothing (flat e) (tail_of ts) r m.1 in
     rw (prefix_fixed kinds.Delete (head_of ts) m.0, h.call e w.0 (omega arith) (omega arith) (tail_of ts) r inner stops.0, w.2) refl
 
-any_unary : (n : ℕ) (b : Below) → AgainBelow n b → (o : UnaryOperator) (e : Expression) → Well (trees.unary o e) → UnaryAgain n b (trees.unary o e)
+any_unary : (n : ℕ) (b : Below)
+    → AgainBelow n b
+    → (o : UnaryOperator) (e : Expression)
+    → Well (trees.unary o e)
+    → UnaryAgain n b (trees.unary o e)
 any_unary n b h unaries.Delete e w = delete_unary n b h e w
 any_unary n b h unaries.Void e w = operand_unary n b h unaries.Void e refl w
 any_unary n b h unaries.Typeof e w = operand_unary n b h unaries.Typeof e refl w
@@ -206,7 +286,13 @@ any_unary n b h unaries.Minus e w = operand_unary n b h unaries.Minus e refl w
 any_unary n b h unaries.BitwiseNot e w = operand_unary n b h unaries.BitwiseNot e refl w
 any_unary n b h unaries.LogicalNot e w = operand_unary n b h unaries.LogicalNot e refl w
 
-unary_reads : (q : SeqAgain) (n : ℕ) (b : Below) → AgainBelow n b → ObjectsAgain n b → (e : Expression) → 13 ≤ level e → Well e → UnaryAgain n b e
+unary_reads : (q : SeqAgain) (n : ℕ) (b : Below)
+    → AgainBelow n b
+    → ObjectsAgain n b
+    → (e : Expression)
+    → 13 ≤ level e
+    → Well e
+    → UnaryAgain n b e
 unary_reads q n b h os (trees.unary o e) v w = any_unary n b h o e w
 unary_reads q n b h os (trees.prefix o e) v w = prefix_unary n b h o e w
 unary_reads q n b h os (trees.arrow ps e) v w = absurd (omega arith)
@@ -230,5 +316,15 @@ unary_reads q n b h os (trees.object ps) v w = postfix_unary q n b h os (trees.o
 unary_reads q n b h os (trees.function o ps body) v w = postfix_unary q n b h os (trees.function o ps body) (omega arith) w
 unary_reads q n b h os (trees.parenthesized e) v w = postfix_unary q n b h os (trees.parenthesized e) (omega arith) w
 
-pub unary_again : (q : SeqAgain) (n : ℕ) (b : Below) → AgainBelow n b → ObjectsAgain n b → (e : Expression) → Well e → 13 ≤ level e → height e ≤ suc n → (ts r : List Token) → Matches (flat e) ts r → StopsUnary (edge e) r → unary b n ts ≡ Ok (e, r)
+pub unary_again : (q : SeqAgain) (n : ℕ) (b : Below)
+    → AgainBelow n b
+    → ObjectsAgain n b
+    → (e : Expression)
+    → Well e
+    → 13 ≤ level e
+    → height e ≤ suc n
+    → (ts r : List Token)
+    → Matches (flat e) ts r
+    → StopsUnary (edge e) r
+    → unary b n ts ≡ Ok (e, r)
 unary_again q n b h os e w v l ts r m s = unary_reads q n b h os e v w l ts r m s

@@ -37,12 +37,18 @@ use Rattle.js_grammar.proofs.Sound.Statement.{no_brace}
 -- ---- tokens that are no other
 
 -- an added number is of no other kind
-pub other_kind : (k : TokenKind) (ts us : List Token) → is_kind k (Some (as_token (a_token kinds.Number))) ≡ false → is_kind k (head_of ts) ≡ false → Starts IsZero ts us → is_kind k (head_of us) ≡ false
+pub other_kind : (k : TokenKind) (ts us : List Token)
+    → is_kind k (Some (as_token (a_token kinds.Number))) ≡ false
+    → is_kind k (head_of ts) ≡ false
+    → Starts IsZero ts us
+    → is_kind k (head_of us) ≡ false
 other_kind k ts us z f (inl same) = ap (λ (o : Option Token). is_kind k o) same ∙ f
 other_kind k ts us z f (inr is) = ap (λ (o : Option Token). is_kind k o) is ∙ z
 
 -- what lives behind no brace begins with none
-pub alive_no_brace : {flat_of : Expression → List Mark} {Good : Expression → Type 0} {ts : List Token} {e : Fault} (l : Lives IsZero flat_of Good ts e) → is_kind kinds.LeftBrace (head_of ts) ≡ false → begins_with_brace (flat_of l.tree) ≡ false
+pub alive_no_brace : {flat_of : Expression → List Mark} {Good : Expression → Type 0} {ts : List Token} {e : Fault} (l : Lives IsZero flat_of Good ts e)
+    → is_kind kinds.LeftBrace (head_of ts) ≡ false
+    → begins_with_brace (flat_of l.tree) ≡ false
 alive_no_brace {flat_of} {Good} {ts} l f = no_brace (flat_of l.tree) (l.before ++ (added l.rest ++ [])) [] (other_kind kinds.LeftBrace ts (l.before ++ (added l.rest ++ [])) refl f (l.starts [])) (l.spelled [])
 
 -- ---- arrow functions
@@ -51,8 +57,19 @@ firm_arrow_parameters : (ps : Parameters) → is_firm (flat_arrow_parameters ps)
 firm_arrow_parameters (trees.one_name n) = refl
 firm_arrow_parameters (trees.name_list ns) = firm_parameters ns
 
-arrow_body_lives : (n : ℕ) (b : Below) → SoundBelow n b → AliveBelow b → (s : List Token) (ps : Parameters) (ts : List Token) → Matches (flat_arrow_parameters ps) s ts → AreFresh [] (names_of_parameters ps)
-    → (us : List Token) → Matches (beside (fixed kinds.Arrow) ∷ []) ts us → (c : Bool) → is_kind kinds.LeftBrace (head_of us) ≡ c → (e : Fault) → arrow_body_by b ps (names_of_parameters ps) c us ≡ Err e → Lives Nothing flat (IsFunctionOf 1) s e
+arrow_body_lives : (n : ℕ) (b : Below)
+    → SoundBelow n b
+    → AliveBelow b
+    → (s : List Token) (ps : Parameters) (ts : List Token)
+    → Matches (flat_arrow_parameters ps) s ts
+    → AreFresh [] (names_of_parameters ps)
+    → (us : List Token)
+    → Matches (beside (fixed kinds.Arrow) ∷ []) ts us
+    → (c : Bool)
+    → is_kind kinds.LeftBrace (head_of us) ≡ c
+    → (e : Fault)
+    → arrow_body_by b ps (names_of_parameters ps) c us ≡ Err e
+    → Lives Nothing flat (IsFunctionOf 1) s e
 arrow_body_lives n b snd a s ps ts m fresh us next true f e p =
     let front = flat_arrow_parameters ps in
     let is = in_braces function_body (with_names [] (names_of_parameters ps)) ∷ [] in
@@ -84,14 +101,27 @@ zero_arrow_tokens = a_near_token kinds.Arrow ∷ zero_token
 zero_arrow_spelled : (r : List Token) → Matches zero_arrow (added zero_arrow_tokens ++ r) r
 zero_arrow_spelled r = (refl, refl, ((refl, refl), refl))
 
-arrow_rest_lives : (n : ℕ) (b : Below) → SoundBelow n b → AliveBelow b → (s : List Token) (ps : Parameters) (ts : List Token) (e : Fault) → Matches (flat_arrow_parameters ps) s ts → AreFresh [] (names_of_parameters ps) → arrow_rest b ps (names_of_parameters ps) ts ≡ Err e → Lives Nothing flat (IsFunctionOf 1) s e
+arrow_rest_lives : (n : ℕ) (b : Below)
+    → SoundBelow n b
+    → AliveBelow b
+    → (s : List Token) (ps : Parameters) (ts : List Token) (e : Fault)
+    → Matches (flat_arrow_parameters ps) s ts
+    → AreFresh [] (names_of_parameters ps)
+    → arrow_rest b ps (names_of_parameters ps) ts ≡ Err e
+    → Lives Nothing flat (IsFunctionOf 1) s e
 unfolding arrow_rest
 arrow_rest_lives n b snd a s ps ts e m fresh p = elim (bind_err (expect_near kinds.Arrow ts) (λ a. arrow_body_by b ps (names_of_parameters ps) (is_kind kinds.LeftBrace (head_of a.1)) a.1) e p) [
   | inl q ↦ stopped (flat_arrow_parameters ps) (firm_arrow_parameters ps) s ts m e (expect_near_err kinds.Arrow ts e q) (trees.arrow ps (trees.number 0)) (((fresh, tt, omega arith, refl), omega arith), refl) zero_arrow zero_arrow_tokens zero_arrow_spelled refl
   | inr q ↦ arrow_body_lives n b snd a s ps ts m fresh q.0.1 (expect_near_sound kinds.Arrow ts q.0 q.1) (is_kind kinds.LeftBrace (head_of q.0.1)) refl e q.2
 ]
 
-pub arrow_of_one_lives : (n : ℕ) (b : Below) → SoundBelow n b → AliveBelow b → (w : Identifier) (ts : List Token) (e : Fault) → IsNext (identifier w) (head_of ts) → arrow_of_one b ts ≡ Err e → Lives Nothing flat (IsFunctionOf 1) ts e
+pub arrow_of_one_lives : (n : ℕ) (b : Below)
+    → SoundBelow n b
+    → AliveBelow b
+    → (w : Identifier) (ts : List Token) (e : Fault)
+    → IsNext (identifier w) (head_of ts)
+    → arrow_of_one b ts ≡ Err e
+    → Lives Nothing flat (IsFunctionOf 1) ts e
 unfolding arrow_of_one
 arrow_of_one_lives n b s a w ts e f p = elim (bind_err (name_at ts) (λ n. arrow_rest b (trees.one_name n.0) (n.0 ∷ []) n.1) e p) [
   | inl q ↦ let again = name_again w ts (tail_of ts) (f, refl) in absurd cc
@@ -122,20 +152,33 @@ record NamesAre (only : Bool) (k : ℕ) (us r : List Token) : Type 0 where
   pub read : elements (one_of name_at) no_state kinds.RightParenthesis k tt us ≡ Ok (names, r)
   pub shaped : Shaped only names us r
 
-read_none : (k : ℕ) (us : List Token) → is_kind kinds.RightParenthesis (head_of us) ≡ true → elements (one_of name_at) no_state kinds.RightParenthesis (suc k) tt us ≡ Ok ([], tail_of us)
+read_none : (k : ℕ) (us : List Token)
+    → is_kind kinds.RightParenthesis (head_of us) ≡ true
+    → elements (one_of name_at) no_state kinds.RightParenthesis (suc k) tt us ≡ Ok ([], tail_of us)
 unfolding elements
 read_none k us h = rw h refl
 
-read_name : (t : Token) (us : List Token) → is_kind kinds.Name (Some t) ≡ true → name_at (t ∷ us) ≡ Ok (t.string_value, us)
+read_name : (t : Token) (us : List Token)
+    → is_kind kinds.Name (Some t) ≡ true
+    → name_at (t ∷ us) ≡ Ok (t.string_value, us)
 unfolding name_at
 read_name t us h = rw h refl
 
-read_last : (k : ℕ) (t u : Token) (us : List Token) → is_kind kinds.RightParenthesis (Some t) ≡ false → is_kind kinds.Name (Some t) ≡ true → is_kind kinds.RightParenthesis (Some u) ≡ true → elements (one_of name_at) no_state kinds.RightParenthesis (suc k) tt (t ∷ u ∷ us) ≡ Ok (t.string_value ∷ [], us)
+read_last : (k : ℕ) (t u : Token) (us : List Token)
+    → is_kind kinds.RightParenthesis (Some t) ≡ false
+    → is_kind kinds.Name (Some t) ≡ true
+    → is_kind kinds.RightParenthesis (Some u) ≡ true
+    → elements (one_of name_at) no_state kinds.RightParenthesis (suc k) tt (t ∷ u ∷ us) ≡ Ok (t.string_value ∷ [], us)
 unfolding elements
 read_last k t u us f g h = rw (f, read_name t (u ∷ us) g, h) refl
 
-read_more : (k : ℕ) (t u : Token) (us : List Token) (ns : List Identifier) (r : List Token) → is_kind kinds.RightParenthesis (Some t) ≡ false → is_kind kinds.Name (Some t) ≡ true → is_kind kinds.RightParenthesis (Some u) ≡ false → is_kind kinds.Comma (Some u) ≡ true
-    → elements (one_of name_at) no_state kinds.RightParenthesis k tt us ≡ Ok (ns, r) → elements (one_of name_at) no_state kinds.RightParenthesis (suc k) tt (t ∷ u ∷ us) ≡ Ok (t.string_value ∷ ns, r)
+read_more : (k : ℕ) (t u : Token) (us : List Token) (ns : List Identifier) (r : List Token)
+    → is_kind kinds.RightParenthesis (Some t) ≡ false
+    → is_kind kinds.Name (Some t) ≡ true
+    → is_kind kinds.RightParenthesis (Some u) ≡ false
+    → is_kind kinds.Comma (Some u) ≡ true
+    → elements (one_of name_at) no_state kinds.RightParenthesis k tt us ≡ Ok (ns, r)
+    → elements (one_of name_at) no_state kinds.RightParenthesis (suc k) tt (t ∷ u ∷ us) ≡ Ok (t.string_value ∷ ns, r)
 unfolding elements
 read_more k t u us ns r f g h c e = rw (f, read_name t (u ∷ us) g, h, c, e) refl
 
@@ -146,7 +189,11 @@ no_names : (n : Identifier) (ns : List Identifier) → none ≡ n ∷ ns → ⊥
 no_names n ns e = absurd cc
 
 -- one name before others
-more_shaped : (only : Bool) (t u : Token) (us : List Token) (ns : List Identifier) (r : List Token) → t.kind ≡ kinds.Name → u.kind ≡ kinds.Comma → Shaped only ns us r → Shaped only (t.string_value ∷ ns) (t ∷ u ∷ us) r
+more_shaped : (only : Bool) (t u : Token) (us : List Token) (ns : List Identifier) (r : List Token)
+    → t.kind ≡ kinds.Name
+    → u.kind ≡ kinds.Comma
+    → Shaped only ns us r
+    → Shaped only (t.string_value ∷ ns) (t ∷ u ∷ us) r
 more_shaped true t u us [] r f c s = (t ∷ u ∷ s.0, s.1, ap (λ (us : List Token). t ∷ u ∷ us) s.2, λ x. ((f, refl), (c, s.3 x)))
 more_shaped true t u us (n ∷ ns) r f c s = (t ∷ u ∷ s.0, s.1, ap (λ (us : List Token). t ∷ u ∷ us) s.2, λ x. ((f, refl), (c, subst (λ (ms : List Mark). Matches (token (identifier n) ∷ ms) (s.0 ++ (as_token (a_token kinds.Number) ∷ x)) x) (sym (append-nil (more_expressions (with_zero ns)))) (s.3 x))))
 more_shaped false t u us [] r f c s = absurd (no_names s.1.0 s.1.1 s.1.2)
@@ -169,7 +216,10 @@ no_past : (only : Bool) (r : List Token) → nothing_past ≡ some_past only r �
 no_past only r e = absurd cc
 
 -- the parenthesis that ends the names
-end_are : (k : ℕ) (only : Bool) (t : Token) (us r : List Token) → is_kind kinds.RightParenthesis (Some t) ≡ true → some_past true us ≡ some_past only r → NamesAre only (suc k) (t ∷ us) r
+end_are : (k : ℕ) (only : Bool) (t : Token) (us r : List Token)
+    → is_kind kinds.RightParenthesis (Some t) ≡ true
+    → some_past true us ≡ some_past only r
+    → NamesAre only (suc k) (t ∷ us) r
 end_are k only t us r h e =
     let p = past_is true only us r e in
     subst (λ (only : Bool). NamesAre only (suc k) (t ∷ us) r) p.0 (record {
@@ -179,7 +229,12 @@ end_are k only t us r h e =
     })
 
 -- the last name and the parenthesis
-last_are : (k : ℕ) (only : Bool) (t u : Token) (us r : List Token) → is_kind kinds.RightParenthesis (Some t) ≡ false → is_kind kinds.Name (Some t) ≡ true → is_kind kinds.RightParenthesis (Some u) ≡ true → some_past false us ≡ some_past only r → NamesAre only (suc k) (t ∷ u ∷ us) r
+last_are : (k : ℕ) (only : Bool) (t u : Token) (us r : List Token)
+    → is_kind kinds.RightParenthesis (Some t) ≡ false
+    → is_kind kinds.Name (Some t) ≡ true
+    → is_kind kinds.RightParenthesis (Some u) ≡ true
+    → some_past false us ≡ some_past only r
+    → NamesAre only (suc k) (t ∷ u ∷ us) r
 last_are k only t u us r f g h e =
     let p = past_is false only us r e in
     subst (λ (only : Bool). NamesAre only (suc k) (t ∷ u ∷ us) r) p.0 (record {
@@ -189,7 +244,13 @@ last_are k only t u us r f g h e =
     })
 
 -- a name, a comma and the names behind it
-more_are : (k : ℕ) (only : Bool) (t u : Token) (us r : List Token) → is_kind kinds.RightParenthesis (Some t) ≡ false → is_kind kinds.Name (Some t) ≡ true → is_kind kinds.RightParenthesis (Some u) ≡ false → is_kind kinds.Comma (Some u) ≡ true → NamesAre only k us r → NamesAre only (suc k) (t ∷ u ∷ us) r
+more_are : (k : ℕ) (only : Bool) (t u : Token) (us r : List Token)
+    → is_kind kinds.RightParenthesis (Some t) ≡ false
+    → is_kind kinds.Name (Some t) ≡ true
+    → is_kind kinds.RightParenthesis (Some u) ≡ false
+    → is_kind kinds.Comma (Some u) ≡ true
+    → NamesAre only k us r
+    → NamesAre only (suc k) (t ∷ u ∷ us) r
 more_are k only t u us r f g h c n = record {
   names = t.string_value ∷ n.names;
   read = read_more k t u us n.names r f g h c n.read;
@@ -197,22 +258,39 @@ more_are k only t u us r f g h c n = record {
 }
 
 -- behind a name
-behind_name : (k : ℕ) (only : Bool) (t : Token) (us r : List Token) → is_kind kinds.RightParenthesis (Some t) ≡ false → is_kind kinds.Name (Some t) ≡ true → ((vs : List Token) → length vs < length us → past_names true vs ≡ Some (only, r) → NamesAre only k vs r) → past_names false us ≡ Some (only, r) → NamesAre only (suc k) (t ∷ us) r
+behind_name : (k : ℕ) (only : Bool) (t : Token) (us r : List Token)
+    → is_kind kinds.RightParenthesis (Some t) ≡ false
+    → is_kind kinds.Name (Some t) ≡ true
+    → ((vs : List Token) → length vs < length us → past_names true vs ≡ Some (only, r) → NamesAre only k vs r)
+    → past_names false us ≡ Some (only, r)
+    → NamesAre only (suc k) (t ∷ us) r
 behind_name k only t [] r f g go e = absurd (no_past only r e)
 behind_name k only t (u ∷ us) r f g go e = by_tests (is_kind kinds.RightParenthesis (Some u)) (is_kind kinds.Comma (Some u)) refl refl e
   where
-    by_tests : (a b : Bool) → is_kind kinds.RightParenthesis (Some u) ≡ a → is_kind kinds.Comma (Some u) ≡ b → (if a then Some (false, us) else (if b then past_names true us else None)) ≡ Some (only, r) → NamesAre only (suc k) (t ∷ u ∷ us) r
+    by_tests : (a b : Bool)
+        → is_kind kinds.RightParenthesis (Some u) ≡ a
+        → is_kind kinds.Comma (Some u) ≡ b
+        → (if a then Some (false, us) else (if b then past_names true us else None)) ≡ Some (only, r)
+        → NamesAre only (suc k) (t ∷ u ∷ us) r
     by_tests true b h c e = last_are k only t u us r f g h e
     by_tests false true h c e = more_are k only t u us r f g h c (go us (omega arith) e)
     by_tests false false h c e = absurd (no_past only r e)
 
-names_by : (k : ℕ) (only : Bool) (t : Token) (us r : List Token) → ((vs : List Token) → length vs < length us → past_names true vs ≡ Some (only, r) → NamesAre only k vs r)
-    → (a b : Bool) → is_kind kinds.RightParenthesis (Some t) ≡ a → is_kind kinds.Name (Some t) ≡ b → (if a then Some (true, us) else (if b then past_names false us else None)) ≡ Some (only, r) → NamesAre only (suc k) (t ∷ us) r
+names_by : (k : ℕ) (only : Bool) (t : Token) (us r : List Token)
+    → ((vs : List Token) → length vs < length us → past_names true vs ≡ Some (only, r) → NamesAre only k vs r)
+    → (a b : Bool)
+    → is_kind kinds.RightParenthesis (Some t) ≡ a
+    → is_kind kinds.Name (Some t) ≡ b
+    → (if a then Some (true, us) else (if b then past_names false us else None)) ≡ Some (only, r)
+    → NamesAre only (suc k) (t ∷ us) r
 names_by k only t us r go true b h c e = end_are k only t us r h e
 names_by k only t us r go false true h c e = behind_name k only t us r h c go e
 names_by k only t us r go false false h c e = absurd (no_past only r e)
 
-names_are : (k : ℕ) (only : Bool) (us r : List Token) → length us < k → past_names true us ≡ Some (only, r) → NamesAre only k us r
+names_are : (k : ℕ) (only : Bool) (us r : List Token)
+    → length us < k
+    → past_names true us ≡ Some (only, r)
+    → NamesAre only k us r
 names_are zero only us r h e = absurd (omega (arith, h))
 names_are (suc k) only [] r h e = absurd (no_past only r e)
 names_are (suc k) only (t ∷ us) r h e = names_by k only t us r (λ vs less f. names_are k only vs r (omega (arith, h, less)) f) (is_kind kinds.RightParenthesis (Some t)) (is_kind kinds.Name (Some t)) refl refl e
@@ -237,7 +315,12 @@ zero_assignments [] = (tt, omega arith, tt)
 zero_assignments (n ∷ ns) = (tt, omega arith, zero_assignments ns)
 
 -- names that don't differ, which only an arrow function could have
-refused_names : (s us ts : List Token) (e : Fault) (names : List Identifier) → Matches (token (fixed kinds.LeftParenthesis) ∷ []) s us → are_fresh [] names ≡ false → Shaped true names us ts → ((left : List Token) → length left ≡ suc (length ts) → Counts e left) → Lives Nothing flat (Fits 1) s e
+refused_names : (s us ts : List Token) (e : Fault) (names : List Identifier)
+    → Matches (token (fixed kinds.LeftParenthesis) ∷ []) s us
+    → are_fresh [] names ≡ false
+    → Shaped true names us ts
+    → ((left : List Token) → length left ≡ suc (length ts) → Counts e left)
+    → Lives Nothing flat (Fits 1) s e
 refused_names [] us ts e names m f shape c = absurd m.0
 refused_names (t ∷ s) us ts e names m f shape c = record {
   before = t ∷ shape.0;
@@ -252,19 +335,36 @@ refused_names (t ∷ s) us ts e names m f shape c = record {
 }
 
 -- names that don't differ, before an arrow
-kept_names : (s us ts : List Token) (e : Fault) (names : List Identifier) → Matches (token (fixed kinds.LeftParenthesis) ∷ []) s us → are_fresh [] names ≡ false → Shaped false names us ts → Counts e ts → Lives Nothing flat (Fits 1) s e
+kept_names : (s us ts : List Token) (e : Fault) (names : List Identifier)
+    → Matches (token (fixed kinds.LeftParenthesis) ∷ []) s us
+    → are_fresh [] names ≡ false
+    → Shaped false names us ts
+    → Counts e ts
+    → Lives Nothing flat (Fits 1) s e
 kept_names s us ts e names m f shape c =
     let tree = trees.parenthesized (trees.comma (as_expressions names)) in
     let well : Well tree = (two_names names f, names_assignments names) in
     stopped (flat tree) (expression_firm tree well) s ts (joins (token (fixed kinds.LeftParenthesis) ∷ []) (flat_expressions (as_expressions names) ++ (token (fixed kinds.RightParenthesis) ∷ [])) s us ts m shape.0) e c
     tree (well, omega arith) [] [] (λ r. refl) (append-nil (flat tree))
 
-same_names_lives : (s us ts : List Token) (e : Fault) (only : Bool) (names : List Identifier) → Matches (token (fixed kinds.LeftParenthesis) ∷ []) s us → are_fresh [] names ≡ false → Shaped only names us ts
-    → (if only then faulty {A = Expression} (stuck (suc (length ts))) else faulty {A = Expression} (stuck (length ts))) ≡ Err e → Lives Nothing flat (Fits 1) s e
+same_names_lives : (s us ts : List Token) (e : Fault) (only : Bool) (names : List Identifier)
+    → Matches (token (fixed kinds.LeftParenthesis) ∷ []) s us
+    → are_fresh [] names ≡ false
+    → Shaped only names us ts
+    → (if only then faulty {A = Expression} (stuck (suc (length ts))) else faulty {A = Expression} (stuck (length ts))) ≡ Err e
+    → Lives Nothing flat (Fits 1) s e
 same_names_lives s us ts e true names m f shape p = refused_names s us ts e names m f shape (λ left h. stuck_counts {A = Expression} left e (ap (λ (k : ℕ). faulty {A = Expression} (stuck k)) h ∙ p))
 same_names_lives s us ts e false names m f shape p = kept_names s us ts e names m f shape (stuck_counts {A = Expression} ts e p)
 
-arrow_of_names_lives : (n : ℕ) (b : Below) → SoundBelow n b → AliveBelow b → (s us ts : List Token) (e : Fault) (only : Bool) (names : List Identifier) → Matches (token (fixed kinds.LeftParenthesis) ∷ []) s us → Matches (flat_parameters names) s ts → Shaped only names us ts → arrow_of_names b only names ts ≡ Err e → Lives Nothing flat (Fits 1) s e
+arrow_of_names_lives : (n : ℕ) (b : Below)
+    → SoundBelow n b
+    → AliveBelow b
+    → (s us ts : List Token) (e : Fault) (only : Bool) (names : List Identifier)
+    → Matches (token (fixed kinds.LeftParenthesis) ∷ []) s us
+    → Matches (flat_parameters names) s ts
+    → Shaped only names us ts
+    → arrow_of_names b only names ts ≡ Err e
+    → Lives Nothing flat (Fits 1) s e
 arrow_of_names_lives n b snd a s us ts e only names o m shape p =
     elim (cond_err (are_fresh [] names) (arrow_rest b (trees.name_list names) names ts) (if only then Err (stuck (suc (length ts))) else Err (stuck (length ts))) e p) [
       | inl q ↦
@@ -273,7 +373,14 @@ arrow_of_names_lives n b snd a s us ts e only names o m shape p =
       | inr q ↦ same_names_lives s us ts e only names o q.0 shape q.1
     ]
 
-pub arrow_of_list_lives : (n : ℕ) (b : Below) → SoundBelow n b → AliveBelow b → (only : Bool) (ts r : List Token) (e : Fault) → IsNext (fixed kinds.LeftParenthesis) (head_of ts) → past_names true (tail_of ts) ≡ Some (only, r) → arrow_of_list b only ts ≡ Err e → Lives Nothing flat (Fits 1) ts e
+pub arrow_of_list_lives : (n : ℕ) (b : Below)
+    → SoundBelow n b
+    → AliveBelow b
+    → (only : Bool) (ts r : List Token) (e : Fault)
+    → IsNext (fixed kinds.LeftParenthesis) (head_of ts)
+    → past_names true (tail_of ts) ≡ Some (only, r)
+    → arrow_of_list b only ts ≡ Err e
+    → Lives Nothing flat (Fits 1) ts e
 unfolding arrow_of_list names_before
 arrow_of_list_lives n b snd a only ts r e f past p = elim (bind_err (expect kinds.LeftParenthesis ts) (λ o. names_before o.1 >>= λ ns. arrow_of_names b only ns.0 ns.1) e p) [
   | inl q ↦ let again = expect_again kinds.LeftParenthesis ts (tail_of ts) (f, refl) in absurd cc
@@ -292,12 +399,16 @@ arrow_of_list_lives n b snd a only ts r e f past p = elim (bind_err (expect kind
 
 -- ---- what an arrow function begins with
 
-listed_is : (o : Option (Bool × List Token)) (only : Bool) → listed_by o ≡ listed only → (r : List Token) × (o ≡ Some (only, r))
+listed_is : (o : Option (Bool × List Token)) (only : Bool)
+    → listed_by o ≡ listed only
+    → (r : List Token) × (o ≡ Some (only, r))
 listed_is None only e = absurd cc
 listed_is (Some (true, ts)) only e = let same : true ≡ only = cc in (ts, ap (λ (only : Bool). some_past only ts) same)
 listed_is (Some (false, ts)) only e = by_test (is_arrow (head_of ts)) e
   where
-    by_test : (c : Bool) → (if c then listed false else no_arrow) ≡ listed only → (r : List Token) × (some_past false ts ≡ Some (only, r))
+    by_test : (c : Bool)
+        → (if c then listed false else no_arrow) ≡ listed only
+        → (r : List Token) × (some_past false ts ≡ Some (only, r))
     by_test true e = let same : false ≡ only = cc in (ts, ap (λ (only : Bool). some_past only ts) same)
     by_test false e = absurd cc
 
@@ -305,7 +416,9 @@ not_listed : (c : Bool) (only : Bool) → (if c then one_parameter else no_arrow
 not_listed true only e = absurd cc
 not_listed false only e = absurd cc
 
-head_listed : (c : Start) (ts : List Token) (only : Bool) → head_by c ts ≡ listed only → (c ≡ classes.parenthesis) × ((r : List Token) × (past_names true ts ≡ Some (only, r)))
+head_listed : (c : Start) (ts : List Token) (only : Bool)
+    → head_by c ts ≡ listed only
+    → (c ≡ classes.parenthesis) × ((r : List Token) × (past_names true ts ≡ Some (only, r)))
 head_listed (classes.a_name n) ts only e = absurd (not_listed (is_arrow (head_of ts)) only e)
 head_listed classes.parenthesis ts only e = (refl, listed_is (past_names true ts) only e)
 head_listed _ ts only e = absurd cc
@@ -351,7 +464,14 @@ joint_assigns u (Some t) e = subst (λ (j : Joint). JointOf j t.kind) e (joint_o
 abbrev zero_branches : List Mark
 zero_branches = token (numeric_literal 0) ∷ token (fixed kinds.Colon) ∷ token (numeric_literal 0) ∷ []
 
-joined_by_lives : (n : ℕ) (b : Below) → SoundBelow n b → AliveBelow b → (s : List Token) (t : Expression) (j : Joint) (ts : List Token) (e : Fault) → joint (head_of ts) ≡ j → TakesExpression 3 (suc n) s t ts → joined_by b n t j ts ≡ Err e → Lives Nothing flat (Fits 1) s e
+joined_by_lives : (n : ℕ) (b : Below)
+    → SoundBelow n b
+    → AliveBelow b
+    → (s : List Token) (t : Expression) (j : Joint) (ts : List Token) (e : Fault)
+    → joint (head_of ts) ≡ j
+    → TakesExpression 3 (suc n) s t ts
+    → joined_by b n t j ts ≡ Err e
+    → Lives Nothing flat (Fits 1) s e
 joined_by_lives n b snd a s t question ts e f l p =
     let is = tok kinds.Question ∷ an_assignment ∷ tok kinds.Colon ∷ an_assignment ∷ [] in
     elim (low_err (height t) n ts (made b is (λ v. trees.conditional t v.1.0 v.1.1.1.0) ts) e p) [
@@ -374,11 +494,23 @@ joined_by_lives n b snd a s t (assigns_by o) ts e f l p =
     ]
 joined_by_lives n b snd a s t no_joint ts e f l p = absurd cc
 
-joined_lives : (n : ℕ) (b : Below) → SoundBelow n b → AliveBelow b → (s : List Token) (t : Expression) (ts : List Token) (e : Fault) → TakesExpression 3 (suc n) s t ts → joined b n t ts ≡ Err e → Lives Nothing flat (Fits 1) s e
+joined_lives : (n : ℕ) (b : Below)
+    → SoundBelow n b
+    → AliveBelow b
+    → (s : List Token) (t : Expression) (ts : List Token) (e : Fault)
+    → TakesExpression 3 (suc n) s t ts
+    → joined b n t ts ≡ Err e
+    → Lives Nothing flat (Fits 1) s e
 unfolding joined
 joined_lives n b snd a s t ts e l p = joined_by_lives n b snd a s t (joint (head_of ts)) ts e refl l p
 
-assignment_by_lives : (n : ℕ) (b : Below) → SoundBelow n b → AliveBelow b → (h : Head) (ts : List Token) (e : Fault) → arrow_head ts ≡ h → assignment_by b n h ts ≡ Err e → Lives IsZero flat (Fits 1) ts e
+assignment_by_lives : (n : ℕ) (b : Below)
+    → SoundBelow n b
+    → AliveBelow b
+    → (h : Head) (ts : List Token) (e : Fault)
+    → arrow_head ts ≡ h
+    → assignment_by b n h ts ≡ Err e
+    → Lives IsZero flat (Fits 1) ts e
 assignment_by_lives n b s a one_parameter ts e f p =
     let w = head_one (start (head_of ts)) (tail_of ts) f in
     let l = arrow_of_one_lives n b s a w.0 ts e (start_name w.0 (head_of ts) w.1) p in
@@ -391,7 +523,12 @@ assignment_by_lives n b s a no_arrow ts e f p = elim (bind_err (operation b n 3 
   | inr q ↦ from_nothing (joined_lives n b s a ts q.0.0 q.0.1 e (operation_sound n b s (call_sound seq_sound n b s) 3 (omega arith) ts q.0 q.1).0 q.2)
 ]
 
-pub assignment_lives : (n : ℕ) (b : Below) → SoundBelow n b → AliveBelow b → (ts : List Token) (e : Fault) → assignment b n ts ≡ Err e → Lives IsZero flat (Fits 1) ts e
+pub assignment_lives : (n : ℕ) (b : Below)
+    → SoundBelow n b
+    → AliveBelow b
+    → (ts : List Token) (e : Fault)
+    → assignment b n ts ≡ Err e
+    → Lives IsZero flat (Fits 1) ts e
 unfolding assignment
 assignment_lives n b s a ts e p = assignment_by_lives n b s a (arrow_head ts) ts e refl p
 
@@ -402,7 +539,12 @@ append_none [] vs e = refl
 append_none (u ∷ us) vs e = absurd cc
 
 -- further expressions that are not whole, of which there may be none
-further_lives : (n : ℕ) (s : List Token) (t : Expression) (ts : List Token) (e : Fault) → TakesExpression 1 (suc n) s t ts → (l : Lives Anything more_expressions AreAssignments ts e) → (es : Expressions) → l.tree ≡ es → Lives Nothing flat (Fits 0) s e
+further_lives : (n : ℕ) (s : List Token) (t : Expression) (ts : List Token) (e : Fault)
+    → TakesExpression 1 (suc n) s t ts
+    → (l : Lives Anything more_expressions AreAssignments ts e)
+    → (es : Expressions)
+    → l.tree ≡ es
+    → Lives Nothing flat (Fits 0) s e
 further_lives n s t ts e k l trees.no_expressions is =
     let all : l.before ++ (added l.rest ++ []) ≡ [] = subst (λ (es : Expressions). Matches (more_expressions es) (l.before ++ (added l.rest ++ [])) []) is (l.spelled []) in
     let none : l.before ≡ [] = append_none l.before (added l.rest ++ []) all in
@@ -412,7 +554,14 @@ further_lives n s t ts e k l (trees.an_expression f fs) is =
     behind l (flat t) (expression_firm t k.well) s k.marks (trees.comma (trees.an_expression t (trees.an_expression f fs))) ((refl, (k.well, k.level, subst (λ (es : Expressions). AreAssignments es) is l.good)), omega arith)
     (ap (λ (es : Expressions). flat t ++ more_expressions es) is)
 
-pub comma_by_lives : (n : ℕ) (b : Below) → SoundBelow n b → AliveBelow b → (s : List Token) (t : Expression) (c : Bool) (ts : List Token) (e : Fault) → is_kind kinds.Comma (head_of ts) ≡ c → TakesExpression 1 (suc n) s t ts → comma_by b n t c ts ≡ Err e → Lives Nothing flat (Fits 0) s e
+pub comma_by_lives : (n : ℕ) (b : Below)
+    → SoundBelow n b
+    → AliveBelow b
+    → (s : List Token) (t : Expression) (c : Bool) (ts : List Token) (e : Fault)
+    → is_kind kinds.Comma (head_of ts) ≡ c
+    → TakesExpression 1 (suc n) s t ts
+    → comma_by b n t c ts ≡ Err e
+    → Lives Nothing flat (Fits 0) s e
 comma_by_lives n b snd a s t false ts e f k p = absurd cc
 comma_by_lives n b snd a s t true ts e f k p = elim (low_err (height t) n ts (more_assignments b ts >>= λ x. Ok (trees.comma (trees.an_expression t x.0), x.1)) e p) [
   | inl q ↦ elim (bind_err (more_assignments b ts) (λ x. Ok (trees.comma (trees.an_expression t x.0), x.1)) e q.1) [
@@ -424,7 +573,12 @@ comma_by_lives n b snd a s t true ts e f k p = elim (low_err (height t) n ts (mo
   | inr c ↦ token_lives 1 (suc n) s t ts e k kinds.Comma (next_is kinds.Comma (head_of ts) f) c (trees.comma (trees.an_expression t (trees.an_expression (trees.number 0) trees.no_expressions))) ((refl, (k.well, k.level, (tt, omega arith, tt))), omega arith) zero_marks zero_token (λ r. ((refl, refl), refl)) refl
 ]
 
-pub expression_lives : (n : ℕ) (b : Below) → SoundBelow n b → AliveBelow b → (ts : List Token) (e : Fault) → expression b n ts ≡ Err e → Lives IsZero flat (Fits 0) ts e
+pub expression_lives : (n : ℕ) (b : Below)
+    → SoundBelow n b
+    → AliveBelow b
+    → (ts : List Token) (e : Fault)
+    → expression b n ts ≡ Err e
+    → Lives IsZero flat (Fits 0) ts e
 unfolding expression
 expression_lives n b s a ts e p = elim (bind_err (assignment b n ts) (λ x. comma_by b n x.0 (is_kind kinds.Comma (head_of x.1)) x.1) e p) [
   | inl q ↦ looser 1 0 (omega arith) (assignment_lives n b s a ts e q)
@@ -437,7 +591,13 @@ expression_lives n b s a ts e p = elim (bind_err (assignment b n ts) (λ x. comm
 pub no_function_lives : (ts : List Token) (e : Fault) → Counts e ts → Lives Anything flat (IsFunctionOf 1) ts e
 no_function_lives ts e c = fills ts e c (trees.arrow (trees.name_list []) (trees.number 0)) (((tt, tt, omega arith, refl), omega arith), refl) (a_token kinds.LeftParenthesis ∷ a_token kinds.RightParenthesis ∷ zero_arrow_tokens) (λ r. (refl, (refl, zero_arrow_spelled r))) (λ r. tt)
 
-pub function_code_lives : (n : ℕ) (b : Below) → SoundBelow n b → AliveBelow b → (c : Start) (ts : List Token) (e : Fault) → start (head_of ts) ≡ c → function_code_by b c ts ≡ Err e → Lives Anything flat (IsFunctionOf 1) ts e
+pub function_code_lives : (n : ℕ) (b : Below)
+    → SoundBelow n b
+    → AliveBelow b
+    → (c : Start) (ts : List Token) (e : Fault)
+    → start (head_of ts) ≡ c
+    → function_code_by b c ts ≡ Err e
+    → Lives Anything flat (IsFunctionOf 1) ts e
 function_code_lives n b s a classes.function_word ts e f p =
     let l = function_lives n b s a ts e (start_function (head_of ts) f) p in
     from_nothing (renamed l l.tree ((l.good.0.0, omega (arith, l.good.0.1)), l.good.1) refl)

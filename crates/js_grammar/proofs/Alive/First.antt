@@ -31,7 +31,14 @@ is_start classes.no_start = false
 is_start _ = true
 
 -- one token, and what is added
-pub first_token : {A : Type 0} {flat_as : A → List Mark} {Fine : A → Type 0} (k : TokenKind) (ts : List Token) → IsNext (fixed k) (head_of ts) → (tree : A) → Fine tree → (ns : List Mark) (more : List Added) → ((r : List Token) → Matches ns (added more ++ r) r) → token (fixed k) ∷ ns ≡ flat_as tree → Lives Nothing flat_as Fine ts (deep (length (tail_of ts)))
+pub first_token : {A : Type 0} {flat_as : A → List Mark} {Fine : A → Type 0} (k : TokenKind) (ts : List Token)
+    → IsNext (fixed k) (head_of ts)
+    → (tree : A)
+    → Fine tree
+    → (ns : List Mark) (more : List Added)
+    → ((r : List Token) → Matches ns (added more ++ r) r)
+    → token (fixed k) ∷ ns ≡ flat_as tree
+    → Lives Nothing flat_as Fine ts (deep (length (tail_of ts)))
 first_token k ts f tree fine ns more spelled same = stopped (token (fixed k) ∷ []) refl ts (tail_of ts) (f, refl) (deep (length (tail_of ts))) refl tree fine ns more spelled same
 
 boolean_firm : (c : Bool) → is_firm (flat (trees.boolean c)) ≡ true
@@ -42,7 +49,10 @@ boolean_alone : (c : Bool) → flat (trees.boolean c) ++ [] ≡ flat (trees.bool
 boolean_alone true = refl
 boolean_alone false = refl
 
-pub start_lives : (c : Start) (ts : List Token) → start (head_of ts) ≡ c → is_start c ≡ true → Lives Nothing flat (Fits 15) ts (deep (length (tail_of ts)))
+pub start_lives : (c : Start) (ts : List Token)
+    → start (head_of ts) ≡ c
+    → is_start c ≡ true
+    → Lives Nothing flat (Fits 15) ts (deep (length (tail_of ts)))
 start_lives classes.this_word ts f h = first_token kinds.This ts (start_this (head_of ts) f) trees.this (tt, omega arith) [] [] (λ r. refl) refl
 start_lives (classes.a_name w) ts f h = stopped (flat (trees.name w)) refl ts (tail_of ts) (start_name w (head_of ts) f, refl) (deep (length (tail_of ts))) refl (trees.name w) (tt, omega arith) [] [] (λ r. refl) refl
 start_lives (classes.a_number w) ts f h = stopped (flat (trees.number w)) refl ts (tail_of ts) (start_number w (head_of ts) f, refl) (deep (length (tail_of ts))) refl (trees.number w) (tt, omega arith) [] [] (λ r. refl) refl
@@ -74,7 +84,10 @@ x_member_tokens = a_name_token x_name refl ∷ a_token kinds.Dot ∷ a_name_toke
 x_member_spelled : (r : List Token) → Matches x_member_marks (added x_member_tokens ++ r) r
 x_member_spelled r = ((refl, refl), (refl, ((refl, refl), refl)))
 
-pub prefix_lives : (c : Prefix) (ts : List Token) → prefix (head_of ts) ≡ c → is_prefix c ≡ true → Lives Nothing flat (Fits 13) ts (deep (length (tail_of ts)))
+pub prefix_lives : (c : Prefix) (ts : List Token)
+    → prefix (head_of ts) ≡ c
+    → is_prefix c ≡ true
+    → Lives Nothing flat (Fits 13) ts (deep (length (tail_of ts)))
 prefix_lives deletes ts f h = first_token kinds.Delete ts (prefix_delete (head_of ts) f) (trees.unary unaries.Delete x_member) (((tt, omega arith), omega arith, refl), omega arith) x_member_marks x_member_tokens x_member_spelled refl
 prefix_lives (a_unary o) ts f h = let u = prefix_unary o (head_of ts) f in first_token (unary_kind o) ts u.0 (trees.unary o (trees.number 0)) ((tt, omega arith, u.1 (trees.number 0)), omega arith) zero_marks zero_token (λ r. ((refl, refl), refl)) refl
 prefix_lives (an_update o) ts f h = first_token (update_kind o) ts (prefix_update o (head_of ts) f) (trees.prefix o x_member) (((tt, omega arith), refl), omega arith) x_member_marks x_member_tokens x_member_spelled refl
@@ -124,7 +137,10 @@ word_end = semicolon after_word ∷ []
 abbrev end_token : List Added
 end_token = a_token kinds.Semicolon ∷ []
 
-pub first_lives : (context : Context) (c : First) (ts : List Token) → FirstNext c (head_of ts) → may_stand context c ≡ true → Lives Nothing flat_statement (IsStatement context) ts (deep (length (tail_of ts)))
+pub first_lives : (context : Context) (c : First) (ts : List Token)
+    → FirstNext c (head_of ts)
+    → may_stand context c ≡ true
+    → Lives Nothing flat_statement (IsStatement context) ts (deep (length (tail_of ts)))
 first_lives context classes.a_block ts f h = first_token kinds.LeftBrace ts f (trees.block trees.no_statements) ((tt, tt), refl) (token (fixed kinds.RightBrace) ∷ []) (a_token kinds.RightBrace ∷ []) (λ r. (refl, refl)) refl
 first_lives context (classes.a_lexical constant) ts f h = absurd cc
 first_lives context classes.a_semicolon ts f h = first_token kinds.Semicolon ts f trees.empty (tt, refl) [] [] (λ r. refl) refl
@@ -142,20 +158,28 @@ first_lives context classes.a_function ts f h = absurd cc
 first_lives context classes.an_expression ts f h = absurd cc
 
 -- an expression that begins with neither { nor function, as a statement
-pub expression_first_lives : (context : Context) (ts : List Token) → FirstNext classes.an_expression (head_of ts) → Lives Nothing flat (Fits 0) ts (deep (length (tail_of ts))) → Lives Nothing flat_statement (IsStatement context) ts (deep (length (tail_of ts)))
+pub expression_first_lives : (context : Context) (ts : List Token)
+    → FirstNext classes.an_expression (head_of ts)
+    → Lives Nothing flat (Fits 0) ts (deep (length (tail_of ts)))
+    → Lives Nothing flat_statement (IsStatement context) ts (deep (length (tail_of ts)))
 expression_first_lives context ts f l =
     let us = l.before ++ (added l.rest ++ []) in
     let brace = still_other kinds.LeftBrace us f.0 (l.starts []) in
     let word = still_other kinds.Function us f.1 (l.starts []) in
     ends_in l (trees.expression l.tree) ((l.good.0, no_brace (flat l.tree) us [] brace (l.spelled []), no_function (flat l.tree) us [] word (l.spelled [])), refl) (semicolon (after_expression (edge l.tree)) ∷ []) end_token (λ r. inl (refl, refl)) refl
   where
-    still_other : (k : TokenKind) (us : List Token) → is_kind k (head_of ts) ≡ false → Starts Nothing ts us → is_kind k (head_of us) ≡ false
+    still_other : (k : TokenKind) (us : List Token)
+        → is_kind k (head_of ts) ≡ false
+        → Starts Nothing ts us
+        → is_kind k (head_of us) ≡ false
     still_other k us f (inl same) = ap (λ (o : Option Token). is_kind k o) same ∙ f
     still_other k us f (inr none) = absurd none
 
 -- ---- declarations
 
-pub lexical_first_lives : (context : Context) (taken : List Identifier) (constant : Bool) (ts : List Token) → IsNext (fixed (let_kind constant)) (head_of ts) → Lives Nothing flat_statement (IsItem context taken) ts (deep (length (tail_of ts)))
+pub lexical_first_lives : (context : Context) (taken : List Identifier) (constant : Bool) (ts : List Token)
+    → IsNext (fixed (let_kind constant)) (head_of ts)
+    → Lives Nothing flat_statement (IsItem context taken) ts (deep (length (tail_of ts)))
 lexical_first_lives context taken constant ts f =
     let n = some_name taken in
     let ds = trees.a_declarator (zero_declarator n) trees.no_declarators in
@@ -163,7 +187,9 @@ lexical_first_lives context taken constant ts f =
     let ms = token (identifier n) ∷ token (fixed kinds.Assign) ∷ token (numeric_literal 0) ∷ semicolon (after_expression plain) ∷ [] in
     first_token (let_kind constant) ts f (trees.lexical constant ds) ((d.0, d.1, d.2), d.3) ms (fresh_token taken ∷ (zero_initialized ++ end_token)) (λ r. ((refl, refl), (refl, ((refl, refl), inl (refl, refl))))) (let_marks constant ms)
 
-pub function_first_lives : (context : Context) (taken : List Identifier) (ts : List Token) → IsNext (fixed kinds.Function) (head_of ts) → Lives Nothing flat_statement (IsItem context taken) ts (deep (length (tail_of ts)))
+pub function_first_lives : (context : Context) (taken : List Identifier) (ts : List Token)
+    → IsNext (fixed kinds.Function) (head_of ts)
+    → Lives Nothing flat_statement (IsItem context taken) ts (deep (length (tail_of ts)))
 function_first_lives context taken ts f =
     let n = some_name taken in
     first_token kinds.Function ts f (trees.declared_function n [] trees.no_statements) (((tt, tt), tt), (some_name_fresh taken, tt)) (token (identifier n) ∷ token (fixed kinds.LeftParenthesis) ∷ token (fixed kinds.RightParenthesis) ∷ empty_braces)

@@ -59,17 +59,33 @@ flat_code f = flat_parameters f.parameters ++ flats.in_braces (flat_statements f
 pub record AliveBelow (b : Below) : Type 0 where
   pub assignment : (ts : List Token) (e : Fault) → b.assignment ts ≡ Err e → Lives IsZero flat (Fits 1) ts e
   pub expression : (ts : List Token) (e : Fault) → b.expression ts ≡ Err e → Lives IsZero flat (Fits 0) ts e
-  pub operation : (m : ℕ) → m ≤ 13 → (ts : List Token) (e : Fault) → b.operation m ts ≡ Err e → Lives IsZero flat (Fits m) ts e
+  pub operation : (m : ℕ)
+      → m ≤ 13
+      → (ts : List Token) (e : Fault)
+      → b.operation m ts ≡ Err e
+      → Lives IsZero flat (Fits m) ts e
   pub unary : (ts : List Token) (e : Fault) → b.unary ts ≡ Err e → Lives IsZero flat (Fits 13) ts e
   pub call : (ts : List Token) (e : Fault) → b.call ts ≡ Err e → Lives IsZero flat (Fits 15) ts e
-  pub statement : (context : Context) (ts : List Token) (e : Fault) → b.statement context ts ≡ Err e → Lives IsZero flat_statement (IsStatement context) ts e
-  pub item : (context : Context) (taken : List Identifier) (ts : List Token) (e : Fault) → b.item context taken ts ≡ Err e → Lives IsZero flat_statement (IsItem context taken) ts e
-  pub block : (context : Context) (taken : List Identifier) (ts : List Token) (e : Fault) → b.block context taken ts ≡ Err e → Lives (IsAdded kinds.LeftBrace) flat_block (IsBlock context taken) ts e
-  pub function : (ts : List Token) (e : Fault) → b.function ts ≡ Err e → Lives (IsAdded kinds.LeftParenthesis) flat_code IsCode ts e
+  pub statement : (context : Context) (ts : List Token) (e : Fault)
+      → b.statement context ts ≡ Err e
+      → Lives IsZero flat_statement (IsStatement context) ts e
+  pub item : (context : Context) (taken : List Identifier) (ts : List Token) (e : Fault)
+      → b.item context taken ts ≡ Err e
+      → Lives IsZero flat_statement (IsItem context taken) ts e
+  pub block : (context : Context) (taken : List Identifier) (ts : List Token) (e : Fault)
+      → b.block context taken ts ≡ Err e
+      → Lives (IsAdded kinds.LeftBrace) flat_block (IsBlock context taken) ts e
+  pub function : (ts : List Token) (e : Fault)
+      → b.function ts ≡ Err e
+      → Lives (IsAdded kinds.LeftParenthesis) flat_code IsCode ts e
 
 -- ---- what is added
 
-pub zero_expression : (low : ℕ) → low ≤ 15 → (ts : List Token) (e : Fault) → Counts e ts → Lives IsZero flat (Fits low) ts e
+pub zero_expression : (low : ℕ)
+    → low ≤ 15
+    → (ts : List Token) (e : Fault)
+    → Counts e ts
+    → Lives IsZero flat (Fits low) ts e
 zero_expression low h ts e c = fills ts e c (trees.number 0) (tt, h) (a_token kinds.Number ∷ []) (λ r. ((refl, refl), refl)) (λ r. refl)
 
 abbrev pub zero_marks : List Mark
@@ -79,19 +95,28 @@ zero_marks = token (numeric_literal 0) ∷ []
 abbrev pub zero_spelled : List Added
 zero_spelled = a_token kinds.Number ∷ a_token kinds.Semicolon ∷ []
 
-pub zero_spells : (r : List Token) → Matches (flat_statement (trees.expression (trees.number 0))) (added zero_spelled ++ r) r
+pub zero_spells : (r : List Token)
+    → Matches (flat_statement (trees.expression (trees.number 0))) (added zero_spelled ++ r) r
 zero_spells r = ((refl, refl), inl (refl, refl))
 
-pub zero_statement : (context : Context) (ts : List Token) (e : Fault) → Counts e ts → Lives IsZero flat_statement (IsStatement context) ts e
+pub zero_statement : (context : Context) (ts : List Token) (e : Fault)
+    → Counts e ts
+    → Lives IsZero flat_statement (IsStatement context) ts e
 zero_statement context ts e c = fills ts e c (trees.expression (trees.number 0)) ((tt, refl, refl), refl) zero_spelled zero_spells (λ r. refl)
 
-pub zero_item : (context : Context) (taken : List Identifier) (ts : List Token) (e : Fault) → Counts e ts → Lives IsZero flat_statement (IsItem context taken) ts e
+pub zero_item : (context : Context) (taken : List Identifier) (ts : List Token) (e : Fault)
+    → Counts e ts
+    → Lives IsZero flat_statement (IsItem context taken) ts e
 zero_item context taken ts e c = fills ts e c (trees.expression (trees.number 0)) ((tt, refl, refl), tt) zero_spelled zero_spells (λ r. refl)
 
-pub empty_block : (context : Context) (taken : List Identifier) (ts : List Token) (e : Fault) → Counts e ts → Lives (IsAdded kinds.LeftBrace) flat_block (IsBlock context taken) ts e
+pub empty_block : (context : Context) (taken : List Identifier) (ts : List Token) (e : Fault)
+    → Counts e ts
+    → Lives (IsAdded kinds.LeftBrace) flat_block (IsBlock context taken) ts e
 empty_block context taken ts e c = fills ts e c trees.no_statements (tt, tt) (a_token kinds.LeftBrace ∷ a_token kinds.RightBrace ∷ []) (λ r. (refl, (refl, refl))) (λ r. refl)
 
-pub empty_code : (ts : List Token) (e : Fault) → Counts e ts → Lives (IsAdded kinds.LeftParenthesis) flat_code IsCode ts e
+pub empty_code : (ts : List Token) (e : Fault)
+    → Counts e ts
+    → Lives (IsAdded kinds.LeftParenthesis) flat_code IsCode ts e
 empty_code ts e c = fills ts e c (record { parameters = []; body = trees.no_statements }) ((tt, tt), tt) (a_token kinds.LeftParenthesis ∷ a_token kinds.RightParenthesis ∷ a_token kinds.LeftBrace ∷ a_token kinds.RightBrace ∷ []) (λ r. (refl, (refl, (refl, (refl, refl))))) (λ r. refl)
 
 -- x, one time more than this
@@ -142,7 +167,9 @@ name_lives ts e p = elim (cond_err (is_kind kinds.Name (head_of ts)) (Ok (text_o
   | inr q ↦ fills ts e (stuck_counts {A = Identifier} ts e q.1) (some_name []) tt (fresh_token [] ∷ []) (λ r. ((refl, refl), refl)) (λ r. tt)
 ]
 
-pub fresh_lives : (taken : List Identifier) (ts : List Token) (e : Fault) → fresh_name taken ts ≡ Err e → Lives Anything an_identifier (Differs taken) ts e
+pub fresh_lives : (taken : List Identifier) (ts : List Token) (e : Fault)
+    → fresh_name taken ts ≡ Err e
+    → Lives Anything an_identifier (Differs taken) ts e
 unfolding fresh_name name_at
 fresh_lives taken ts e p = elim (cond_err (is_among taken (text_of (head_of ts))) (Err (stuck (length ts))) (name_at ts) e p) [
   | inl q ↦ another (stuck_counts {A = Identifier} ts e q.1)
@@ -194,14 +221,21 @@ IsAssignment u e = Fits 1 e
 one_reads : (n : ℕ) (b : Below) → SoundBelow n b → Reads (one_of b.assignment) flat IsAssignment
 one_reads n b s = λ u ts x e. let t = s.assignment ts x e in (t.marks, (t.well, t.level))
 
-all_assignments : (u : Unit {0}) (es : List Expression) → AllGood no_state IsAssignment u es → AreAssignments (expressions es)
+all_assignments : (u : Unit {0}) (es : List Expression)
+    → AllGood no_state IsAssignment u es
+    → AreAssignments (expressions es)
 all_assignments u [] g = tt
 all_assignments u (e ∷ es) g = (g.0.0, g.0.1, all_assignments tt es g.1)
 
 abbrev pub flat_arguments : TokenKind → Expressions → List Mark
 flat_arguments closer es = flat_expressions es ++ (trailing es ++ (token (fixed closer) ∷ []))
 
-pub arguments_lives : (n : ℕ) (b : Below) → SoundBelow n b → AliveBelow b → (closer : TokenKind) (ts : List Token) (e : Fault) → arguments_before b closer ts ≡ Err e → Lives Anything (flat_arguments closer) AreAssignments ts e
+pub arguments_lives : (n : ℕ) (b : Below)
+    → SoundBelow n b
+    → AliveBelow b
+    → (closer : TokenKind) (ts : List Token) (e : Fault)
+    → arguments_before b closer ts ≡ Err e
+    → Lives Anything (flat_arguments closer) AreAssignments ts e
 unfolding arguments_before
 arguments_lives n b s a closer ts e p = elim (bind_err (elements (one_of b.assignment) no_state closer (suc (length ts)) tt ts) (λ x. Ok (expressions x.0, x.1)) e p) [
   | inl q ↦
@@ -211,7 +245,12 @@ arguments_lives n b s a closer ts e p = elim (bind_err (elements (one_of b.assig
 ]
 
 -- further expressions, each behind a comma
-pub more_lives : (n : ℕ) (b : Below) → SoundBelow n b → AliveBelow b → (ts : List Token) (e : Fault) → more_assignments b ts ≡ Err e → Lives Anything more_expressions AreAssignments ts e
+pub more_lives : (n : ℕ) (b : Below)
+    → SoundBelow n b
+    → AliveBelow b
+    → (ts : List Token) (e : Fault)
+    → more_assignments b ts ≡ Err e
+    → Lives Anything more_expressions AreAssignments ts e
 unfolding more_assignments
 more_lives n b s a ts e p = elim (bind_err (others (one_of b.assignment) no_state (suc (length ts)) tt ts) (λ x. Ok (expressions x.0, x.1)) e p) [
   | inl q ↦
@@ -222,7 +261,9 @@ more_lives n b s a ts e p = elim (bind_err (others (one_of b.assignment) no_stat
 
 -- ---- parameters
 
-pub parameters_lives : (ts : List Token) (e : Fault) → parameters_at ts ≡ Err e → Lives (IsAdded kinds.LeftParenthesis) flat_parameters (AreFresh []) ts e
+pub parameters_lives : (ts : List Token) (e : Fault)
+    → parameters_at ts ≡ Err e
+    → Lives (IsAdded kinds.LeftParenthesis) flat_parameters (AreFresh []) ts e
 unfolding parameters_at
 parameters_lives ts e p = elim (bind_err (expect kinds.LeftParenthesis ts) (λ o. elements fresh_name with_name kinds.RightParenthesis (suc (length o.1)) [] o.1) e p) [
   | inl q ↦ fills ts e (expect_err kinds.LeftParenthesis ts e q) [] tt (a_token kinds.LeftParenthesis ∷ a_token kinds.RightParenthesis ∷ []) (λ r. (refl, (refl, refl))) (λ r. refl)
@@ -234,13 +275,20 @@ parameters_lives ts e p = elim (bind_err (expect kinds.LeftParenthesis ts) (λ o
 
 -- ---- statements in braces
 
-all_items : (context : Context) (taken : List Identifier) (ss : List Statement) → AllGood with_declared (IsItem context) taken ss → IsBlock context taken (statements ss)
+all_items : (context : Context) (taken : List Identifier) (ss : List Statement)
+    → AllGood with_declared (IsItem context) taken ss
+    → IsBlock context taken (statements ss)
 all_items context taken [] g = (tt, tt)
 all_items context taken (s ∷ ss) g =
     let r = all_items context (with_declared taken s) ss g.1 in
     (fresh_append taken (declared_by s) (declared_names (statements ss)) g.0.1 r.0, (g.0.0, r.1))
 
-pub items_at_lives : (n : ℕ) (b : Below) → SoundBelow n b → AliveBelow b → (context : Context) (taken : List Identifier) (ts : List Token) (e : Fault) → items_at b context taken ts ≡ Err e → Lives IsZero flat_statements (IsBlock context taken) ts e
+pub items_at_lives : (n : ℕ) (b : Below)
+    → SoundBelow n b
+    → AliveBelow b
+    → (context : Context) (taken : List Identifier) (ts : List Token) (e : Fault)
+    → items_at b context taken ts ≡ Err e
+    → Lives IsZero flat_statements (IsBlock context taken) ts e
 unfolding items_at
 items_at_lives n b s a context taken ts e p = elim (bind_err (items (λ names r. b.item context names r) with_declared (suc (length ts)) taken ts) (λ x. Ok (statements x.0, x.1)) e p) [
   | inl q ↦
@@ -254,7 +302,13 @@ items_at_lives n b s a context taken ts e p = elim (bind_err (items (λ names r.
 abbrev flat_closed : Statements → List Mark
 flat_closed ss = flat_statements ss ++ (token (fixed kinds.RightBrace) ∷ [])
 
-closed_lives : (Good : Statements → Type 0) (ss : Statements) → Good ss → (ts mid : List Token) → Matches (flat_statements ss) ts mid → (e : Fault) → Counts e mid → Lives Anything flat_closed Good ts e
+closed_lives : (Good : Statements → Type 0) (ss : Statements)
+    → Good ss
+    → (ts mid : List Token)
+    → Matches (flat_statements ss) ts mid
+    → (e : Fault)
+    → Counts e mid
+    → Lives Anything flat_closed Good ts e
 closed_lives Good ss good ts mid m e c =
     let f = softens (flat_statements ss) ts mid m in
     record {
@@ -270,8 +324,13 @@ closed_lives Good ss good ts mid m e c =
     }
 
 -- behind the first brace
-inside_lives : (n : ℕ) (b : Below) → SoundBelow n b → AliveBelow b → (context : Context) (taken : List Identifier) (ts us : List Token) (e : Fault) → Matches (token (fixed kinds.LeftBrace) ∷ []) ts us
-    → (items_at b context taken us >>= λ x. expect kinds.RightBrace x.1 >>= λ c. Ok (x.0, c.1)) ≡ Err e → Lives Nothing flat_block (IsBlock context taken) ts e
+inside_lives : (n : ℕ) (b : Below)
+    → SoundBelow n b
+    → AliveBelow b
+    → (context : Context) (taken : List Identifier) (ts us : List Token) (e : Fault)
+    → Matches (token (fixed kinds.LeftBrace) ∷ []) ts us
+    → (items_at b context taken us >>= λ x. expect kinds.RightBrace x.1 >>= λ c. Ok (x.0, c.1)) ≡ Err e
+    → Lives Nothing flat_block (IsBlock context taken) ts e
 inside_lives n b s a context taken ts us e m p = elim (bind_err (items_at b context taken us) (λ x. expect kinds.RightBrace x.1 >>= λ c. Ok (x.0, c.1)) e p) [
   | inl q ↦
       let l = items_at_lives n b s a context taken us e q in
@@ -285,7 +344,12 @@ inside_lives n b s a context taken ts us e m p = elim (bind_err (items_at b cont
   ]
 ]
 
-pub braces_lives : (n : ℕ) (b : Below) → SoundBelow n b → AliveBelow b → (context : Context) (taken : List Identifier) (ts : List Token) (e : Fault) → braces b context taken ts ≡ Err e → Lives (IsAdded kinds.LeftBrace) flat_block (IsBlock context taken) ts e
+pub braces_lives : (n : ℕ) (b : Below)
+    → SoundBelow n b
+    → AliveBelow b
+    → (context : Context) (taken : List Identifier) (ts : List Token) (e : Fault)
+    → braces b context taken ts ≡ Err e
+    → Lives (IsAdded kinds.LeftBrace) flat_block (IsBlock context taken) ts e
 unfolding braces
 braces_lives n b s a context taken ts e p = elim (bind_err (expect kinds.LeftBrace ts) (λ o. items_at b context taken o.1 >>= λ x. expect kinds.RightBrace x.1 >>= λ c. Ok (x.0, c.1)) e p) [
   | inl q ↦ empty_block context taken ts e (expect_err kinds.LeftBrace ts e q)
@@ -293,14 +357,25 @@ braces_lives n b s a context taken ts e p = elim (bind_err (expect kinds.LeftBra
 ]
 
 -- where the first brace is there
-pub opened_lives : (n : ℕ) (b : Below) → SoundBelow n b → AliveBelow b → (context : Context) (taken : List Identifier) (ts : List Token) (e : Fault) → IsNext (fixed kinds.LeftBrace) (head_of ts) → braces b context taken ts ≡ Err e → Lives Nothing flat_block (IsBlock context taken) ts e
+pub opened_lives : (n : ℕ) (b : Below)
+    → SoundBelow n b
+    → AliveBelow b
+    → (context : Context) (taken : List Identifier) (ts : List Token) (e : Fault)
+    → IsNext (fixed kinds.LeftBrace) (head_of ts)
+    → braces b context taken ts ≡ Err e
+    → Lives Nothing flat_block (IsBlock context taken) ts e
 unfolding braces
 opened_lives n b s a context taken ts e f p = elim (bind_err (expect kinds.LeftBrace ts) (λ o. items_at b context taken o.1 >>= λ x. expect kinds.RightBrace x.1 >>= λ c. Ok (x.0, c.1)) e p) [
   | inl q ↦ let again = expect_again kinds.LeftBrace ts (tail_of ts) (f, refl) in absurd cc
   | inr q ↦ inside_lives n b s a context taken ts q.0.1 e (expect_sound kinds.LeftBrace ts q.0 q.1) q.2
 ]
 
-pub code_lives : (n : ℕ) (b : Below) → SoundBelow n b → AliveBelow b → (ts : List Token) (e : Fault) → code_at b ts ≡ Err e → Lives (IsAdded kinds.LeftParenthesis) flat_code IsCode ts e
+pub code_lives : (n : ℕ) (b : Below)
+    → SoundBelow n b
+    → AliveBelow b
+    → (ts : List Token) (e : Fault)
+    → code_at b ts ≡ Err e
+    → Lives (IsAdded kinds.LeftParenthesis) flat_code IsCode ts e
 unfolding code_at
 code_lives n b s a ts e p = elim (bind_err (parameters_at ts) (λ ps. braces b function_body (with_names [] ps.0) ps.1 >>= λ body. Ok (record { parameters = ps.0; body = body.0 }, body.1)) e p) [
   | inl q ↦
@@ -335,8 +410,16 @@ zero_initializes r = (refl, ((refl, refl), refl))
 abbrev pub zero_declarator : Identifier → Declarator
 zero_declarator n = trees.declarator n (trees.present (trees.number 0))
 
-initializer_lives : (b : Below) → AliveBelow b → (constant : Bool) (taken : List Identifier) (ts : List Token) (m : Identifier) (r : List Token) → Matches (token (identifier m) ∷ []) ts r → is_among taken m ≡ false
-    → (c : Bool) → is_kind kinds.Assign (head_of r) ≡ c → (e : Fault) → initializer_by b constant m c r ≡ Err e → Lives Nothing flat_declarator (IsDeclarator constant taken) ts e
+initializer_lives : (b : Below)
+    → AliveBelow b
+    → (constant : Bool) (taken : List Identifier) (ts : List Token) (m : Identifier) (r : List Token)
+    → Matches (token (identifier m) ∷ []) ts r
+    → is_among taken m ≡ false
+    → (c : Bool)
+    → is_kind kinds.Assign (head_of r) ≡ c
+    → (e : Fault)
+    → initializer_by b constant m c r ≡ Err e
+    → Lives Nothing flat_declarator (IsDeclarator constant taken) ts e
 initializer_lives b a constant taken ts m r t f true h e p = elim (bind_err (b.assignment (tail_of r)) (λ e. Ok (trees.declarator m (trees.present e.0), e.1)) e p) [
   | inl q ↦
       let l = a.assignment (tail_of r) e q in
@@ -348,7 +431,11 @@ initializer_lives b a true taken ts m r t f false h e p =
     stopped (token (identifier m) ∷ []) refl ts r t e (stuck_counts {A = Declarator} r e p) (zero_declarator m) ((tt, omega arith), refl, f) zero_initializer zero_initialized zero_initializes refl
 initializer_lives b a false taken ts m r t f false h e p = absurd cc
 
-pub declarator_lives : (b : Below) → AliveBelow b → (constant : Bool) (taken : List Identifier) (ts : List Token) (e : Fault) → declarator_at b constant taken ts ≡ Err e → Lives Anything flat_declarator (IsDeclarator constant taken) ts e
+pub declarator_lives : (b : Below)
+    → AliveBelow b
+    → (constant : Bool) (taken : List Identifier) (ts : List Token) (e : Fault)
+    → declarator_at b constant taken ts ≡ Err e
+    → Lives Anything flat_declarator (IsDeclarator constant taken) ts e
 unfolding declarator_at
 declarator_lives b a constant taken ts e p = elim (bind_err (fresh_name taken ts) (λ n. initializer_by b constant n.0 (is_kind kinds.Assign (head_of n.1)) n.1) e p) [
   | inl q ↦
@@ -363,18 +450,30 @@ declarator_lives b a constant taken ts e p = elim (bind_err (fresh_name taken ts
 abbrev pub AreDeclared : Bool → List Identifier → Declarators → Type 0
 AreDeclared constant taken ds = (is_some_declarator ds ≡ true) × WellDeclarators ds × IsInitialized constant ds × AreFresh taken (names_of_declarators ds)
 
-all_declarators : (constant : Bool) (taken : List Identifier) (ds : List Declarator) → AllGood with_declarator (IsDeclarator constant) taken ds → WellDeclarators (declarators ds) × IsInitialized constant (declarators ds) × AreFresh taken (names_of_declarators (declarators ds))
+all_declarators : (constant : Bool) (taken : List Identifier) (ds : List Declarator)
+    → AllGood with_declarator (IsDeclarator constant) taken ds
+    → WellDeclarators (declarators ds)
+    × IsInitialized constant (declarators ds)
+    × AreFresh taken (names_of_declarators (declarators ds))
 all_declarators constant taken [] g = (tt, no_more_initialized constant, tt)
 all_declarators constant taken (d ∷ ds) g =
     let r = all_declarators constant (with_declarator taken d) ds g.1 in
     ((g.0.0, r.0), initialized_more constant d (declarators ds) g.0.1 r.1, fresh_more taken d (declarators ds) g.0.2 r.2)
 
-pub declared_more : (constant : Bool) (taken : List Identifier) (d : Declarator) (ds : List Declarator) → IsDeclarator constant taken d → AllGood with_declarator (IsDeclarator constant) (with_declarator taken d) ds → AreDeclared constant taken (trees.a_declarator d (declarators ds))
+pub declared_more : (constant : Bool) (taken : List Identifier) (d : Declarator) (ds : List Declarator)
+    → IsDeclarator constant taken d
+    → AllGood with_declarator (IsDeclarator constant) (with_declarator taken d) ds
+    → AreDeclared constant taken (trees.a_declarator d (declarators ds))
 declared_more constant taken d ds g h =
     let r = all_declarators constant (with_declarator taken d) ds h in
     (refl, (g.0, r.0), initialized_more constant d (declarators ds) g.1 r.1, fresh_more taken d (declarators ds) g.2 r.2)
 
-pub declarators_lives : (n : ℕ) (b : Below) → SoundBelow n b → AliveBelow b → (constant : Bool) (taken : List Identifier) (ts : List Token) (e : Fault) → declarators_at b constant taken ts ≡ Err e → Lives Anything flat_declarators (AreDeclared constant taken) ts e
+pub declarators_lives : (n : ℕ) (b : Below)
+    → SoundBelow n b
+    → AliveBelow b
+    → (constant : Bool) (taken : List Identifier) (ts : List Token) (e : Fault)
+    → declarators_at b constant taken ts ≡ Err e
+    → Lives Anything flat_declarators (AreDeclared constant taken) ts e
 unfolding declarators_at
 declarators_lives n b s a constant taken ts e p = elim (bind_err (declarator_at b constant taken ts) (λ d. others (λ names r. declarator_at b constant names r) with_declarator (suc (length d.1)) (with_declarator taken d.0) d.1 >>= λ ds. Ok (trees.a_declarator d.0 (declarators ds.0), ds.1)) e p) [
   | inl q ↦
@@ -393,7 +492,12 @@ declarators_lives n b s a constant taken ts e p = elim (bind_err (declarator_at 
 
 -- ---- expressions with what ends them
 
-optional_by_lives : (n : ℕ) (b : Below) → SoundBelow n b → AliveBelow b → (closer : TokenKind) (c : Bool) (ts : List Token) (e : Fault) → optional_by b closer c ts ≡ Err e → Lives Anything (marks_of (optional closer)) (Sane (optional closer)) ts e
+optional_by_lives : (n : ℕ) (b : Below)
+    → SoundBelow n b
+    → AliveBelow b
+    → (closer : TokenKind) (c : Bool) (ts : List Token) (e : Fault)
+    → optional_by b closer c ts ≡ Err e
+    → Lives Anything (marks_of (optional closer)) (Sane (optional closer)) ts e
 optional_by_lives n b s a closer true ts e p = absurd cc
 optional_by_lives n b s a closer false ts e p = elim (bind_err (b.expression ts) (λ e. expect closer e.1 >>= λ c. Ok (trees.present e.0, c.1)) e p) [
   | inl q ↦
@@ -407,14 +511,24 @@ optional_by_lives n b s a closer false ts e p = elim (bind_err (b.expression ts)
   ]
 ]
 
-pub optional_lives : (n : ℕ) (b : Below) → SoundBelow n b → AliveBelow b → (closer : TokenKind) (ts : List Token) (e : Fault) → optional_before b closer ts ≡ Err e → Lives Anything (marks_of (optional closer)) (Sane (optional closer)) ts e
+pub optional_lives : (n : ℕ) (b : Below)
+    → SoundBelow n b
+    → AliveBelow b
+    → (closer : TokenKind) (ts : List Token) (e : Fault)
+    → optional_before b closer ts ≡ Err e
+    → Lives Anything (marks_of (optional closer)) (Sane (optional closer)) ts e
 unfolding optional_before
 optional_lives n b s a closer ts e p = optional_by_lives n b s a closer (is_kind closer (head_of ts)) ts e p
 
 abbrev pub flat_ended : Expression → List Mark
 flat_ended e = flat e ++ (semicolon (after_expression (edge e)) ∷ [])
 
-pub ended_lives : (n : ℕ) (b : Below) → SoundBelow n b → AliveBelow b → (ts : List Token) (e : Fault) → ended_expression b ts ≡ Err e → Lives IsZero flat_ended Well ts e
+pub ended_lives : (n : ℕ) (b : Below)
+    → SoundBelow n b
+    → AliveBelow b
+    → (ts : List Token) (e : Fault)
+    → ended_expression b ts ≡ Err e
+    → Lives IsZero flat_ended Well ts e
 unfolding ended_expression
 ended_lives n b s a ts e p = elim (bind_err (b.expression ts) (λ e. semicolon_at (after_expression (edge e.0)) e.1 >>= λ s. Ok (e.0, s.1)) e p) [
   | inl q ↦
@@ -524,7 +638,10 @@ abbrev are_writable : List Item → Bool
 are_writable [] = true
 are_writable (i ∷ is) = is_writable i && are_writable is
 
-all_spelled : (is : List Item) → are_writable is ≡ true → (r : List Token) → Matches (marks is (fill_all is)) (added (spell_all is) ++ r) r
+all_spelled : (is : List Item)
+    → are_writable is ≡ true
+    → (r : List Token)
+    → Matches (marks is (fill_all is)) (added (spell_all is) ++ r) r
 all_spelled [] w r = refl
 all_spelled (i ∷ is) w r =
     let h = and_parts (is_writable i) (are_writable is) w in
@@ -545,7 +662,14 @@ FirstOf an_expression o = IsZero o
 FirstOf ended o = IsZero o
 FirstOf i o = Anything o
 
-item_lives : (n : ℕ) (b : Below) → SoundBelow n b → AliveBelow b → (i : Item) → is_writable i ≡ true → (ts : List Token) (e : Fault) → item b i ts ≡ Err e → Lives (FirstOf i) (marks_of i) (Sane i) ts e
+item_lives : (n : ℕ) (b : Below)
+    → SoundBelow n b
+    → AliveBelow b
+    → (i : Item)
+    → is_writable i ≡ true
+    → (ts : List Token) (e : Fault)
+    → item b i ts ≡ Err e
+    → Lives (FirstOf i) (marks_of i) (Sane i) ts e
 item_lives n b s a (tok k) w ts e p = fills ts e (expect_err k ts e p) tt tt (a_token k ∷ []) (λ r. (refl, refl)) (λ r. refl)
 item_lives n b s a (near k) w ts e p = fills ts e (expect_near_err k ts e p) tt tt (a_near_token k ∷ []) (λ r. (refl, refl, refl)) (λ r. tt)
 item_lives n b s a a_name w ts e p = name_lives ts e p
@@ -612,7 +736,16 @@ FirstOfAll [] o = Anything o
 FirstOfAll (i ∷ is) o = FirstOf i o
 
 -- what lives behind an item that was read
-behind_item : (i : Item) (is : List Item) → stands i is ≡ true → (v : Value i) → Sane i v → (ts mid : List Token) → Matches (marks_of i v) ts mid → (e : Fault) → ((is ≡ []) → ⊥) → (l : Lives (FirstOfAll is) (marks is) (AllSane is) mid e) → Lives (FirstOf i) (marks (i ∷ is)) (AllSane (i ∷ is)) ts e
+behind_item : (i : Item) (is : List Item)
+    → stands i is ≡ true
+    → (v : Value i)
+    → Sane i v
+    → (ts mid : List Token)
+    → Matches (marks_of i v) ts mid
+    → (e : Fault)
+    → ((is ≡ []) → ⊥)
+    → (l : Lives (FirstOfAll is) (marks is) (AllSane is) mid e)
+    → Lives (FirstOf i) (marks (i ∷ is)) (AllSane (i ∷ is)) ts e
 behind_item i [] h v s ts mid m e some l = absurd (some refl)
 behind_item (a_statement context) (tok k ∷ is) h v s ts mid m e some l =
     anything (around_softly l (λ us t. while_softer mid us (subst (λ (k : TokenKind). Starts (IsAdded k) mid us) (same_kind k kinds.While h) t)) (flat_statement v) ts m (v, l.tree) (s, l.good) [] [] (λ r. refl) (ap (λ (ms : List Mark). flat_statement v ++ ms) (append-nil (marks (tok k ∷ is) l.tree))))
@@ -624,7 +757,14 @@ some_items b [] ts e p is = absurd cc
 some_items b (i ∷ is) ts e p none = absurd cc
 
 -- Where a production stops, the tokens before begin one.
-pub seq_lives : (n : ℕ) (b : Below) → SoundBelow n b → AliveBelow b → (is : List Item) → lively is ≡ true → (ts : List Token) (e : Fault) → seq b is ts ≡ Err e → Lives (FirstOfAll is) (marks is) (AllSane is) ts e
+pub seq_lives : (n : ℕ) (b : Below)
+    → SoundBelow n b
+    → AliveBelow b
+    → (is : List Item)
+    → lively is ≡ true
+    → (ts : List Token) (e : Fault)
+    → seq b is ts ≡ Err e
+    → Lives (FirstOfAll is) (marks is) (AllSane is) ts e
 seq_lives n b s a [] y ts e p = absurd cc
 seq_lives n b s a (i ∷ is) y ts e p = elim (bind_err (item b i ts) (λ x. seq b is x.1 >>= λ y. Ok ((x.0, y.0), y.1)) e p) [
   | inl q ↦
@@ -643,7 +783,15 @@ seq_lives n b s a (i ∷ is) y ts e p = elim (bind_err (item b i ts) (λ x. seq 
 ]
 
 -- where its first token is there
-pub known_lives : (n : ℕ) (b : Below) → SoundBelow n b → AliveBelow b → (k : TokenKind) (is : List Item) → lively is ≡ true → (ts : List Token) (e : Fault) → IsNext (fixed k) (head_of ts) → seq b (tok k ∷ is) ts ≡ Err e → Lives Nothing (marks (tok k ∷ is)) (AllSane (tok k ∷ is)) ts e
+pub known_lives : (n : ℕ) (b : Below)
+    → SoundBelow n b
+    → AliveBelow b
+    → (k : TokenKind) (is : List Item)
+    → lively is ≡ true
+    → (ts : List Token) (e : Fault)
+    → IsNext (fixed k) (head_of ts)
+    → seq b (tok k ∷ is) ts ≡ Err e
+    → Lives Nothing (marks (tok k ∷ is)) (AllSane (tok k ∷ is)) ts e
 known_lives n b s a k is y ts e f p = elim (bind_err (expect k ts) (λ x. seq b is x.1 >>= λ y. Ok ((x.0, y.0), y.1)) e p) [
   | inl q ↦ let again = expect_again k ts (tail_of ts) (f, refl) in absurd cc
   | inr q ↦ elim (bind_err (seq b is q.0.1) (λ y. Ok ((q.0.0, y.0), y.1)) e q.2) [
@@ -655,7 +803,9 @@ known_lives n b s a k is y ts e f p = elim (bind_err (expect k ts) (λ x. seq b 
 ]
 
 -- what is made of a production's values stops where the production does
-pub made_err : {A : Type 0} (b : Below) (is : List Item) (make : Values is → A) (ts : List Token) (e : Fault) → made b is make ts ≡ Err e → seq b is ts ≡ Err e
+pub made_err : {A : Type 0} (b : Below) (is : List Item) (make : Values is → A) (ts : List Token) (e : Fault)
+    → made b is make ts ≡ Err e
+    → seq b is ts ≡ Err e
 made_err b is make ts e p = elim (bind_err (seq b is ts) (λ x. Ok (make x.0, x.1)) e p) [
   | inl q ↦ q
   | inr q ↦ absurd cc

@@ -77,20 +77,42 @@ behind_first [] = []
 behind_first (i ∷ is) = is
 
 -- A production whose first token is there lives as what is made of it.
-made_lives : (n : ℕ) (b : Below) → SoundBelow n b → AliveBelow b → (context : Context) (k : TokenKind) (is : List Item) (ts : List Token) (e : Fault) → lively is ≡ true → IsNext (fixed k) (head_of ts) → (make : Values (tok k ∷ is) → Statement)
-    → ((vs : Values (tok k ∷ is)) → AllSane (tok k ∷ is) vs → IsStatement context (make vs)) → ((vs : Values (tok k ∷ is)) → marks (tok k ∷ is) vs ≡ flat_statement (make vs)) → made b (tok k ∷ is) make ts ≡ Err e → Lives Nothing flat_statement (IsStatement context) ts e
+made_lives : (n : ℕ) (b : Below)
+    → SoundBelow n b
+    → AliveBelow b
+    → (context : Context) (k : TokenKind) (is : List Item) (ts : List Token) (e : Fault)
+    → lively is ≡ true
+    → IsNext (fixed k) (head_of ts)
+    → (make : Values (tok k ∷ is) → Statement)
+    → ((vs : Values (tok k ∷ is)) → AllSane (tok k ∷ is) vs → IsStatement context (make vs))
+    → ((vs : Values (tok k ∷ is)) → marks (tok k ∷ is) vs ≡ flat_statement (make vs))
+    → made b (tok k ∷ is) make ts ≡ Err e
+    → Lives Nothing flat_statement (IsStatement context) ts e
 made_lives n b s a context k is ts e lively f make sane same p =
     let l = known_lives n b s a k is lively ts e f (made_err {A = Statement} b (tok k ∷ is) make ts e p) in
     renamed l (make l.tree) (sane l.tree l.good) (same l.tree)
 
-if_then_lives : (n : ℕ) (b : Below) → SoundBelow n b → AliveBelow b → (context : Context) (ts : List Token) (e : Fault) → IsNext (fixed kinds.If) (head_of ts) → seq b (if_items context) ts ≡ Err e → Lives Nothing flat_statement (IsStatement context) ts e
+if_then_lives : (n : ℕ) (b : Below)
+    → SoundBelow n b
+    → AliveBelow b
+    → (context : Context) (ts : List Token) (e : Fault)
+    → IsNext (fixed kinds.If) (head_of ts)
+    → seq b (if_items context) ts ≡ Err e
+    → Lives Nothing flat_statement (IsStatement context) ts e
 if_then_lives n b s a context ts e f p =
     let is = tok kinds.LeftParenthesis ∷ an_expression ∷ tok kinds.RightParenthesis ∷ a_statement context ∷ [] in
     let l = known_lives n b s a kinds.If is refl ts e f p in
     renamed l (trees.if_then l.tree.1.1.0 l.tree.1.1.1.1.0) ((l.good.1.1.0, l.good.1.1.1.1.0.0, l.good.1.1.1.1.0.1), refl) refl
 
-else_lives : (n : ℕ) (b : Below) → SoundBelow n b → AliveBelow b → (context : Context) (ts : List Token) (vs : Values (if_items context)) (r : List Token) (e : Fault) → TakesAll n (if_items context) ts vs r
-    → (c : Bool) → is_kind kinds.Else (head_of r) ≡ c → else_by b context vs.1.1.0 vs.1.1.1.1.0 c r ≡ Err e → Lives Nothing flat_statement (IsStatement context) ts e
+else_lives : (n : ℕ) (b : Below)
+    → SoundBelow n b
+    → AliveBelow b
+    → (context : Context) (ts : List Token) (vs : Values (if_items context)) (r : List Token) (e : Fault)
+    → TakesAll n (if_items context) ts vs r
+    → (c : Bool)
+    → is_kind kinds.Else (head_of r) ≡ c
+    → else_by b context vs.1.1.0 vs.1.1.1.1.0 c r ≡ Err e
+    → Lives Nothing flat_statement (IsStatement context) ts e
 else_lives n b s a context ts vs r e t true h p =
     let is = a_statement context ∷ [] in
     let l = known_lives n b s a kinds.Else is refl r e (next_is kinds.Else (head_of r) h) (made_err {A = Statement} b (tok kinds.Else ∷ is) (λ v. trees.if_else vs.1.1.0 vs.1.1.1.1.0 v.1.0) r e p) in
@@ -100,20 +122,44 @@ else_lives n b s a context ts vs r e t true h p =
     ∙ ap (λ (ms : List Mark). flat vs.1.1.0 ++ (token (fixed kinds.RightParenthesis) ∷ (flat_statement vs.1.1.1.1.0 ++ ms))) (append-nil (token (fixed kinds.Else) ∷ (flat_statement l.tree.1.0 ++ [])))))
 else_lives n b s a context ts vs r e t false h p = absurd cc
 
-if_lives : (n : ℕ) (b : Below) → SoundBelow n b → AliveBelow b → (context : Context) (ts : List Token) (e : Fault) → IsNext (fixed kinds.If) (head_of ts) → if_at b context ts ≡ Err e → Lives Nothing flat_statement (IsStatement context) ts e
+if_lives : (n : ℕ) (b : Below)
+    → SoundBelow n b
+    → AliveBelow b
+    → (context : Context) (ts : List Token) (e : Fault)
+    → IsNext (fixed kinds.If) (head_of ts)
+    → if_at b context ts ≡ Err e
+    → Lives Nothing flat_statement (IsStatement context) ts e
 unfolding if_at
 if_lives n b s a context ts e f p = elim (bind_err (seq b (if_items context) ts) (λ x. else_by b context x.0.1.1.0 x.0.1.1.1.1.0 (is_kind kinds.Else (head_of x.1)) x.1) e p) [
   | inl q ↦ if_then_lives n b s a context ts e f q
   | inr q ↦ else_lives n b s a context ts q.0.0 q.0.1 e (seq_sound n b s (if_items context) ts q.0 q.1) (is_kind kinds.Else (head_of q.0.1)) refl q.2
 ]
 
-do_lives : (n : ℕ) (b : Below) → SoundBelow n b → AliveBelow b → (context : Context) (ts : List Token) (e : Fault) → IsNext (fixed kinds.Do) (head_of ts) → made b (do_items context) (λ v. trees.do_while v.1.0 v.1.1.1.1.0) ts ≡ Err e → Lives Nothing flat_statement (IsStatement context) ts e
+do_lives : (n : ℕ) (b : Below)
+    → SoundBelow n b
+    → AliveBelow b
+    → (context : Context) (ts : List Token) (e : Fault)
+    → IsNext (fixed kinds.Do) (head_of ts)
+    → made b (do_items context) (λ v. trees.do_while v.1.0 v.1.1.1.1.0) ts ≡ Err e
+    → Lives Nothing flat_statement (IsStatement context) ts e
 do_lives n b s a context ts e f p = made_lives n b s a context kinds.Do (behind_first (do_items context)) ts e refl f (λ v. trees.do_while v.1.0 v.1.1.1.1.0) (λ v g. ((g.1.0.0, g.1.0.1, g.1.1.1.1.0), refl)) (λ v. refl) p
 
-while_lives : (n : ℕ) (b : Below) → SoundBelow n b → AliveBelow b → (context : Context) (ts : List Token) (e : Fault) → IsNext (fixed kinds.While) (head_of ts) → made b (while_items context) (λ v. trees.while v.1.1.0 v.1.1.1.1.0) ts ≡ Err e → Lives Nothing flat_statement (IsStatement context) ts e
+while_lives : (n : ℕ) (b : Below)
+    → SoundBelow n b
+    → AliveBelow b
+    → (context : Context) (ts : List Token) (e : Fault)
+    → IsNext (fixed kinds.While) (head_of ts)
+    → made b (while_items context) (λ v. trees.while v.1.1.0 v.1.1.1.1.0) ts ≡ Err e
+    → Lives Nothing flat_statement (IsStatement context) ts e
 while_lives n b s a context ts e f p = made_lives n b s a context kinds.While (behind_first (while_items context)) ts e refl f (λ v. trees.while v.1.1.0 v.1.1.1.1.0) (λ v g. ((g.1.1.0, g.1.1.1.1.0.0, g.1.1.1.1.0.1), refl)) (λ v. refl) p
 
-for_by_lives : (n : ℕ) (b : Below) → SoundBelow n b → AliveBelow b → (context : Context) (h : ForHead) (ts : List Token) (e : Fault) → IsNext (fixed kinds.For) (head_of ts) → for_by b context h ts ≡ Err e → Lives Nothing flat_statement (IsStatement context) ts e
+for_by_lives : (n : ℕ) (b : Below)
+    → SoundBelow n b
+    → AliveBelow b
+    → (context : Context) (h : ForHead) (ts : List Token) (e : Fault)
+    → IsNext (fixed kinds.For) (head_of ts)
+    → for_by b context h ts ≡ Err e
+    → Lives Nothing flat_statement (IsStatement context) ts e
 for_by_lives n b s a context plain_head ts e f p = made_lives n b s a context kinds.For (behind_first (for_items context)) ts e refl f (λ v. trees.for v.1.1.0 v.1.1.1.0 v.1.1.1.1.0 v.1.1.1.1.1.0) (λ v g. ((g.1.1.0, g.1.1.1.0, g.1.1.1.1.0, g.1.1.1.1.1.0.0, g.1.1.1.1.1.0.1), refl)) (λ v.
     let body = flat_statement v.1.1.1.1.1.0 ++ [] in
     let after_first = (flat_optional v.1.1.1.0 ++ (token (fixed kinds.Semicolon) ∷ [])) ++ ((flat_optional v.1.1.1.1.0 ++ (token (fixed kinds.RightParenthesis) ∷ [])) ++ body) in
@@ -129,23 +175,54 @@ for_by_lives n b s a context (each constant) ts e f p = made_lives n b s a conte
     let rest = token (identifier v.1.1.1.0) ∷ token (identifier (codes "of")) ∷ (flat v.1.1.1.1.1.0 ++ (token (fixed kinds.RightParenthesis) ∷ (flat_statement v.1.1.1.1.1.1.1.0 ++ []))) in
     ap (λ (l : List Mark). token (fixed kinds.For) ∷ token (fixed kinds.LeftParenthesis) ∷ (l ++ rest)) (let_is constant)) p
 
-for_lives : (n : ℕ) (b : Below) → SoundBelow n b → AliveBelow b → (context : Context) (ts : List Token) (e : Fault) → IsNext (fixed kinds.For) (head_of ts) → for_at b context ts ≡ Err e → Lives Nothing flat_statement (IsStatement context) ts e
+for_lives : (n : ℕ) (b : Below)
+    → SoundBelow n b
+    → AliveBelow b
+    → (context : Context) (ts : List Token) (e : Fault)
+    → IsNext (fixed kinds.For) (head_of ts)
+    → for_at b context ts ≡ Err e
+    → Lives Nothing flat_statement (IsStatement context) ts e
 unfolding for_at
 for_lives n b s a context ts e f p = for_by_lives n b s a context (for_head (tail_of (tail_of ts))) ts e f p
 
 -- ---- statements of a word
 
-continue_lives : (n : ℕ) (b : Below) → SoundBelow n b → AliveBelow b → (context : Context) → context.in_loop ≡ true → (ts : List Token) (e : Fault) → IsNext (fixed kinds.Continue) (head_of ts) → made b (tok kinds.Continue ∷ an_end after_word ∷ []) (λ v. trees.continue) ts ≡ Err e → Lives Nothing flat_statement (IsStatement context) ts e
+continue_lives : (n : ℕ) (b : Below)
+    → SoundBelow n b
+    → AliveBelow b
+    → (context : Context)
+    → context.in_loop ≡ true
+    → (ts : List Token) (e : Fault)
+    → IsNext (fixed kinds.Continue) (head_of ts)
+    → made b (tok kinds.Continue ∷ an_end after_word ∷ []) (λ v. trees.continue) ts ≡ Err e
+    → Lives Nothing flat_statement (IsStatement context) ts e
 continue_lives n b s a context loop ts e f p = made_lives n b s a context kinds.Continue (an_end after_word ∷ []) ts e refl f (λ v. trees.continue) (λ v g. (loop, refl)) (λ v. refl) p
 
-break_lives : (n : ℕ) (b : Below) → SoundBelow n b → AliveBelow b → (context : Context) → context.in_loop ≡ true → (ts : List Token) (e : Fault) → IsNext (fixed kinds.Break) (head_of ts) → made b (tok kinds.Break ∷ an_end after_word ∷ []) (λ v. trees.break) ts ≡ Err e → Lives Nothing flat_statement (IsStatement context) ts e
+break_lives : (n : ℕ) (b : Below)
+    → SoundBelow n b
+    → AliveBelow b
+    → (context : Context)
+    → context.in_loop ≡ true
+    → (ts : List Token) (e : Fault)
+    → IsNext (fixed kinds.Break) (head_of ts)
+    → made b (tok kinds.Break ∷ an_end after_word ∷ []) (λ v. trees.break) ts ≡ Err e
+    → Lives Nothing flat_statement (IsStatement context) ts e
 break_lives n b s a context loop ts e f p = made_lives n b s a context kinds.Break (an_end after_word ∷ []) ts e refl f (λ v. trees.break) (λ v g. (loop, refl)) (λ v. refl) p
 
-debugger_lives : (n : ℕ) (b : Below) → SoundBelow n b → AliveBelow b → (context : Context) (ts : List Token) (e : Fault) → IsNext (fixed kinds.Debugger) (head_of ts) → made b (tok kinds.Debugger ∷ an_end after_word ∷ []) (λ v. trees.debugger) ts ≡ Err e → Lives Nothing flat_statement (IsStatement context) ts e
+debugger_lives : (n : ℕ) (b : Below)
+    → SoundBelow n b
+    → AliveBelow b
+    → (context : Context) (ts : List Token) (e : Fault)
+    → IsNext (fixed kinds.Debugger) (head_of ts)
+    → made b (tok kinds.Debugger ∷ an_end after_word ∷ []) (λ v. trees.debugger) ts ≡ Err e
+    → Lives Nothing flat_statement (IsStatement context) ts e
 debugger_lives n b s a context ts e f p = made_lives n b s a context kinds.Debugger (an_end after_word ∷ []) ts e refl f (λ v. trees.debugger) (λ v g. (tt, refl)) (λ v. refl) p
 
 -- an expression with its semicolon, behind a word
-ended_behind : (b : Below) (k : TokenKind) (ts : List Token) (e : Fault) → IsNext (fixed k) (head_of ts) → seq b (tok k ∷ ended ∷ []) ts ≡ Err e → ended_expression b (tail_of ts) ≡ Err e
+ended_behind : (b : Below) (k : TokenKind) (ts : List Token) (e : Fault)
+    → IsNext (fixed k) (head_of ts)
+    → seq b (tok k ∷ ended ∷ []) ts ≡ Err e
+    → ended_expression b (tail_of ts) ≡ Err e
 ended_behind b k ts e f p = elim (bind_err (expect k ts) (λ x. seq b (ended ∷ []) x.1 >>= λ y. Ok ((x.0, y.0), y.1)) e p) [
   | inl q ↦ let again = expect_again k ts (tail_of ts) (f, refl) in absurd cc
   | inr q ↦ elim (bind_err (seq b (ended ∷ []) q.0.1) (λ y. Ok ((q.0.0, y.0), y.1)) e q.2) [
@@ -158,8 +235,15 @@ ended_behind b k ts e f p = elim (bind_err (expect k ts) (λ x. seq b (ended ∷
 ]
 
 -- what begins on the line
-line_lives : (k : TokenKind) (make : Expression → Statement) → ((f : Expression) → flat_statement (make f) ≡ token (fixed k) ∷ (on_line (flat f) ++ (semicolon (after_expression (edge f)) ∷ []))) → (context : Context) → ((f : Expression) → Well f → IsStatement context (make f))
-    → (ts : List Token) (e : Fault) → IsNext (fixed k) (head_of ts) → is_on_line (head_of (tail_of ts)) ≡ true → Lives Nothing flat_ended Well (tail_of ts) e → Lives Nothing flat_statement (IsStatement context) ts e
+line_lives : (k : TokenKind) (make : Expression → Statement)
+    → ((f : Expression) → flat_statement (make f) ≡ token (fixed k) ∷ (on_line (flat f) ++ (semicolon (after_expression (edge f)) ∷ [])))
+    → (context : Context)
+    → ((f : Expression) → Well f → IsStatement context (make f))
+    → (ts : List Token) (e : Fault)
+    → IsNext (fixed k) (head_of ts)
+    → is_on_line (head_of (tail_of ts)) ≡ true
+    → Lives Nothing flat_ended Well (tail_of ts) e
+    → Lives Nothing flat_statement (IsStatement context) ts e
 line_lives k make same context sane [] e f line l = absurd f
 line_lives k make same context sane (t ∷ ts) e f line l =
     let end = semicolon (after_expression (edge l.tree)) ∷ [] in
@@ -172,10 +256,24 @@ line_lives k make same context sane (t ∷ ts) e f line l =
     still_on_line us (inr none) = absurd none
 
 -- return; where no value was read
-bare_return_lives : (context : Context) → context.in_function ≡ true → (ts : List Token) (e : Fault) → IsNext (fixed kinds.Return) (head_of ts) → Counts e (tail_of ts) → Lives Nothing flat_statement (IsStatement context) ts e
+bare_return_lives : (context : Context)
+    → context.in_function ≡ true
+    → (ts : List Token) (e : Fault)
+    → IsNext (fixed kinds.Return) (head_of ts)
+    → Counts e (tail_of ts)
+    → Lives Nothing flat_statement (IsStatement context) ts e
 bare_return_lives context inside ts e f c = stopped (token (fixed kinds.Return) ∷ []) refl ts (tail_of ts) (f, refl) e c (trees.return trees.omitted) ((inside, tt), refl) (semicolon after_word ∷ []) (a_token kinds.Semicolon ∷ []) (λ r. inl (refl, refl)) refl
 
-return_lives : (n : ℕ) (b : Below) → SoundBelow n b → AliveBelow b → (context : Context) → context.in_function ≡ true → (c : Bool) (ts : List Token) (e : Fault) → IsNext (fixed kinds.Return) (head_of ts) → ends_return (head_of (tail_of ts)) ≡ c → return_by b c ts ≡ Err e → Lives Nothing flat_statement (IsStatement context) ts e
+return_lives : (n : ℕ) (b : Below)
+    → SoundBelow n b
+    → AliveBelow b
+    → (context : Context)
+    → context.in_function ≡ true
+    → (c : Bool) (ts : List Token) (e : Fault)
+    → IsNext (fixed kinds.Return) (head_of ts)
+    → ends_return (head_of (tail_of ts)) ≡ c
+    → return_by b c ts ≡ Err e
+    → Lives Nothing flat_statement (IsStatement context) ts e
 return_lives n b s a context inside true ts e f h p = made_lives n b s a context kinds.Return (an_end after_word ∷ []) ts e refl f (λ v. trees.return trees.omitted) (λ v g. ((inside, tt), refl)) (λ v. refl) p
 return_lives n b s a context inside false ts e f h p =
     let q = ended_behind b kinds.Return ts e f (made_err {A = Statement} b (tok kinds.Return ∷ ended ∷ []) (λ v. trees.return (trees.present v.1.0)) ts e p) in
@@ -185,10 +283,20 @@ return_lives n b s a context inside false ts e f h p =
     ]
 
 -- throw 0; on one line
-zero_throw_lives : (context : Context) (ts : List Token) (e : Fault) → IsNext (fixed kinds.Throw) (head_of ts) → Counts e (tail_of ts) → Lives Nothing flat_statement (IsStatement context) ts e
+zero_throw_lives : (context : Context) (ts : List Token) (e : Fault)
+    → IsNext (fixed kinds.Throw) (head_of ts)
+    → Counts e (tail_of ts)
+    → Lives Nothing flat_statement (IsStatement context) ts e
 zero_throw_lives context ts e f c = stopped (token (fixed kinds.Throw) ∷ []) refl ts (tail_of ts) (f, refl) e c (trees.throw (trees.number 0)) (tt, refl) (beside (numeric_literal 0) ∷ semicolon (after_expression plain) ∷ []) (a_near_token kinds.Number ∷ a_token kinds.Semicolon ∷ []) (λ r. ((refl, refl), refl, inl (refl, refl))) refl
 
-throw_lives : (n : ℕ) (b : Below) → SoundBelow n b → AliveBelow b → (context : Context) (c : Bool) (ts : List Token) (e : Fault) → IsNext (fixed kinds.Throw) (head_of ts) → is_on_line (head_of (tail_of ts)) ≡ c → throw_by b c ts ≡ Err e → Lives Nothing flat_statement (IsStatement context) ts e
+throw_lives : (n : ℕ) (b : Below)
+    → SoundBelow n b
+    → AliveBelow b
+    → (context : Context) (c : Bool) (ts : List Token) (e : Fault)
+    → IsNext (fixed kinds.Throw) (head_of ts)
+    → is_on_line (head_of (tail_of ts)) ≡ c
+    → throw_by b c ts ≡ Err e
+    → Lives Nothing flat_statement (IsStatement context) ts e
 throw_lives n b s a context true ts e f h p =
     let q = ended_behind b kinds.Throw ts e f (made_err {A = Statement} b (tok kinds.Throw ∷ ended ∷ []) (λ v. trees.throw v.1.0) ts e p) in
     elim (begun (ended_lives n b s a (tail_of ts) e q)) [
@@ -209,7 +317,13 @@ empty_braces = token (fixed kinds.LeftBrace) ∷ token (fixed kinds.RightBrace) 
 abbrev pub empty_brace_tokens : List Added
 empty_brace_tokens = a_token kinds.LeftBrace ∷ a_token kinds.RightBrace ∷ []
 
-catch_lives : (n : ℕ) (b : Below) → SoundBelow n b → AliveBelow b → (context : Context) (c : Bool) (ts : List Token) (e : Fault) → IsNext (fixed kinds.Catch) (head_of ts) → catch_by b context c (tail_of ts) ≡ Err e → Lives Nothing flat_handler (IsHandler context) ts e
+catch_lives : (n : ℕ) (b : Below)
+    → SoundBelow n b
+    → AliveBelow b
+    → (context : Context) (c : Bool) (ts : List Token) (e : Fault)
+    → IsNext (fixed kinds.Catch) (head_of ts)
+    → catch_by b context c (tail_of ts) ≡ Err e
+    → Lives Nothing flat_handler (IsHandler context) ts e
 catch_lives n b s a context true ts e f p = elim (bind_err (seq b catch_items (tail_of ts)) (λ n. b.block context (n.0.1.0 ∷ []) n.1 >>= λ x. Ok (trees.catch (Some n.0.1.0) x.0, x.1)) e p) [
   | inl q ↦
       let l = anything (seq_lives n b s a catch_items refl (tail_of ts) e q) in
@@ -230,11 +344,22 @@ catch_lives n b s a context false ts e f p = elim (bind_err (b.block context [] 
   | inr q ↦ absurd cc
 ]
 
-handler_by_lives : (n : ℕ) (b : Below) → SoundBelow n b → AliveBelow b → (context : Context) (c : Bool) (ts : List Token) (e : Fault) → is_kind kinds.Catch (head_of ts) ≡ c → handler_by b context c ts ≡ Err e → Lives Nothing flat_handler (IsHandler context) ts e
+handler_by_lives : (n : ℕ) (b : Below)
+    → SoundBelow n b
+    → AliveBelow b
+    → (context : Context) (c : Bool) (ts : List Token) (e : Fault)
+    → is_kind kinds.Catch (head_of ts) ≡ c
+    → handler_by b context c ts ≡ Err e
+    → Lives Nothing flat_handler (IsHandler context) ts e
 handler_by_lives n b s a context true ts e h p = catch_lives n b s a context (is_kind kinds.LeftParenthesis (head_of (tail_of ts))) ts e (next_is kinds.Catch (head_of ts) h) p
 handler_by_lives n b s a context false ts e h p = absurd cc
 
-handler_lives : (n : ℕ) (b : Below) → SoundBelow n b → AliveBelow b → (context : Context) (ts : List Token) (e : Fault) → handler_at b context ts ≡ Err e → Lives Nothing flat_handler (IsHandler context) ts e
+handler_lives : (n : ℕ) (b : Below)
+    → SoundBelow n b
+    → AliveBelow b
+    → (context : Context) (ts : List Token) (e : Fault)
+    → handler_at b context ts ≡ Err e
+    → Lives Nothing flat_handler (IsHandler context) ts e
 unfolding handler_at
 handler_lives n b s a context ts e p = handler_by_lives n b s a context (is_kind kinds.Catch (head_of ts)) ts e refl p
 
@@ -242,7 +367,12 @@ handler_lives n b s a context ts e p = handler_by_lives n b s a context (is_kind
 abbrev IsFinalizer : Context → Handler → Finalizer → Type 0
 IsFinalizer context h f = WellFinalizer context f × (is_handled h f ≡ true)
 
-finalizer_by_lives : (n : ℕ) (b : Below) → SoundBelow n b → AliveBelow b → (context : Context) (h : Handler) (c : Bool) (ts : List Token) (e : Fault) → finalizer_by b context h c ts ≡ Err e → Lives Anything flat_finalizer (IsFinalizer context h) ts e
+finalizer_by_lives : (n : ℕ) (b : Below)
+    → SoundBelow n b
+    → AliveBelow b
+    → (context : Context) (h : Handler) (c : Bool) (ts : List Token) (e : Fault)
+    → finalizer_by b context h c ts ≡ Err e
+    → Lives Anything flat_finalizer (IsFinalizer context h) ts e
 finalizer_by_lives n b s a context h true ts e p =
     let is = tok kinds.Finally ∷ a_block context [] ∷ [] in
     let l = anything (seq_lives n b s a is refl ts e (made_err {A = Finalizer} b is (λ v. trees.finally v.1.0) ts e p)) in
@@ -250,7 +380,12 @@ finalizer_by_lives n b s a context h true ts e p =
 finalizer_by_lives n b s a context trees.no_catch false ts e p = fills ts e (stuck_counts {A = Finalizer} ts e p) (trees.finally trees.no_statements) ((tt, tt), refl) (a_token kinds.Finally ∷ empty_brace_tokens) (λ r. (refl, (refl, (refl, refl)))) (λ r. tt)
 finalizer_by_lives n b s a context (trees.catch m ss) false ts e p = absurd cc
 
-finalizer_lives : (n : ℕ) (b : Below) → SoundBelow n b → AliveBelow b → (context : Context) (h : Handler) (ts : List Token) (e : Fault) → finalizer_at b context h ts ≡ Err e → Lives Anything flat_finalizer (IsFinalizer context h) ts e
+finalizer_lives : (n : ℕ) (b : Below)
+    → SoundBelow n b
+    → AliveBelow b
+    → (context : Context) (h : Handler) (ts : List Token) (e : Fault)
+    → finalizer_at b context h ts ≡ Err e
+    → Lives Anything flat_finalizer (IsFinalizer context h) ts e
 unfolding finalizer_at
 finalizer_lives n b s a context h ts e p = finalizer_by_lives n b s a context h (is_kind kinds.Finally (head_of ts)) ts e p
 
@@ -268,14 +403,26 @@ handler_firm ss (trees.catch (Some m) body) =
     let front = token (fixed kinds.Catch) ∷ token (fixed kinds.LeftParenthesis) ∷ token (identifier m) ∷ token (fixed kinds.RightParenthesis) ∷ [] in
     firm_append (try_front ss) (front ++ (flat_block body ++ [])) (firm_append front (flat_block body ++ []) (firm_nil (flat_block body) (firm_braces (flat_statements body))))
 
-try_block_lives : (n : ℕ) (b : Below) → SoundBelow n b → AliveBelow b → (context : Context) (ts : List Token) (e : Fault) → IsNext (fixed kinds.Try) (head_of ts) → seq b (try_items context) ts ≡ Err e → Lives Nothing flat_statement (IsStatement context) ts e
+try_block_lives : (n : ℕ) (b : Below)
+    → SoundBelow n b
+    → AliveBelow b
+    → (context : Context) (ts : List Token) (e : Fault)
+    → IsNext (fixed kinds.Try) (head_of ts)
+    → seq b (try_items context) ts ≡ Err e
+    → Lives Nothing flat_statement (IsStatement context) ts e
 try_block_lives n b s a context ts e f p =
     let is = a_block context [] ∷ [] in
     let l = known_lives n b s a kinds.Try is refl ts e f p in
     ends_in l (trees.try l.tree.1.0 trees.no_catch (trees.finally trees.no_statements)) ((l.good.1.0.0, l.good.1.0.1, tt, (tt, tt), refl), refl) (token (fixed kinds.Finally) ∷ empty_braces) (a_token kinds.Finally ∷ empty_brace_tokens) (λ r. (refl, (refl, (refl, refl))))
     (ap (λ (ms : List Mark). token (fixed kinds.Try) ∷ (ms ++ (token (fixed kinds.Finally) ∷ empty_braces))) (append-nil (flat_block l.tree.1.0)))
 
-try_lives : (n : ℕ) (b : Below) → SoundBelow n b → AliveBelow b → (context : Context) (ts : List Token) (e : Fault) → IsNext (fixed kinds.Try) (head_of ts) → try_at b context ts ≡ Err e → Lives Nothing flat_statement (IsStatement context) ts e
+try_lives : (n : ℕ) (b : Below)
+    → SoundBelow n b
+    → AliveBelow b
+    → (context : Context) (ts : List Token) (e : Fault)
+    → IsNext (fixed kinds.Try) (head_of ts)
+    → try_at b context ts ≡ Err e
+    → Lives Nothing flat_statement (IsStatement context) ts e
 unfolding try_at
 try_lives n b s a context ts e f p = elim (bind_err (seq b (try_items context) ts) (λ x. handler_at b context x.1 >>= λ h. finalizer_at b context h.0 h.1 >>= λ f. Ok (trees.try x.0.1.0 h.0 f.0, f.1)) e p) [
   | inl q ↦ try_block_lives n b s a context ts e f q
@@ -301,7 +448,13 @@ try_lives n b s a context ts e f p = elim (bind_err (seq b (try_items context) t
 
 -- ---- any statement
 
-block_lives : (n : ℕ) (b : Below) → SoundBelow n b → AliveBelow b → (context : Context) (ts : List Token) (e : Fault) → IsNext (fixed kinds.LeftBrace) (head_of ts) → made b (in_braces context [] ∷ []) (λ v. trees.block v.0) ts ≡ Err e → Lives Nothing flat_statement (IsStatement context) ts e
+block_lives : (n : ℕ) (b : Below)
+    → SoundBelow n b
+    → AliveBelow b
+    → (context : Context) (ts : List Token) (e : Fault)
+    → IsNext (fixed kinds.LeftBrace) (head_of ts)
+    → made b (in_braces context [] ∷ []) (λ v. trees.block v.0) ts ≡ Err e
+    → Lives Nothing flat_statement (IsStatement context) ts e
 block_lives n b s a context ts e f p = elim (bind_err (braces b context [] ts) (λ y. Ok ((y.0, tt), y.1)) e (made_err {A = Statement} b (in_braces context [] ∷ []) (λ v. trees.block v.0) ts e p)) [
   | inl q ↦
       let l = opened_lives n b s a context [] ts e f q in
@@ -310,7 +463,11 @@ block_lives n b s a context ts e f p = elim (bind_err (braces b context [] ts) (
 ]
 
 -- an expression that is no block and no function
-expression_statement_lives : (context : Context) (ts : List Token) (e : Fault) → is_kind kinds.LeftBrace (head_of ts) ≡ false → is_kind kinds.Function (head_of ts) ≡ false → Lives IsZero flat_ended Well ts e → Lives IsZero flat_statement (IsStatement context) ts e
+expression_statement_lives : (context : Context) (ts : List Token) (e : Fault)
+    → is_kind kinds.LeftBrace (head_of ts) ≡ false
+    → is_kind kinds.Function (head_of ts) ≡ false
+    → Lives IsZero flat_ended Well ts e
+    → Lives IsZero flat_statement (IsStatement context) ts e
 expression_statement_lives context ts e f g l =
     let us = l.before ++ (added l.rest ++ []) in
     let m = parts (flat l.tree) (semicolon (after_expression (edge l.tree)) ∷ []) us [] (l.spelled []) in
@@ -318,20 +475,31 @@ expression_statement_lives context ts e f g l =
     let word = other_kind kinds.Function ts us refl g (l.starts []) in
     renamed l (trees.expression l.tree) ((l.good, no_brace (flat l.tree) us m.0 brace m.1, no_function (flat l.tree) us m.0 word m.1), refl) refl
 
-ended_alone : (b : Below) (ts : List Token) (e : Fault) → made b (ended ∷ []) (λ v. trees.expression v.0) ts ≡ Err e → ended_expression b ts ≡ Err e
+ended_alone : (b : Below) (ts : List Token) (e : Fault)
+    → made b (ended ∷ []) (λ v. trees.expression v.0) ts ≡ Err e
+    → ended_expression b ts ≡ Err e
 ended_alone b ts e p = elim (bind_err (ended_expression b ts) (λ y. Ok ((y.0, tt), y.1)) e (made_err {A = Statement} b (ended ∷ []) (λ v. trees.expression v.0) ts e p)) [
   | inl q ↦ q
   | inr q ↦ absurd cc
 ]
 
 -- a word that may not stand here
-refused_word : (context : Context) (ts : List Token) (e : Fault) (c : Bool) (read : Read Statement) → (c ≡ true → read ≡ Err e → Lives Nothing flat_statement (IsStatement context) ts e) → (if c then read else Err (stuck (length ts))) ≡ Err e → Lives IsZero flat_statement (IsStatement context) ts e
+refused_word : (context : Context) (ts : List Token) (e : Fault) (c : Bool) (read : Read Statement)
+    → (c ≡ true → read ≡ Err e → Lives Nothing flat_statement (IsStatement context) ts e)
+    → (if c then read else Err (stuck (length ts))) ≡ Err e
+    → Lives IsZero flat_statement (IsStatement context) ts e
 refused_word context ts e c read h p = elim (cond_err c read (Err (stuck (length ts))) e p) [
   | inl q ↦ from_nothing (h q.0 q.1)
   | inr q ↦ zero_statement context ts e (stuck_counts {A = Statement} ts e q.1)
 ]
 
-statement_by_lives : (n : ℕ) (b : Below) → SoundBelow n b → AliveBelow b → (context : Context) (c : First) (ts : List Token) (e : Fault) → FirstNext c (head_of ts) → statement_by b context c ts ≡ Err e → Lives IsZero flat_statement (IsStatement context) ts e
+statement_by_lives : (n : ℕ) (b : Below)
+    → SoundBelow n b
+    → AliveBelow b
+    → (context : Context) (c : First) (ts : List Token) (e : Fault)
+    → FirstNext c (head_of ts)
+    → statement_by b context c ts ≡ Err e
+    → Lives IsZero flat_statement (IsStatement context) ts e
 statement_by_lives n b s a context classes.a_block ts e f p = from_nothing (block_lives n b s a context ts e f p)
 statement_by_lives n b s a context (classes.a_lexical constant) ts e f p = zero_statement context ts e (stuck_counts {A = Statement} ts e p)
 statement_by_lives n b s a context classes.a_semicolon ts e f p = absurd cc
@@ -348,16 +516,28 @@ statement_by_lives n b s a context classes.a_debugger ts e f p = from_nothing (d
 statement_by_lives n b s a context classes.a_function ts e f p = zero_statement context ts e (stuck_counts {A = Statement} ts e p)
 statement_by_lives n b s a context classes.an_expression ts e f p = expression_statement_lives context ts e f.0 f.1 (ended_lives n b s a ts e (ended_alone b ts e p))
 
-pub statement_lives : (n : ℕ) (b : Below) → SoundBelow n b → AliveBelow b → (context : Context) (ts : List Token) (e : Fault) → statement b context ts ≡ Err e → Lives IsZero flat_statement (IsStatement context) ts e
+pub statement_lives : (n : ℕ) (b : Below)
+    → SoundBelow n b
+    → AliveBelow b
+    → (context : Context) (ts : List Token) (e : Fault)
+    → statement b context ts ≡ Err e
+    → Lives IsZero flat_statement (IsStatement context) ts e
 unfolding statement
 statement_lives n b s a context ts e p = statement_by_lives n b s a context (first (head_of ts)) ts e (first_next (head_of ts)) p
 
 -- ---- declarations
 
-pub let_marks : (constant : Bool) (ms : List Mark) → token (fixed (let_kind constant)) ∷ ms ≡ let_or_const constant ++ ms
+pub let_marks : (constant : Bool) (ms : List Mark)
+    → token (fixed (let_kind constant)) ∷ ms ≡ let_or_const constant ++ ms
 let_marks constant ms = ap (λ (l : List Mark). l ++ ms) (let_is constant)
 
-lexical_lives : (n : ℕ) (b : Below) → SoundBelow n b → AliveBelow b → (context : Context) (constant : Bool) (taken : List Identifier) (ts : List Token) (e : Fault) → IsNext (fixed (let_kind constant)) (head_of ts) → lexical_at b constant taken ts ≡ Err e → Lives Nothing flat_statement (IsItem context taken) ts e
+lexical_lives : (n : ℕ) (b : Below)
+    → SoundBelow n b
+    → AliveBelow b
+    → (context : Context) (constant : Bool) (taken : List Identifier) (ts : List Token) (e : Fault)
+    → IsNext (fixed (let_kind constant)) (head_of ts)
+    → lexical_at b constant taken ts ≡ Err e
+    → Lives Nothing flat_statement (IsItem context taken) ts e
 unfolding lexical_at
 lexical_lives n b s a context constant taken ts e f p = elim (bind_err (declarators_at b constant taken (tail_of ts)) (λ ds. semicolon_at (end_of_declarators ds.0) ds.1 >>= λ s. Ok (trees.lexical constant ds.0, s.1)) e p) [
   | inl q ↦
@@ -376,7 +556,13 @@ lexical_lives n b s a context constant taken ts e f p = elim (bind_err (declarat
   ]
 ]
 
-declaration_lives : (n : ℕ) (b : Below) → SoundBelow n b → AliveBelow b → (context : Context) (taken : List Identifier) (ts : List Token) (e : Fault) → IsNext (fixed kinds.Function) (head_of ts) → declaration_at b taken ts ≡ Err e → Lives Nothing flat_statement (IsItem context taken) ts e
+declaration_lives : (n : ℕ) (b : Below)
+    → SoundBelow n b
+    → AliveBelow b
+    → (context : Context) (taken : List Identifier) (ts : List Token) (e : Fault)
+    → IsNext (fixed kinds.Function) (head_of ts)
+    → declaration_at b taken ts ≡ Err e
+    → Lives Nothing flat_statement (IsItem context taken) ts e
 unfolding declaration_at
 declaration_lives n b s a context taken ts e f p = elim (bind_err (fresh_name taken (tail_of ts)) (λ n. code_at b n.1 >>= λ f. Ok (trees.declared_function n.0 f.0.parameters f.0.body, f.1)) e p) [
   | inl q ↦
@@ -394,14 +580,27 @@ declaration_lives n b s a context taken ts e f p = elim (bind_err (fresh_name ta
 ]
 
 -- a statement declares no name in its list
-pub as_item : (context : Context) (taken : List Identifier) (ts : List Token) (e : Fault) → Lives IsZero flat_statement (IsStatement context) ts e → Lives IsZero flat_statement (IsItem context taken) ts e
+pub as_item : (context : Context) (taken : List Identifier) (ts : List Token) (e : Fault)
+    → Lives IsZero flat_statement (IsStatement context) ts e
+    → Lives IsZero flat_statement (IsItem context taken) ts e
 as_item context taken ts e l = renamed l l.tree (l.good.0, declares_none taken l.tree l.good.1) refl
 
-item_by_lives : (n : ℕ) (b : Below) → SoundBelow n b → AliveBelow b → (context : Context) (taken : List Identifier) (c : First) (ts : List Token) (e : Fault) → FirstNext c (head_of ts) → item_by b context taken c ts ≡ Err e → Lives IsZero flat_statement (IsItem context taken) ts e
+item_by_lives : (n : ℕ) (b : Below)
+    → SoundBelow n b
+    → AliveBelow b
+    → (context : Context) (taken : List Identifier) (c : First) (ts : List Token) (e : Fault)
+    → FirstNext c (head_of ts)
+    → item_by b context taken c ts ≡ Err e
+    → Lives IsZero flat_statement (IsItem context taken) ts e
 item_by_lives n b s a context taken (classes.a_lexical constant) ts e f p = from_nothing (lexical_lives n b s a context constant taken ts e f p)
 item_by_lives n b s a context taken classes.a_function ts e f p = from_nothing (declaration_lives n b s a context taken ts e f p)
 item_by_lives n b s a context taken _ ts e f p = as_item context taken ts e (statement_lives n b s a context ts e p)
 
-pub list_item_lives : (n : ℕ) (b : Below) → SoundBelow n b → AliveBelow b → (context : Context) (taken : List Identifier) (ts : List Token) (e : Fault) → item b context taken ts ≡ Err e → Lives IsZero flat_statement (IsItem context taken) ts e
+pub list_item_lives : (n : ℕ) (b : Below)
+    → SoundBelow n b
+    → AliveBelow b
+    → (context : Context) (taken : List Identifier) (ts : List Token) (e : Fault)
+    → item b context taken ts ≡ Err e
+    → Lives IsZero flat_statement (IsItem context taken) ts e
 unfolding item
 list_item_lives n b s a context taken ts e p = item_by_lives n b s a context taken (first (head_of ts)) ts e (first_next (head_of ts)) p

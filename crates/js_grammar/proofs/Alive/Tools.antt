@@ -13,11 +13,15 @@ use Rattle.js_grammar.proofs.SpelledKindLemmas.{text_of_kind, is_free}
 
 -- ---- faults
 
-pub bind_err : {A B : Type 0} (r : Read A) (f : A × List Token → Read B) (e : Fault) → (r >>= f) ≡ Err e → (r ≡ Err e) ⊎ ((x : A × List Token) × (r ≡ Ok x) × (f x ≡ Err e))
+pub bind_err : {A B : Type 0} (r : Read A) (f : A × List Token → Read B) (e : Fault)
+    → (r >>= f) ≡ Err e
+    → (r ≡ Err e) ⊎ ((x : A × List Token) × (r ≡ Ok x) × (f x ≡ Err e))
 bind_err (Ok x) f e h = inr (x, refl, h)
 bind_err (Err d) f e h = let same : d ≡ e = cc in inl (ap (λ d. Err d) same)
 
-pub cond_err : {A : Type 0} (b : Bool) (p q : Read A) (e : Fault) → cond b p q ≡ Err e → ((b ≡ true) × (p ≡ Err e)) ⊎ ((b ≡ false) × (q ≡ Err e))
+pub cond_err : {A : Type 0} (b : Bool) (p q : Read A) (e : Fault)
+    → cond b p q ≡ Err e
+    → ((b ≡ true) × (p ≡ Err e)) ⊎ ((b ≡ false) × (q ≡ Err e))
 cond_err true p q e h = inl (refl, h)
 cond_err false p q e h = inr (refl, h)
 
@@ -29,10 +33,14 @@ abbrev pub Counts : Fault → List Token → Type 0
 Counts (stuck k) left = length left ≡ k
 Counts (deep k) left = length left ≡ k
 
-pub stuck_counts : {A : Type 0} (left : List Token) (e : Fault) → faulty {A = A} (stuck (length left)) ≡ faulty e → Counts e left
+pub stuck_counts : {A : Type 0} (left : List Token) (e : Fault)
+    → faulty {A = A} (stuck (length left)) ≡ faulty e
+    → Counts e left
 stuck_counts {A} left e h = subst (λ (e : Fault). Counts e left) (fault_is {A = A} (stuck (length left)) e h) refl
 
-pub deep_counts : {A : Type 0} (left : List Token) (e : Fault) → faulty {A = A} (deep (length left)) ≡ faulty e → Counts e left
+pub deep_counts : {A : Type 0} (left : List Token) (e : Fault)
+    → faulty {A = A} (deep (length left)) ≡ faulty e
+    → Counts e left
 deep_counts {A} left e h = subst (λ (e : Fault). Counts e left) (fault_is {A = A} (deep (length left)) e h) refl
 
 -- ---- tokens that are added
@@ -103,7 +111,11 @@ brace_soft (after_expression update) = refl
 brace_soft after_word = refl
 brace_soft after_do = refl
 
-pub softer_by : (First : Option Token → Type 0) → ((o : Option Token) → First o → (end : End) → absent end o ≡ true) → (ts us : List Token) → Starts First ts us → Softer ts us
+pub softer_by : (First : Option Token → Type 0)
+    → ((o : Option Token) → First o → (end : End) → absent end o ≡ true)
+    → (ts us : List Token)
+    → Starts First ts us
+    → Softer ts us
 softer_by First soft ts us (inl same) = λ end h. ap (λ (o : Option Token). absent end o) same ∙ h
 softer_by First soft ts us (inr first) = λ end h. soft (head_of us) first end
 
@@ -186,7 +198,11 @@ pub record Firmly (ms : List Mark) (ts left : List Token) : Type 0 where
   pub parts : ts ≡ (next ∷ before) ++ left
   pub other : (us : List Token) → Matches ms ((next ∷ before) ++ us) us
 
-ends_firm : (s : Mark) → is_firm (s ∷ []) ≡ true → (ts left : List Token) → Matches (s ∷ []) ts left → Firmly (s ∷ []) ts left
+ends_firm : (s : Mark)
+    → is_firm (s ∷ []) ≡ true
+    → (ts left : List Token)
+    → Matches (s ∷ []) ts left
+    → Firmly (s ∷ []) ts left
 ends_firm (token s) f [] left m = absurd m.0
 ends_firm (token s) f (t ∷ ts) left m = record { next = t; before = []; parts = ap (λ (ts : List Token). t ∷ ts) m.1; other = λ us. (m.0, refl) }
 ends_firm (beside s) f [] left m = absurd m.0
@@ -201,7 +217,10 @@ firm_tail (semicolon end) n ms f = f
 firm_tail trailing_comma n ms f = f
 
 -- one mark before such marks
-more_firm : (m : Mark) (ms : List Mark) (ts left : List Token) → ((us : List Token) → Matches ms us left → Firmly ms us left) → Matches (m ∷ ms) ts left → Firmly (m ∷ ms) ts left
+more_firm : (m : Mark) (ms : List Mark) (ts left : List Token)
+    → ((us : List Token) → Matches ms us left → Firmly ms us left)
+    → Matches (m ∷ ms) ts left
+    → Firmly (m ∷ ms) ts left
 more_firm (token s) ms [] left go m = absurd m.0
 more_firm (token s) ms (t ∷ ts) left go m =
     let l = go ts m.1 in
@@ -245,22 +264,38 @@ pub record Lives {A : Type 0} (First : Option Token → Type 0) (flat_of : A →
   pub starts : (r : List Token) → Starts First ts (before ++ (added rest ++ r))
 
 -- tokens that begin with a token of theirs
-pub same_start : (First : Option Token → Type 0) (t : Token) (ts before left us : List Token) → ts ≡ (t ∷ before) ++ left → Starts First ts ((t ∷ before) ++ us)
+pub same_start : (First : Option Token → Type 0) (t : Token) (ts before left us : List Token)
+    → ts ≡ (t ∷ before) ++ left
+    → Starts First ts ((t ∷ before) ++ us)
 same_start First t ts before left us parts = inl (sym (ap (λ (ts : List Token). head_of ts) parts))
 
 -- what is read later begins as what is read first
-pub start_behind : (First : Option Token → Type 0) (before ts left us : List Token) → ts ≡ before ++ left → Starts First left us → Starts First ts (before ++ us)
+pub start_behind : (First : Option Token → Type 0) (before ts left us : List Token)
+    → ts ≡ before ++ left
+    → Starts First left us
+    → Starts First ts (before ++ us)
 start_behind First [] ts left us parts s = subst (λ (ts : List Token). Starts First ts us) (sym parts) s
 start_behind First (t ∷ before) ts left us parts s = same_start First t ts before left us parts
 
 -- nothing was read
-pub fills : {A : Type 0} {First : Option Token → Type 0} {flat_of : A → List Mark} {Good : A → Type 0} (ts : List Token) (e : Fault) → Counts e ts → (tree : A) → Good tree → (rest : List Added)
-    → ((r : List Token) → Matches (flat_of tree) (added rest ++ r) r) → ((r : List Token) → First (head_of (added rest ++ r))) → Lives First flat_of Good ts e
+pub fills : {A : Type 0} {First : Option Token → Type 0} {flat_of : A → List Mark} {Good : A → Type 0} (ts : List Token) (e : Fault)
+    → Counts e ts
+    → (tree : A)
+    → Good tree
+    → (rest : List Added)
+    → ((r : List Token) → Matches (flat_of tree) (added rest ++ r) r)
+    → ((r : List Token) → First (head_of (added rest ++ r)))
+    → Lives First flat_of Good ts e
 fills ts e c tree good rest spelled first = record { before = []; left = ts; parts = refl; counted = c; tree = tree; good = good; rest = rest; spelled = spelled; starts = λ r. inr (first r) }
 
 -- The tree of a part, in a tree with tokens before the part and tokens behind it.
 pub grows : {A B : Type 0} {First Other : Option Token → Type 0} {flat_of : A → List Mark} {Good : A → Type 0} {flat_as : B → List Mark} {Fine : B → Type 0} {mid : List Token} {e : Fault}
-    → (l : Lives First flat_of Good mid e) → (ts front : List Token) → ts ≡ front ++ mid → (tree : B) → Fine tree → (more : List Added)
+    → (l : Lives First flat_of Good mid e)
+    → (ts front : List Token)
+    → ts ≡ front ++ mid
+    → (tree : B)
+    → Fine tree
+    → (more : List Added)
     → ((us r : List Token) → Starts First mid us → Matches (flat_of l.tree) us (added more ++ r) → Matches (flat_as tree) (front ++ us) r)
     → ((us : List Token) → Starts First mid us → Starts Other ts (front ++ us))
     → Lives Other flat_as Fine ts e
@@ -279,7 +314,10 @@ grows {A} {B} {First} {Other} {flat_of} {Good} {flat_as} {Fine} {mid} {e} l ts f
     }
 
 -- what may come first may also be more
-pub widens : {A : Type 0} {First Other : Option Token → Type 0} {flat_of : A → List Mark} {Good : A → Type 0} {ts : List Token} {e : Fault} → ((o : Option Token) → First o → Other o) → Lives First flat_of Good ts e → Lives Other flat_of Good ts e
+pub widens : {A : Type 0} {First Other : Option Token → Type 0} {flat_of : A → List Mark} {Good : A → Type 0} {ts : List Token} {e : Fault}
+    → ((o : Option Token) → First o → Other o)
+    → Lives First flat_of Good ts e
+    → Lives Other flat_of Good ts e
 widens {A} {First} {Other} {flat_of} {Good} {ts} {e} more l = record {
   before = l.before;
   left = l.left;
@@ -296,18 +334,34 @@ widens {A} {First} {Other} {flat_of} {Good} {ts} {e} more l = record {
     wider o (inl s) = inl s
     wider o (inr s) = inr (more o s)
 
-pub from_nothing : {A : Type 0} {Other : Option Token → Type 0} {flat_of : A → List Mark} {Good : A → Type 0} {ts : List Token} {e : Fault} → Lives Nothing flat_of Good ts e → Lives Other flat_of Good ts e
+pub from_nothing : {A : Type 0} {Other : Option Token → Type 0} {flat_of : A → List Mark} {Good : A → Type 0} {ts : List Token} {e : Fault}
+    → Lives Nothing flat_of Good ts e
+    → Lives Other flat_of Good ts e
 from_nothing l = widens (λ o n. absurd n) l
 
 -- the tree of a part at the front, with marks behind it
 pub ends_in : {A B : Type 0} {First : Option Token → Type 0} {flat_of : A → List Mark} {Good : A → Type 0} {flat_as : B → List Mark} {Fine : B → Type 0} {ts : List Token} {e : Fault}
-    → (l : Lives First flat_of Good ts e) → (tree : B) → Fine tree → (ns : List Mark) (more : List Added) → ((r : List Token) → Matches ns (added more ++ r) r) → flat_of l.tree ++ ns ≡ flat_as tree → Lives First flat_as Fine ts e
+    → (l : Lives First flat_of Good ts e)
+    → (tree : B)
+    → Fine tree
+    → (ns : List Mark) (more : List Added)
+    → ((r : List Token) → Matches ns (added more ++ r) r)
+    → flat_of l.tree ++ ns ≡ flat_as tree
+    → Lives First flat_as Fine ts e
 ends_in {A} {B} {First} {flat_of} {Good} {flat_as} {Fine} {ts} {e} l tree fine ns more spelled same =
     grows l ts [] refl tree fine more (λ us r s k. subst (λ (ms : List Mark). Matches ms us r) same (joins (flat_of l.tree) ns us (added more ++ r) r k (spelled r))) (λ us s. s)
 
 -- the tree of a part behind marks that end in a token, with marks behind it
 pub around : {A B : Type 0} {First : Option Token → Type 0} {flat_of : A → List Mark} {Good : A → Type 0} {flat_as : B → List Mark} {Fine : B → Type 0} {mid : List Token} {e : Fault}
-    → (l : Lives First flat_of Good mid e) → (ms : List Mark) → is_firm ms ≡ true → (ts : List Token) → Matches ms ts mid → (tree : B) → Fine tree → (ns : List Mark) (more : List Added) → ((r : List Token) → Matches ns (added more ++ r) r)
+    → (l : Lives First flat_of Good mid e)
+    → (ms : List Mark)
+    → is_firm ms ≡ true
+    → (ts : List Token)
+    → Matches ms ts mid
+    → (tree : B)
+    → Fine tree
+    → (ns : List Mark) (more : List Added)
+    → ((r : List Token) → Matches ns (added more ++ r) r)
     → ms ++ (flat_of l.tree ++ ns) ≡ flat_as tree → Lives Nothing flat_as Fine ts e
 around {A} {B} {First} {flat_of} {Good} {flat_as} {Fine} {mid} {e} l ms firm ts m tree fine ns more spelled same =
     let f = firmly ms firm ts mid m in
@@ -317,7 +371,15 @@ around {A} {B} {First} {flat_of} {Good} {flat_as} {Fine} {mid} {e} l ms firm ts 
 
 -- the tree of a part behind marks that may end in an absent semicolon, with marks behind it
 pub around_softly : {A B : Type 0} {First : Option Token → Type 0} {flat_of : A → List Mark} {Good : A → Type 0} {flat_as : B → List Mark} {Fine : B → Type 0} {mid : List Token} {e : Fault}
-    → (l : Lives First flat_of Good mid e) → ((us : List Token) → Starts First mid us → Softer mid us) → (ms : List Mark) → (ts : List Token) → Matches ms ts mid → (tree : B) → Fine tree → (ns : List Mark) (more : List Added) → ((r : List Token) → Matches ns (added more ++ r) r)
+    → (l : Lives First flat_of Good mid e)
+    → ((us : List Token) → Starts First mid us → Softer mid us)
+    → (ms : List Mark)
+    → (ts : List Token)
+    → Matches ms ts mid
+    → (tree : B)
+    → Fine tree
+    → (ns : List Mark) (more : List Added)
+    → ((r : List Token) → Matches ns (added more ++ r) r)
     → ms ++ (flat_of l.tree ++ ns) ≡ flat_as tree → Lives First flat_as Fine ts e
 around_softly {A} {B} {First} {flat_of} {Good} {flat_as} {Fine} {mid} {e} l soft ms ts m tree fine ns more spelled same =
     let f = softens ms ts mid m in
@@ -326,7 +388,16 @@ around_softly {A} {B} {First} {flat_of} {Good} {flat_as} {Fine} {mid} {e} l soft
     (λ us s. start_behind First f.before ts mid us f.parts s)
 
 -- marks that end in a token were read, and the others are added
-pub stopped : {B : Type 0} {flat_as : B → List Mark} {Fine : B → Type 0} (ms : List Mark) → is_firm ms ≡ true → (ts mid : List Token) → Matches ms ts mid → (e : Fault) → Counts e mid → (tree : B) → Fine tree → (ns : List Mark) (more : List Added) → ((r : List Token) → Matches ns (added more ++ r) r)
+pub stopped : {B : Type 0} {flat_as : B → List Mark} {Fine : B → Type 0} (ms : List Mark)
+    → is_firm ms ≡ true
+    → (ts mid : List Token)
+    → Matches ms ts mid
+    → (e : Fault)
+    → Counts e mid
+    → (tree : B)
+    → Fine tree
+    → (ns : List Mark) (more : List Added)
+    → ((r : List Token) → Matches ns (added more ++ r) r)
     → ms ++ ns ≡ flat_as tree → Lives Nothing flat_as Fine ts e
 stopped {B} {flat_as} {Fine} ms firm ts mid m e c tree fine ns more spelled same =
     let f = firmly ms firm ts mid m in
@@ -343,21 +414,37 @@ stopped {B} {flat_as} {Fine} ms firm ts mid m e c tree fine ns more spelled same
     }
 
 -- what comes first may be anything
-pub anything : {A : Type 0} {First : Option Token → Type 0} {flat_of : A → List Mark} {Good : A → Type 0} {ts : List Token} {e : Fault} → Lives First flat_of Good ts e → Lives Anything flat_of Good ts e
+pub anything : {A : Type 0} {First : Option Token → Type 0} {flat_of : A → List Mark} {Good : A → Type 0} {ts : List Token} {e : Fault}
+    → Lives First flat_of Good ts e
+    → Lives Anything flat_of Good ts e
 anything l = widens (λ o n. tt) l
 
 -- the same tokens as those of another tree
 pub renamed : {A B : Type 0} {First : Option Token → Type 0} {flat_of : A → List Mark} {Good : A → Type 0} {flat_as : B → List Mark} {Fine : B → Type 0} {ts : List Token} {e : Fault}
-    → (l : Lives First flat_of Good ts e) → (tree : B) → Fine tree → flat_of l.tree ≡ flat_as tree → Lives First flat_as Fine ts e
+    → (l : Lives First flat_of Good ts e)
+    → (tree : B)
+    → Fine tree
+    → flat_of l.tree ≡ flat_as tree
+    → Lives First flat_as Fine ts e
 renamed {A} {B} {First} {flat_of} l tree fine same = ends_in l tree fine [] [] (λ r. refl) (append-nil (flat_of l.tree) ∙ same)
 
 -- the tree of a part behind marks that end in a token
 pub behind : {A B : Type 0} {First : Option Token → Type 0} {flat_of : A → List Mark} {Good : A → Type 0} {flat_as : B → List Mark} {Fine : B → Type 0} {mid : List Token} {e : Fault}
-    → (l : Lives First flat_of Good mid e) → (ms : List Mark) → is_firm ms ≡ true → (ts : List Token) → Matches ms ts mid → (tree : B) → Fine tree → ms ++ flat_of l.tree ≡ flat_as tree → Lives Nothing flat_as Fine ts e
+    → (l : Lives First flat_of Good mid e)
+    → (ms : List Mark)
+    → is_firm ms ≡ true
+    → (ts : List Token)
+    → Matches ms ts mid
+    → (tree : B)
+    → Fine tree
+    → ms ++ flat_of l.tree ≡ flat_as tree
+    → Lives Nothing flat_as Fine ts e
 behind {A} {B} {First} {flat_of} l ms firm ts m tree fine same = around l ms firm ts m tree fine [] [] (λ r. refl) (ap (λ (ns : List Mark). ms ++ ns) (append-nil (flat_of l.tree)) ∙ same)
 
 -- either nothing was read, or what lives begins as the tokens do
-pub begun : {A : Type 0} {First : Option Token → Type 0} {flat_of : A → List Mark} {Good : A → Type 0} {ts : List Token} {e : Fault} → Lives First flat_of Good ts e → Counts e ts ⊎ Lives Nothing flat_of Good ts e
+pub begun : {A : Type 0} {First : Option Token → Type 0} {flat_of : A → List Mark} {Good : A → Type 0} {ts : List Token} {e : Fault}
+    → Lives First flat_of Good ts e
+    → Counts e ts ⊎ Lives Nothing flat_of Good ts e
 begun {A} {First} {flat_of} {Good} {ts} {e} l = by_before l.before refl
   where
     by_before : (before : List Token) → l.before ≡ before → Counts e ts ⊎ Lives Nothing flat_of Good ts e

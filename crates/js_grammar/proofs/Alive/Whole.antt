@@ -47,7 +47,10 @@ added_tokens [] = tt
 added_tokens (a ∷ rest) = (added_token a, added_tokens rest)
 
 -- what lives begins a source
-pub begins_so : {Tree : Type 0} {Is : List Token → Tree → Type 0} {First : Option Token → Type 0} {flat_of : Tree → List Mark} {Good : Tree → Type 0} {ts : List Token} {e : Fault} → ((us : List Token) (t : Tree) → Good t → Matches (flat_of t) us [] → Is us t) → Lives First flat_of Good ts e → LivesIn Is ts e
+pub begins_so : {Tree : Type 0} {Is : List Token → Tree → Type 0} {First : Option Token → Type 0} {flat_of : Tree → List Mark} {Good : Tree → Type 0} {ts : List Token} {e : Fault}
+    → ((us : List Token) (t : Tree) → Good t → Matches (flat_of t) us [] → Is us t)
+    → Lives First flat_of Good ts e
+    → LivesIn Is ts e
 begins_so {Tree} {Is} is l = record {
   before = l.before;
   left = l.left;
@@ -62,7 +65,8 @@ begins_so {Tree} {Is} is l = record {
 }
 
 -- what was read in whole, where further tokens are left
-read_so : {Tree : Type 0} {Is : List Token → Tree → Type 0} (flat_of : Tree → List Mark) (Good : Tree → Type 0) (ts : List Token) (e : Fault) → ((us : List Token) (t : Tree) → Good t → Matches (flat_of t) us [] → Is us t)
+read_so : {Tree : Type 0} {Is : List Token → Tree → Type 0} (flat_of : Tree → List Mark) (Good : Tree → Type 0) (ts : List Token) (e : Fault)
+    → ((us : List Token) (t : Tree) → Good t → Matches (flat_of t) us [] → Is us t)
     → (t : Tree) (left : List Token) → Good t → Matches (flat_of t) ts left → Counts e left → LivesIn Is ts e
 read_so {Tree} {Is} flat_of Good ts e is t left good m c =
     let f = softens (flat_of t) ts left m in
@@ -76,7 +80,9 @@ read_so {Tree} {Is} flat_of Good ts e is t left good m c =
     }
 
 -- a whole source isn't read: its reader stops, or tokens are left
-whole_err : {A : Type 0} (r : Read A) (e : Fault) → whole r ≡ Err e → (r ≡ Err e) ⊎ ((x : A × List Token) × (r ≡ Ok x) × Counts e x.1)
+whole_err : {A : Type 0} (r : Read A) (e : Fault)
+    → whole r ≡ Err e
+    → (r ≡ Err e) ⊎ ((x : A × List Token) × (r ≡ Ok x) × Counts e x.1)
 whole_err (Err d) e p = let same : d ≡ e = cc in inl (ap (λ d. Err d) same)
 whole_err {A} (Ok x) e p = inr (x, refl, left_err x.0 x.1 p)
   where
@@ -100,7 +106,9 @@ expression_alive n ts e p =
     ]
 
 -- Where a script isn't read, the tokens before the fault begin one.
-pub script_alive : (n : ℕ) (earlier : List Identifier) (ts : List Token) (e : Fault) → parse_script n earlier ts ≡ Err e → LivesIn (IsScript earlier) ts e
+pub script_alive : (n : ℕ) (earlier : List Identifier) (ts : List Token) (e : Fault)
+    → parse_script n earlier ts ≡ Err e
+    → LivesIn (IsScript earlier) ts e
 unfolding parse_script
 script_alive n earlier ts e p =
     let is : (us : List Token) (t : Statements) → IsBlock top earlier t → Matches (flat_statements t) us [] → IsScript earlier us t = λ us t w m. record { well = w; spelled = m } in

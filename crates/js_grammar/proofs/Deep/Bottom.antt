@@ -38,7 +38,11 @@ use Rattle.std.proofs.lemmas.Bool.{and_parts}
 
 -- ---- what is answered, is answered so on the right
 
-pub answers_so : {A : Type 0} (f g : Reader A) → Follows f g → (ts : List Token) (x : A × List Token) → f ts ≡ Ok x → g ts ≡ Ok x
+pub answers_so : {A : Type 0} (f g : Reader A)
+    → Follows f g
+    → (ts : List Token) (x : A × List Token)
+    → f ts ≡ Ok x
+    → g ts ≡ Ok x
 answers_so f g h ts x e =
     let p = reads_again f g h ts x.0 x.1 e in
     ap (λ (l : List Token). g l) p.1 ∙ p.2 x.1 refl
@@ -59,22 +63,38 @@ sound_from n b c f s = record {
 
 -- ---- where a name alone stops, the tokens before begin an expression
 
-arrow_lives : (s : Identifier) (ts : List Token) (e : Fault) → start (head_of ts) ≡ classes.a_name s → is_arrow (head_of (tail_of ts)) ≡ true → faulty {A = Expression} (deep (length (tail_of (tail_of ts)))) ≡ faulty e → Lives IsZero flat (Fits 1) ts e
+arrow_lives : (s : Identifier) (ts : List Token) (e : Fault)
+    → start (head_of ts) ≡ classes.a_name s
+    → is_arrow (head_of (tail_of ts)) ≡ true
+    → faulty {A = Expression} (deep (length (tail_of (tail_of ts)))) ≡ faulty e
+    → Lives IsZero flat (Fits 1) ts e
 arrow_lives s ts e f a p =
     let both = and_parts (is_on_line (head_of (tail_of ts))) (is_kind kinds.Arrow (head_of (tail_of ts))) a in
     from_nothing (stopped (token (identifier s) ∷ beside (fixed kinds.Arrow) ∷ []) refl ts (tail_of (tail_of ts)) (start_name s (head_of ts) f, (next_is kinds.Arrow (head_of (tail_of ts)) both.1, both.0, refl)) e (deep_counts {A = Expression} (tail_of (tail_of ts)) e p)
     (trees.arrow (trees.one_name s) (trees.number 0)) (((refl, tt), tt, omega arith, refl), omega arith) zero_marks zero_token (λ r. ((refl, refl), refl)) refl)
 
-named_lives : (s : Identifier) (ts : List Token) (e : Fault) → start (head_of ts) ≡ classes.a_name s → is_arrow (head_of (tail_of ts)) ≡ false → behind bare 0 (trees.name s) (tail_of ts) ≡ Err e → Lives IsZero flat (Fits 1) ts e
+named_lives : (s : Identifier) (ts : List Token) (e : Fault)
+    → start (head_of ts) ≡ classes.a_name s
+    → is_arrow (head_of (tail_of ts)) ≡ false
+    → behind bare 0 (trees.name s) (tail_of ts) ≡ Err e
+    → Lives IsZero flat (Fits 1) ts e
 named_lives s ts e f a p =
     let is : assignment bare 0 ts ≡ behind bare 0 (trees.name s) (tail_of ts) = assignment_is bare 0 ts ∙ ap (λ (v : Start). assignment_form bare 0 v ts) f ∙ ap (λ (v : Bool). named_form bare 0 s v (tail_of ts)) a in
     assignment_lives 0 bare (bare_sound 0) bare_alive ts e (is ∙ p)
 
-by_arrow_lives : (s : Identifier) (ts : List Token) (e : Fault) → start (head_of ts) ≡ classes.a_name s → (v : Bool) → is_arrow (head_of (tail_of ts)) ≡ v → lone_name s v (tail_of ts) ≡ Err e → Lives IsZero flat (Fits 1) ts e
+by_arrow_lives : (s : Identifier) (ts : List Token) (e : Fault)
+    → start (head_of ts) ≡ classes.a_name s
+    → (v : Bool)
+    → is_arrow (head_of (tail_of ts)) ≡ v
+    → lone_name s v (tail_of ts) ≡ Err e
+    → Lives IsZero flat (Fits 1) ts e
 by_arrow_lives s ts e f true a p = arrow_lives s ts e f a p
 by_arrow_lives s ts e f false a p = named_lives s ts e f a p
 
-lone_by_lives : (v : Start) (ts : List Token) (e : Fault) → start (head_of ts) ≡ v → lone_by v ts ≡ Err e → Lives IsZero flat (Fits 1) ts e
+lone_by_lives : (v : Start) (ts : List Token) (e : Fault)
+    → start (head_of ts) ≡ v
+    → lone_by v ts ≡ Err e
+    → Lives IsZero flat (Fits 1) ts e
 lone_by_lives (classes.a_name s) ts e f p = by_arrow_lives s ts e f (is_arrow (head_of (tail_of ts))) refl p
 lone_by_lives classes.parenthesis ts e f p =
     subst (λ (e : Fault). Lives IsZero flat (Fits 1) ts e) (fault_is {A = Expression} (deep (length (tail_of ts))) e p) (from_nothing (looser 15 1 (omega arith) (start_lives classes.parenthesis ts f refl)))
@@ -138,13 +158,19 @@ names_only_lives ts e p = elim (bind_err (lone ts) (λ x. comma_next x.0 x.1) e 
   | inr q ↦ from_nothing (comma_by_lives 2 named named_sound named_alive ts q.0.0 (is_kind kinds.Comma (head_of q.0.1)) q.0.1 e refl ((sound_below 3).assignment ts q.0 (answers_so lone (below 3).assignment (lone_up 2) ts q.0 q.1)) q.2)
 ]
 
-names_only_closes : (ts : List Token) → listed_by (past_names true ts) ≡ no_arrow → Within (closing (names_only ts)) (length (scan_end true ts))
+names_only_closes : (ts : List Token)
+    → listed_by (past_names true ts) ≡ no_arrow
+    → Within (closing (names_only ts)) (length (scan_end true ts))
 names_only_closes ts e =
     names_within lone lone_names comma_next comma_next (comma_follows named named 2 2 (omega arith) named_own) ts e
     (λ f r l q. comma_within named 2 lone_names f r q (is_kind kinds.Comma (head_of r)) refl)
 
 -- what is too deep lies behind the names
-names_only_hides : (ts : List Token) → listed_by (past_names true ts) ≡ no_arrow → (i : ℕ) → names_only ts ≡ Err (deep i) → DeepTo names_only ts i (length (scan_end true ts))
+names_only_hides : (ts : List Token)
+    → listed_by (past_names true ts) ≡ no_arrow
+    → (i : ℕ)
+    → names_only ts ≡ Err (deep i)
+    → DeepTo names_only ts i (length (scan_end true ts))
 names_only_hides ts q i e =
     names_deep Low lone lone_sure (at_comma named 2) (comma_follows named named 2 2 (omega arith) named_own) (λ n f. comma_deepens named 2 named_own named_deepens n f) ts q
     (λ f r low l c j z. comma_deep named 2 lone_sure (omega arith) f low r c (is_kind kinds.Comma (head_of r)) refl j z) i e
@@ -169,5 +195,9 @@ bottom_deepens = shallow_deepens lone names_only lone_deepens names_only_deepens
 pub bottom_alive : AliveBelow bottom
 bottom_alive = shallow_alive lone names_only lone_lives names_only_lives
 
-pub bottom_hides : (ts : List Token) → listed_by (past_names true ts) ≡ no_arrow → (i : ℕ) → bottom.expression ts ≡ Err (deep i) → DeepTo bottom.expression ts i (length (scan_end true ts))
+pub bottom_hides : (ts : List Token)
+    → listed_by (past_names true ts) ≡ no_arrow
+    → (i : ℕ)
+    → bottom.expression ts ≡ Err (deep i)
+    → DeepTo bottom.expression ts i (length (scan_end true ts))
 bottom_hides ts q i e = names_only_hides ts q i e

@@ -22,12 +22,16 @@ use Rattle.js_grammar.proofs.Deep.Names.{DeepTo, lift_first, to_then}
 
 -- ---- an expression in parentheses
 
-paren_source : (e : Expression) (z : Read (Unit {0})) (i : ℕ) → as_enclosed (with_paren e (paren_value z)) ≡ Err (deep i) → z ≡ Err (deep i)
+paren_source : (e : Expression) (z : Read (Unit {0})) (i : ℕ)
+    → as_enclosed (with_paren e (paren_value z)) ≡ Err (deep i)
+    → z ≡ Err (deep i)
 paren_source e (Ok z) i q = absurd cc
 paren_source e (Err (stuck k)) i q = absurd cc
 paren_source e (Err (deep k)) i q = ap (λ (j : ℕ). Err (deep j)) (deep_is {A = Expression} k i q)
 
-enclosed_source : (x : Read Expression) (i : ℕ) → as_enclosed (x >>= λ y. with_paren y.0 (paren_value (expect kinds.RightParenthesis y.1))) ≡ Err (deep i) → x ≡ Err (deep i)
+enclosed_source : (x : Read Expression) (i : ℕ)
+    → as_enclosed (x >>= λ y. with_paren y.0 (paren_value (expect kinds.RightParenthesis y.1))) ≡ Err (deep i)
+    → x ≡ Err (deep i)
 enclosed_source (Ok y) i q = absurd (expect_quiet kinds.RightParenthesis y.1 i (paren_source y.0 (expect kinds.RightParenthesis y.1) i q))
 enclosed_source (Err (stuck k)) i q = absurd cc
 enclosed_source (Err (deep k)) i q = ap (λ (j : ℕ). Err (deep j)) (deep_is {A = Expression} k i q)
@@ -38,7 +42,16 @@ two_items b ts = seq b (an_expression ∷ paren_items) ts
 enclosed_deep : (b : Below) (ts : List Token) (i k : ℕ) → DeepTo b.expression ts i k → DeepTo (enclosed b) ts i k
 enclosed_deep b ts i k d = lift_first (two_items b) (λ v r. Ok (trees.parenthesized v.0, r)) ts i k (lift_first b.expression (λ e r. with_paren e (seq b paren_items r)) ts i k d)
 
-covered_deep : (b : Below) (n : ℕ) → Pair b b → Spans b → DeepBelow b → (ts : List Token) → listed_by (past_names true ts) ≡ no_arrow → (i : ℕ) → (b.expression ts ≡ Err (deep i) → DeepTo b.expression ts i (length (scan_end true ts))) → covered b n ts ≡ Err (deep i) → DeepTo (covered b n) ts i (length (scan_end true ts))
+covered_deep : (b : Below) (n : ℕ)
+    → Pair b b
+    → Spans b
+    → DeepBelow b
+    → (ts : List Token)
+    → listed_by (past_names true ts) ≡ no_arrow
+    → (i : ℕ)
+    → (b.expression ts ≡ Err (deep i) → DeepTo b.expression ts i (length (scan_end true ts)))
+    → covered b n ts ≡ Err (deep i)
+    → DeepTo (covered b n) ts i (length (scan_end true ts))
 covered_deep b n p s d ts q i h e =
     let k : ℕ = length (scan_end true ts) in
     let same : n ≤ n = omega arith in
@@ -60,7 +73,11 @@ covered_deep b n p s d ts q i h e =
     (λ z. enclosed_deep b ts i k (h (enclosed_source (b.expression ts) i z)))))) e
 
 -- no arrow stands behind the parentheses, whatever follows what is too deep
-open_deep : (b : Below) (n : ℕ) (ts : List Token) → listed_by (past_names true ts) ≡ no_arrow → (i : ℕ) → DeepTo (covered b n) ts i (length (scan_end true ts)) → DeepAt (paren_at b n) ts i
+open_deep : (b : Below) (n : ℕ) (ts : List Token)
+    → listed_by (past_names true ts) ≡ no_arrow
+    → (i : ℕ)
+    → DeepTo (covered b n) ts i (length (scan_end true ts))
+    → DeepAt (paren_at b n) ts i
 open_deep b n ts q i c =
     let d = c.deep_at in
     record {
@@ -78,8 +95,15 @@ open_deep b n ts q i c =
 -- ---- parameters
 
 -- the parameters are read, and what follows them is too deep
-listed_deep : (b : Below) (n : ℕ) → Pair b b → DeepBelow b → (ts : List Token) (w : Bool) (rest : List Token) (c : Closed true ts w rest) → listed_by (Some (w, rest)) ≡ listed w → (i : ℕ) (v : Bool) → are_fresh [] c.names ≡ v
-    → cond v (arrow_rest b (trees.name_list c.names) c.names rest) (cond w (Err (stuck (suc (length rest)))) (Err (stuck (length rest)))) ≡ Err (deep i) → DeepAt (paren_at b n) ts i
+listed_deep : (b : Below) (n : ℕ)
+    → Pair b b
+    → DeepBelow b
+    → (ts : List Token) (w : Bool) (rest : List Token) (c : Closed true ts w rest)
+    → listed_by (Some (w, rest)) ≡ listed w
+    → (i : ℕ) (v : Bool)
+    → are_fresh [] c.names ≡ v
+    → cond v (arrow_rest b (trees.name_list c.names) c.names rest) (cond w (Err (stuck (suc (length rest)))) (Err (stuck (length rest)))) ≡ Err (deep i)
+    → DeepAt (paren_at b n) ts i
 listed_deep b n p d ts true rest c h i false f e = absurd cc
 listed_deep b n p d ts false rest c h i false f e = absurd cc
 listed_deep b n p d ts w rest c h i true f e =
@@ -98,16 +122,41 @@ listed_deep b n p d ts w rest c h i true f e =
           a.never r x (sym (is ∙ ap (λ (v : Bool). cond v (arrow_rest b (trees.name_list c.names) c.names us) (cond w (Err (stuck (suc (length us)))) (Err (stuck (length us))))) f) ∙ o);
     }
 
-listed_at : (b : Below) (n : ℕ) → Pair b b → DeepBelow b → (ts : List Token) (w : Bool) (rest : List Token) → past_names true ts ≡ Some (w, rest) → listed_by (Some (w, rest)) ≡ listed w → (i : ℕ) → paren_at b n ts ≡ Err (deep i) → DeepAt (paren_at b n) ts i
+listed_at : (b : Below) (n : ℕ)
+    → Pair b b
+    → DeepBelow b
+    → (ts : List Token) (w : Bool) (rest : List Token)
+    → past_names true ts ≡ Some (w, rest)
+    → listed_by (Some (w, rest)) ≡ listed w
+    → (i : ℕ)
+    → paren_at b n ts ≡ Err (deep i)
+    → DeepAt (paren_at b n) ts i
 listed_at b n p d ts w rest q h i e =
     let c : Closed true ts w rest = closed true ts w rest q in
     let is : paren_at b n ts ≡ arrow_of_names b w c.names rest = ap (λ (l : List Token). paren_at b n l) c.parts ∙ listed_is b n ts w rest rest c h in
     listed_deep b n p d ts w rest c h i (are_fresh [] c.names) refl (sym is ∙ e)
 
-open_at : (b : Below) (n : ℕ) → Pair b b → Spans b → DeepBelow b → (ts : List Token) (i : ℕ) → (b.expression ts ≡ Err (deep i) → DeepTo b.expression ts i (length (scan_end true ts))) → listed_by (past_names true ts) ≡ no_arrow → paren_at b n ts ≡ Err (deep i) → DeepAt (paren_at b n) ts i
+open_at : (b : Below) (n : ℕ)
+    → Pair b b
+    → Spans b
+    → DeepBelow b
+    → (ts : List Token) (i : ℕ)
+    → (b.expression ts ≡ Err (deep i) → DeepTo b.expression ts i (length (scan_end true ts)))
+    → listed_by (past_names true ts) ≡ no_arrow
+    → paren_at b n ts ≡ Err (deep i)
+    → DeepAt (paren_at b n) ts i
 open_at b n p s d ts i h q e = open_deep b n ts q i (covered_deep b n p s d ts q i h (sym (ap (λ (v : Head). paren_form b n v ts) q) ∙ e))
 
-paren_by : (b : Below) (n : ℕ) → Pair b b → Spans b → DeepBelow b → (ts : List Token) (i : ℕ) → (listed_by (past_names true ts) ≡ no_arrow → b.expression ts ≡ Err (deep i) → DeepTo b.expression ts i (length (scan_end true ts))) → (o : Option (Bool × List Token)) → past_names true ts ≡ o → paren_at b n ts ≡ Err (deep i) → DeepAt (paren_at b n) ts i
+paren_by : (b : Below) (n : ℕ)
+    → Pair b b
+    → Spans b
+    → DeepBelow b
+    → (ts : List Token) (i : ℕ)
+    → (listed_by (past_names true ts) ≡ no_arrow → b.expression ts ≡ Err (deep i) → DeepTo b.expression ts i (length (scan_end true ts)))
+    → (o : Option (Bool × List Token))
+    → past_names true ts ≡ o
+    → paren_at b n ts ≡ Err (deep i)
+    → DeepAt (paren_at b n) ts i
 paren_by b n p s d ts i h None q e = let c : listed_by (past_names true ts) ≡ no_arrow = ap (λ (o : Option (Bool × List Token)). listed_by o) q in open_at b n p s d ts i (h c) c e
 paren_by b n p s d ts i h (Some (true, rest)) q e = listed_at b n p d ts true rest q refl i e
 paren_by b n p s d ts i h (Some (false, rest)) q e = by_arrow (is_arrow (head_of rest)) refl
@@ -119,5 +168,11 @@ paren_by b n p s d ts i h (Some (false, rest)) q e = by_arrow (is_arrow (head_of
         open_at b n p s d ts i (h c) c e
 
 -- What stands behind a parenthesis keeps it, where an expression there is too deep behind the names only.
-pub paren_deepens : (b : Below) (n : ℕ) → Pair b b → Spans b → DeepBelow b → ((ts : List Token) → listed_by (past_names true ts) ≡ no_arrow → (i : ℕ) → b.expression ts ≡ Err (deep i) → DeepTo b.expression ts i (length (scan_end true ts))) → (k : ℕ) → Deepens k (paren_at b n)
+pub paren_deepens : (b : Below) (n : ℕ)
+    → Pair b b
+    → Spans b
+    → DeepBelow b
+    → ((ts : List Token) → listed_by (past_names true ts) ≡ no_arrow → (i : ℕ) → b.expression ts ≡ Err (deep i) → DeepTo b.expression ts i (length (scan_end true ts)))
+    → (k : ℕ)
+    → Deepens k (paren_at b n)
 paren_deepens b n p s d h k = record { at = λ ts l i e. paren_by b n p s d ts i (λ c z. h ts c i z) (past_names true ts) refl e }

@@ -33,17 +33,29 @@ key_deepens b p d n = deep_peeks_all n key_start (λ v ts. key_by b v ts) (elim 
   | classes.no_key ↦ deep_sticks n
 ])
 
-method_deepens : (b : Below) (m : ℕ) → Pair b b → DeepBelow b → (n : ℕ) (k : Key) → DeepensOn n (λ ts. member_by b m k classes.parameters ts)
+method_deepens : (b : Below) (m : ℕ)
+    → Pair b b
+    → DeepBelow b
+    → (n : ℕ) (k : Key)
+    → DeepensOn n (λ ts. member_by b m k classes.parameters ts)
 method_deepens b m p d n k =
     deep_limit n (suc (height_of_key k)) m (λ ts. b.function ts >>= λ f. Ok (trees.method k f.0.parameters f.0.body, f.1))
     (on n (λ ts. b.function ts >>= λ f. Ok (trees.method k f.0.parameters f.0.body, f.1)) (deep_makes n b.function (λ f. trees.method k f.parameters f.body) p.both.function (d.function n)))
 
-member_on : (b : Below) (m : ℕ) → Pair b b → DeepBelow b → (n : ℕ) (k : Key) (v : AfterKey) → DeepensOn n (λ ts. member_by b m k v ts)
+member_on : (b : Below) (m : ℕ)
+    → Pair b b
+    → DeepBelow b
+    → (n : ℕ) (k : Key) (v : AfterKey)
+    → DeepensOn n (λ ts. member_by b m k v ts)
 member_on b m p d n k classes.colon = on n (λ ts. member_by b m k classes.colon ts) (made_deepens b p d n (tok kinds.Colon ∷ an_assignment ∷ []) (λ v. trees.value k v.1.0))
 member_on b m p d n k classes.parameters = method_deepens b m p d n k
 member_on b m p d n k classes.no_member = on n (λ ts. Err (stuck (length ts))) (deep_sticks n)
 
-named_on : (b : Below) (m : ℕ) → Pair b b → DeepBelow b → (n : ℕ) (s : Identifier) (v : AfterKey) → DeepensOn n (λ ts. named_member b m s v ts)
+named_on : (b : Below) (m : ℕ)
+    → Pair b b
+    → DeepBelow b
+    → (n : ℕ) (s : Identifier) (v : AfterKey)
+    → DeepensOn n (λ ts. named_member b m s v ts)
 named_on b m p d n s classes.no_member = on n (λ ts. Ok (trees.shorthand s, ts)) (deep_gives n (trees.shorthand s))
 named_on b m p d n s classes.colon = member_on b m p d n (trees.word_key s) classes.colon
 named_on b m p d n s classes.parameters = member_on b m p d n (trees.word_key s) classes.parameters
@@ -98,7 +110,11 @@ updated_deepens m n e = deep_peeks n update_near (λ v ts. updated_by m e v ts) 
       (deep_limit n (height e) m (λ ts. Ok (trees.postfix o e, tail_of ts)) (on n (λ ts. Ok (trees.postfix o e, tail_of ts)) (deep_token n (trees.postfix o e)))) (on n (λ ts. Err (stuck (length ts))) (deep_sticks n))
 ])
 
-pub joined_deepens : (b : Below) (m : ℕ) → Pair b b → DeepBelow b → (n : ℕ) (t : Expression) → Deepens n (λ ts. joined b m t ts)
+pub joined_deepens : (b : Below) (m : ℕ)
+    → Pair b b
+    → DeepBelow b
+    → (n : ℕ) (t : Expression)
+    → Deepens n (λ ts. joined b m t ts)
 unfolding joined
 joined_deepens b m p d n t = deep_peeks n joint (λ v ts. joined_by b m t v ts) (λ j e. absurd cc) (elim [
   | question ↦ deep_limit n (height t) m (λ ts. made b (tok kinds.Question ∷ an_assignment ∷ tok kinds.Colon ∷ an_assignment ∷ []) (λ v. trees.conditional t v.1.0 v.1.1.1.0) ts)
@@ -109,7 +125,11 @@ joined_deepens b m p d n t = deep_peeks n joint (λ v ts. joined_by b m t v ts) 
   | no_joint ↦ on n (λ ts. Ok (t, ts)) (deep_gives n t)
 ])
 
-pub arrow_rest_deepens : (b : Below) → Pair b b → DeepBelow b → (n : ℕ) (ps : Parameters) (names : List Identifier) → Deepens n (λ ts. arrow_rest b ps names ts)
+pub arrow_rest_deepens : (b : Below)
+    → Pair b b
+    → DeepBelow b
+    → (n : ℕ) (ps : Parameters) (names : List Identifier)
+    → Deepens n (λ ts. arrow_rest b ps names ts)
 unfolding arrow_rest
 arrow_rest_deepens b p d n ps names =
     deep_then n (λ ts. expect_near kinds.Arrow ts) (λ a ts. arrow_body_by b ps names (is_kind kinds.LeftBrace (head_of ts)) ts) (expect_near_follows kinds.Arrow) (expect_near_deepens n kinds.Arrow)

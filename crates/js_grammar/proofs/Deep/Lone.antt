@@ -60,7 +60,8 @@ bare_alive = shallow_alive operand operand (λ ts e p. operand_lives 1 (omega ar
 not_low : (e : Expression) → nat_le (height e) 0 ≡ false
 not_low e = lt-leb (height e) 0 (height_positive e)
 
-links_same_by : (b c : Below) (go go' : Expression → Reader Expression) (e : Expression) (l : Link) (ts : List Token) → links_by b 0 go e l ts ≡ links_by c 0 go' e l ts
+links_same_by : (b c : Below) (go go' : Expression → Reader Expression) (e : Expression) (l : Link) (ts : List Token)
+    → links_by b 0 go e l ts ≡ links_by c 0 go' e l ts
 links_same_by b c go go' e no_link ts = refl
 links_same_by b c go go' e dot ts = rw (not_low e) refl
 links_same_by b c go go' e key ts = rw (not_low e) refl
@@ -70,15 +71,18 @@ links_same : (b c : Below) (e : Expression) (ts : List Token) → links b 0 (suc
 unfolding links
 links_same b c e ts = links_same_by b c (λ f r. links b 0 zero f r) (λ f r. links c 0 zero f r) e (link (head_of ts)) ts
 
-chain_same_by : (b c : Below) (go go' : Expression → Reader Expression) (e : Expression) (o : Option BinaryOperator) (ts : List Token) → chain_by b 0 go e o ts ≡ chain_by c 0 go' e o ts
+chain_same_by : (b c : Below) (go go' : Expression → Reader Expression) (e : Expression) (o : Option BinaryOperator) (ts : List Token)
+    → chain_by b 0 go e o ts ≡ chain_by c 0 go' e o ts
 chain_same_by b c go go' e None ts = refl
 chain_same_by b c go go' e (Some o) ts = rw (not_low e) refl
 
-chain_same : (b c : Below) (e : Expression) (ts : List Token) → chain b 0 3 (suc zero) e ts ≡ chain c 0 3 (suc zero) e ts
+chain_same : (b c : Below) (e : Expression) (ts : List Token)
+    → chain b 0 3 (suc zero) e ts ≡ chain c 0 3 (suc zero) e ts
 unfolding chain
 chain_same b c e ts = chain_same_by b c (λ f r. chain b 0 3 zero f r) (λ f r. chain c 0 3 zero f r) e (operator_from 3 (operator (head_of ts))) ts
 
-joined_same_by : (b c : Below) (e : Expression) (j : Joint) (ts : List Token) → joined_by b 0 e j ts ≡ joined_by c 0 e j ts
+joined_same_by : (b c : Below) (e : Expression) (j : Joint) (ts : List Token)
+    → joined_by b 0 e j ts ≡ joined_by c 0 e j ts
 joined_same_by b c e question ts = rw (not_low e) refl
 joined_same_by b c e (assigns_by o) ts = rw (not_low e) refl
 joined_same_by b c e no_joint ts = refl
@@ -87,7 +91,9 @@ joined_same : (b c : Below) (e : Expression) (ts : List Token) → joined b 0 e 
 unfolding joined
 joined_same b c e ts = joined_same_by b c e (joint (head_of ts)) ts
 
-then_same : {A B : Type 0} (x : Read A) (f g : A → Reader B) → ((a : A) (r : List Token) → f a r ≡ g a r) → (x >>= λ y. f y.0 y.1) ≡ (x >>= λ y. g y.0 y.1)
+then_same : {A B : Type 0} (x : Read A) (f g : A → Reader B)
+    → ((a : A) (r : List Token) → f a r ≡ g a r)
+    → (x >>= λ y. f y.0 y.1) ≡ (x >>= λ y. g y.0 y.1)
 then_same (Ok y) f g h = h y.0 y.1
 then_same (Err e) f g h = refl
 
@@ -122,7 +128,8 @@ lone ts = lone_by (start (head_of ts)) ts
 lost : {A : Type 0} (g : Reader A) → Follows (λ ts. Err (deep (length (tail_of ts)))) g
 lost g = record { at = λ ts c. absurd c }
 
-lone_name_own : (s : Identifier) → Follows (λ ts. lone_name s (is_arrow (head_of ts)) ts) (λ ts. lone_name s (is_arrow (head_of ts)) ts)
+lone_name_own : (s : Identifier)
+    → Follows (λ ts. lone_name s (is_arrow (head_of ts)) ts) (λ ts. lone_name s (is_arrow (head_of ts)) ts)
 lone_name_own s = peeks is_arrow (λ v ts. lone_name s v ts) (λ v ts. lone_name s v ts) (elim [
   | true ↦ lost (λ ts. lone_name s true ts)
   | false ↦ behind_follows bare bare 0 0 (omega arith) bare_own (trees.name s)
@@ -136,13 +143,16 @@ lone_by_own _ = operand_follows
 pub lone_own : Follows lone lone
 lone_own = peeks start (λ v ts. lone_by v ts) (λ v ts. lone_by v ts) lone_by_own
 
-lone_name_follows : (n : ℕ) (s : Identifier) → Follows (λ ts. lone_name s (is_arrow (head_of ts)) ts) (λ ts. named_form (below n) n s (is_arrow (head_of ts)) ts)
+lone_name_follows : (n : ℕ) (s : Identifier)
+    → Follows (λ ts. lone_name s (is_arrow (head_of ts)) ts) (λ ts. named_form (below n) n s (is_arrow (head_of ts)) ts)
 lone_name_follows n s = peeks is_arrow (λ v ts. lone_name s v ts) (λ v ts. named_form (below n) n s v ts) (elim [
   | true ↦ lost (λ ts. named_form (below n) n s true ts)
   | false ↦ bare_behind n (trees.name s)
 ])
 
-plain_elsewhere : (b : Below) (n : ℕ) (ts : List Token) → begins_operand (head_of ts) ≡ false → plain_form b n ts ≡ Err (stuck (length ts))
+plain_elsewhere : (b : Below) (n : ℕ) (ts : List Token)
+    → begins_operand (head_of ts) ≡ false
+    → plain_form b n ts ≡ Err (stuck (length ts))
 plain_elsewhere b n ts h = rw (operation_elsewhere b n 3 ts h) refl
 
 lone_by_follows : (n : ℕ) (v : Start) → Follows (λ ts. lone_by v ts) (λ ts. assignment_form (below n) n v ts)
@@ -177,12 +187,17 @@ lone_deepens n = deep_peeks n start (λ v ts. lone_by v ts) (λ j e. absurd cc) 
 
 -- ---- how it goes over names
 
-pub lone_at_name : (t : Token) (ts : List Token) → is_kind kinds.Name (Some t) ≡ true → lone (t ∷ ts) ≡ lone_name t.string_value (is_arrow (head_of ts)) ts
+pub lone_at_name : (t : Token) (ts : List Token)
+    → is_kind kinds.Name (Some t) ≡ true
+    → lone (t ∷ ts) ≡ lone_name t.string_value (is_arrow (head_of ts)) ts
 lone_at_name t ts e =
     let is : start (Some t) ≡ classes.a_name t.string_value = rw (kind_is kinds.Name t e) refl in
     ap (λ (v : Start). lone_by v (t ∷ ts)) is
 
-lone_alone : (t : Token) (ts : List Token) → is_kind kinds.Name (Some t) ≡ true → ends_name (head_of ts) ≡ true → lone (t ∷ ts) ≡ Ok (trees.name t.string_value, ts)
+lone_alone : (t : Token) (ts : List Token)
+    → is_kind kinds.Name (Some t) ≡ true
+    → ends_name (head_of ts) ≡ true
+    → lone (t ∷ ts) ≡ Ok (trees.name t.string_value, ts)
 lone_alone t [] e h = absurd cc
 lone_alone t (u ∷ ts) e h =
     let d : Ended (Some u) = ended_at u h in
@@ -197,7 +212,11 @@ lone_names = record {
       subst (λ (x : Read Expression). Within x (length ts)) (sym (lone_at_name t ts e)) (not_longer form form (lone_name_own t.string_value) ts);
 }
 
-behind_lone : (t : Token) (ts : List Token) → is_kind kinds.Name (Some t) ≡ true → (i : ℕ) → lone (t ∷ ts) ≡ Err (deep i) → DeepTo lone (t ∷ ts) i (length ts)
+behind_lone : (t : Token) (ts : List Token)
+    → is_kind kinds.Name (Some t) ≡ true
+    → (i : ℕ)
+    → lone (t ∷ ts) ≡ Err (deep i)
+    → DeepTo lone (t ∷ ts) i (length ts)
 behind_lone t ts n i e =
     let form : Reader Expression = λ r. lone_name t.string_value (is_arrow (head_of r)) r in
     let c = deep_to_all form ts i ((lone_name_deepens (length ts) t.string_value).at ts (omega arith) i (sym (lone_at_name t ts n) ∙ e)) in

@@ -22,7 +22,11 @@ use Rattle.js_grammar.proofs.Locality.{step}
 
 -- ---- assignments that begin with no parenthesis
 
-pub behind_deepens : (b : Below) (m : ℕ) → Pair b b → DeepBelow b → (n : ℕ) (e : Expression) → Deepens n (λ ts. behind b m e ts)
+pub behind_deepens : (b : Below) (m : ℕ)
+    → Pair b b
+    → DeepBelow b
+    → (n : ℕ) (e : Expression)
+    → Deepens n (λ ts. behind b m e ts)
 behind_deepens b m p d n e =
     let same : m ≤ m = omega arith in
     let one : Reader Expression = λ ts. links b m (suc m) e ts in
@@ -37,7 +41,11 @@ behind_deepens b m p d n e =
     (λ f. chain_deepens b m 3 p d n m f (omega (arith, height_positive f))))
     (λ f. joined_deepens b m p d n f)
 
-pub named_deepens : (b : Below) (m : ℕ) → Pair b b → DeepBelow b → (n : ℕ) (s : Identifier) → Deepens n (λ ts. named_form b m s (is_arrow (head_of ts)) ts)
+pub named_deepens : (b : Below) (m : ℕ)
+    → Pair b b
+    → DeepBelow b
+    → (n : ℕ) (s : Identifier)
+    → Deepens n (λ ts. named_form b m s (is_arrow (head_of ts)) ts)
 named_deepens b m p d n s = deep_peeks_all n is_arrow (λ v ts. named_form b m s v ts) (elim [
   | true ↦ arrow_rest_deepens b p d n (trees.one_name s) (s ∷ [])
   | false ↦ behind_deepens b m p d n (trees.name s)
@@ -46,20 +54,36 @@ named_deepens b m p d n s = deep_peeks_all n is_arrow (λ v ts. named_form b m s
 plain_deepens : (b : Below) (m : ℕ) → Pair b b → DeepBelow b → (n : ℕ) → Deepens n (λ ts. plain_form b m ts)
 plain_deepens b m p d n = deep_then n (λ ts. operation b m 3 ts) (λ e ts. joined b m e ts) (operation_follows b b m m (omega arith) p 3) (operation_deepens b m p d n 3) (joined_deepens b m p d n)
 
-form_deepens : (b : Below) (m : ℕ) → Pair b b → DeepBelow b → (n : ℕ) → Deepens n (paren_at b m) → (v : Start) → Deepens n (λ ts. assignment_form b m v ts)
+form_deepens : (b : Below) (m : ℕ)
+    → Pair b b
+    → DeepBelow b
+    → (n : ℕ)
+    → Deepens n (paren_at b m)
+    → (v : Start)
+    → Deepens n (λ ts. assignment_form b m v ts)
 form_deepens b m p d n h (classes.a_name s) = deep_past n (λ ts. named_form b m s (is_arrow (head_of ts)) ts) (named_deepens b m p d n s)
 form_deepens b m p d n h classes.parenthesis = deep_past n (paren_at b m) h
 form_deepens b m p d n h _ = plain_deepens b m p d n
 
 -- an assignment keeps it where what stands behind a parenthesis does
-pub assignment_deepens : (b : Below) (m : ℕ) → Pair b b → DeepBelow b → (n : ℕ) → Deepens n (paren_at b m) → Deepens n (λ ts. assignment b m ts)
+pub assignment_deepens : (b : Below) (m : ℕ)
+    → Pair b b
+    → DeepBelow b
+    → (n : ℕ)
+    → Deepens n (paren_at b m)
+    → Deepens n (λ ts. assignment b m ts)
 assignment_deepens b m p d n h = deep_as n (λ ts. assignment_form b m (start (head_of ts)) ts) (λ ts. assignment b m ts) (assignment_is b m)
     (deep_peeks_all n start (λ v ts. assignment_form b m v ts) (form_deepens b m p d n h))
 
 -- ---- one step up
 
 -- What reads trees one higher keeps it, where what stands behind a parenthesis does.
-pub one_more : (b : Below) (m : ℕ) → Pair b b → FollowsBelow (step b m) (step b m) → DeepBelow b → ((n : ℕ) → Deepens n (paren_at b m)) → DeepBelow (step b m)
+pub one_more : (b : Below) (m : ℕ)
+    → Pair b b
+    → FollowsBelow (step b m) (step b m)
+    → DeepBelow b
+    → ((n : ℕ) → Deepens n (paren_at b m))
+    → DeepBelow (step b m)
 one_more b m p up d h = record {
   assignment = λ n. assignment_deepens b m p d n (h n);
   expression = λ n. expression_deepens b m p d n up.assignment (assignment_deepens b m p d n (h n));

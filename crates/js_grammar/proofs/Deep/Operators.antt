@@ -28,17 +28,28 @@ use Rattle.js_grammar.proofs.Deep.Expressions.{primary_deepens, updated_deepens}
 abbrev as_made : {A V : Type 0} → (V → A) → Read V → Read A
 as_made make x = x >>= λ y. Ok (make y.0, y.1)
 
-goes_on_by : {A B V : Type 0} (x : Read V) (make : V → A) (go : A → Reader B) → (as_made make x >>= λ z. go z.0 z.1) ≡ (x >>= λ y. go (make y.0) y.1)
+goes_on_by : {A B V : Type 0} (x : Read V) (make : V → A) (go : A → Reader B)
+    → (as_made make x >>= λ z. go z.0 z.1) ≡ (x >>= λ y. go (make y.0) y.1)
 goes_on_by (Ok y) make go = refl
 goes_on_by (Err e) make go = refl
 
-made_on : (b : Below) → Pair b b → DeepBelow b → (n : ℕ) (is : List Item) (make : Values is → Expression) (go : Expression → Reader Expression) → ((v : Values is) → Deepens n (go (make v))) → Deepens n (λ ts. made b is make ts >>= λ x. go x.0 x.1)
+made_on : (b : Below)
+    → Pair b b
+    → DeepBelow b
+    → (n : ℕ) (is : List Item) (make : Values is → Expression) (go : Expression → Reader Expression)
+    → ((v : Values is) → Deepens n (go (make v)))
+    → Deepens n (λ ts. made b is make ts >>= λ x. go x.0 x.1)
 made_on b p d n is make go h =
     deep_as n (λ ts. seq b is ts >>= λ y. go (make y.0) y.1) (λ ts. made b is make ts >>= λ x. go x.0 x.1) (λ ts. goes_on_by (seq b is ts) make go)
     (deep_then n (λ ts. seq b is ts) (λ v ts. go (make v) ts) (seq_follows b b p is) (seq_deepens b p d n is) h)
 
 -- each form is one higher
-linked_on : (b : Below) → Pair b b → DeepBelow b → (n : ℕ) (e : Expression) (l : Link) (go : Expression → Reader Expression) → ((f : Expression) → suc (height e) ≤ height f → Deepens n (go f)) → Deepens n (λ ts. linked_by b e l ts >>= λ x. go x.0 x.1)
+linked_on : (b : Below)
+    → Pair b b
+    → DeepBelow b
+    → (n : ℕ) (e : Expression) (l : Link) (go : Expression → Reader Expression)
+    → ((f : Expression) → suc (height e) ≤ height f → Deepens n (go f))
+    → Deepens n (λ ts. linked_by b e l ts >>= λ x. go x.0 x.1)
 linked_on b p d n e dot go h =
     deep_as n (λ ts. word_at (tail_of ts) >>= λ y. go (trees.member e y.0) y.1) (λ ts. linked_by b e dot ts >>= λ x. go x.0 x.1) (λ ts. goes_on_by (word_at (tail_of ts)) (λ w. trees.member e w) go)
     (deep_then n (λ ts. word_at (tail_of ts)) (λ w ts. go (trees.member e w) ts) (past (λ ts. word_at ts) (λ ts. word_at ts) word_follows) (deep_past n (λ ts. word_at ts) (word_deepens n)) (λ w. h (trees.member e w) (omega arith)))
@@ -47,14 +58,21 @@ linked_on b p d n e classes.arguments go h = made_on b p d n (tok kinds.LeftPare
 linked_on b p d n e no_link go h = quiet n (λ ts. Err (stuck (length ts))) (λ ts j e. absurd cc)
 
 -- A test that holds can be used behind it.
-limit_with : {A : Type 0} (n h k : ℕ) (f : Reader A) → (h ≤ k → Deepens n f) → DeepensOn n (λ ts. cond (nat_le h k) (f ts) (Err (deep (length (tail_of ts)))))
+limit_with : {A : Type 0} (n h k : ℕ) (f : Reader A)
+    → (h ≤ k → Deepens n f)
+    → DeepensOn n (λ ts. cond (nat_le h k) (f ts) (Err (deep (length (tail_of ts)))))
 limit_with {A} n h k f g = by_test (nat_le h k) refl
   where
     by_test : (v : Bool) → nat_le h k ≡ v → DeepensOn n (λ ts. cond v (f ts) (Err (deep (length (tail_of ts)))))
     by_test true e = on n f (g (leb-true h k e))
     by_test false e = record { at = λ t ts l j q. record { before = []; here = t; left = ts; parts = refl; counted = deep_is {A = A} (length ts) j q; never = λ r x o. absurd cc } }
 
-link_turn : (b : Below) (m : ℕ) → Pair b b → DeepBelow b → (n : ℕ) (e : Expression) (go : Expression → Reader Expression) → (height e ≤ m → (f : Expression) → suc (height e) ≤ height f → Deepens n (go f)) → Deepens n (λ ts. links_by b m go e (link (head_of ts)) ts)
+link_turn : (b : Below) (m : ℕ)
+    → Pair b b
+    → DeepBelow b
+    → (n : ℕ) (e : Expression) (go : Expression → Reader Expression)
+    → (height e ≤ m → (f : Expression) → suc (height e) ≤ height f → Deepens n (go f))
+    → Deepens n (λ ts. links_by b m go e (link (head_of ts)) ts)
 link_turn b m p d n e go h = deep_peeks n link (λ v ts. links_by b m go e v ts) (λ j e. absurd cc) (elim [
   | no_link ↦ on n (λ ts. Ok (e, ts)) (deep_gives n e)
   | dot ↦ turn dot
@@ -62,11 +80,17 @@ link_turn b m p d n e go h = deep_peeks n link (λ v ts. links_by b m go e v ts)
   | classes.arguments ↦ turn classes.arguments
 ])
   where
-    turn : (l : Link) → DeepensOn n (λ ts. cond (nat_le (height e) m) (linked_by b e l ts >>= λ x. go x.0 x.1) (Err (deep (length (tail_of ts)))))
+    turn : (l : Link)
+        → DeepensOn n (λ ts. cond (nat_le (height e) m) (linked_by b e l ts >>= λ x. go x.0 x.1) (Err (deep (length (tail_of ts)))))
     turn l = limit_with n (height e) m (λ ts. linked_by b e l ts >>= λ x. go x.0 x.1) (λ le. linked_on b p d n e l go (h le))
 
 -- the turns suffice, since each makes a tree one higher
-pub links_deepens : (b : Below) (m : ℕ) → Pair b b → DeepBelow b → (n k : ℕ) (e : Expression) → suc m ≤ k + height e → Deepens n (λ ts. links b m (suc k) e ts)
+pub links_deepens : (b : Below) (m : ℕ)
+    → Pair b b
+    → DeepBelow b
+    → (n k : ℕ) (e : Expression)
+    → suc m ≤ k + height e
+    → Deepens n (λ ts. links b m (suc k) e ts)
 unfolding links
 links_deepens b m p d n zero e low = link_turn b m p d n e (λ f r. links b m zero f r) (λ le f g. absurd (omega (arith, le, low)))
 links_deepens b m p d n (suc k) e low = link_turn b m p d n e (λ f r. links b m (suc k) f r) (λ le f g. links_deepens b m p d n k f (omega (arith, low, g)))
@@ -94,7 +118,12 @@ unary_deepens b m p d n = deep_peeks_all n prefix (λ v ts. unary_by b m v ts) (
   | no_prefix ↦ postfix_deepens b m p d n
 ])
 
-chain_turn : (b : Below) (m low : ℕ) → Pair b b → DeepBelow b → (n : ℕ) (l : Expression) (go : Expression → Reader Expression) → (height l ≤ m → (f : Expression) → suc (height l) ≤ height f → Deepens n (go f)) → Deepens n (λ ts. chain_by b m go l (operator_from low (operator (head_of ts))) ts)
+chain_turn : (b : Below) (m low : ℕ)
+    → Pair b b
+    → DeepBelow b
+    → (n : ℕ) (l : Expression) (go : Expression → Reader Expression)
+    → (height l ≤ m → (f : Expression) → suc (height l) ≤ height f → Deepens n (go f))
+    → Deepens n (λ ts. chain_by b m go l (operator_from low (operator (head_of ts))) ts)
 chain_turn b m low p d n l go h = deep_peeks n (λ o. operator_from low (operator o)) (λ v ts. chain_by b m go l v ts) (λ j e. absurd cc) (elim [
   | None ↦ on n (λ ts. Ok (l, ts)) (deep_gives n l)
   | Some o ↦ limit_with n (height l) m (λ ts. b.operation (suc (strength o)) (tail_of ts) >>= λ x. go (trees.binary o l x.0) x.1)
@@ -102,24 +131,43 @@ chain_turn b m low p d n l go h = deep_peeks n (λ o. operator_from low (operato
       (deep_past n (λ ts. b.operation (suc (strength o)) ts) (d.operation n (suc (strength o)))) (λ r. h le (trees.binary o l r) (omega arith)))
 ])
 
-pub chain_deepens : (b : Below) (m low : ℕ) → Pair b b → DeepBelow b → (n k : ℕ) (l : Expression) → suc m ≤ k + height l → Deepens n (λ ts. chain b m low (suc k) l ts)
+pub chain_deepens : (b : Below) (m low : ℕ)
+    → Pair b b
+    → DeepBelow b
+    → (n k : ℕ) (l : Expression)
+    → suc m ≤ k + height l
+    → Deepens n (λ ts. chain b m low (suc k) l ts)
 unfolding chain
 chain_deepens b m low p d n zero l e = chain_turn b m low p d n l (λ f r. chain b m low zero f r) (λ le f g. absurd (omega (arith, le, e)))
 chain_deepens b m low p d n (suc k) l e = chain_turn b m low p d n l (λ f r. chain b m low (suc k) f r) (λ le f g. chain_deepens b m low p d n k f (omega (arith, e, g)))
 
-pub operation_deepens : (b : Below) (m : ℕ) → Pair b b → DeepBelow b → (n low : ℕ) → Deepens n (λ ts. operation b m low ts)
+pub operation_deepens : (b : Below) (m : ℕ)
+    → Pair b b
+    → DeepBelow b
+    → (n low : ℕ)
+    → Deepens n (λ ts. operation b m low ts)
 unfolding operation
 operation_deepens b m p d n low = deep_then n (λ ts. unary b m ts) (λ e ts. chain b m low (suc m) e ts) (unary_follows b b m m (omega arith) p) (unary_deepens b m p d n) (λ e. chain_deepens b m low p d n m e (omega (arith, height_positive e)))
 
 -- ---- expressions
 
-pub comma_deepens : (b : Below) (m : ℕ) → Pair b b → DeepBelow b → (n : ℕ) (e : Expression) → Deepens n (λ ts. comma_by b m e (is_kind kinds.Comma (head_of ts)) ts)
+pub comma_deepens : (b : Below) (m : ℕ)
+    → Pair b b
+    → DeepBelow b
+    → (n : ℕ) (e : Expression)
+    → Deepens n (λ ts. comma_by b m e (is_kind kinds.Comma (head_of ts)) ts)
 comma_deepens b m p d n e = deep_peeks n (λ o. is_kind kinds.Comma o) (λ v ts. comma_by b m e v ts) (λ j e. absurd cc) (elim [
   | true ↦ limit_with n (height e) m (λ ts. more_assignments b ts >>= λ x. Ok (trees.comma (trees.an_expression e x.0), x.1)) (λ le. deep_makes n (λ ts. more_assignments b ts) (λ es. trees.comma (trees.an_expression e es)) (more_assignments_follows b b p) (more_assignments_deepens b p d n))
   | false ↦ on n (λ ts. Ok (e, ts)) (deep_gives n e)
 ])
 
 -- an expression keeps it where an assignment does
-pub expression_deepens : (b : Below) (m : ℕ) → Pair b b → DeepBelow b → (n : ℕ) → Follows (λ ts. assignment b m ts) (λ ts. assignment b m ts) → Deepens n (λ ts. assignment b m ts) → Deepens n (λ ts. expression b m ts)
+pub expression_deepens : (b : Below) (m : ℕ)
+    → Pair b b
+    → DeepBelow b
+    → (n : ℕ)
+    → Follows (λ ts. assignment b m ts) (λ ts. assignment b m ts)
+    → Deepens n (λ ts. assignment b m ts)
+    → Deepens n (λ ts. expression b m ts)
 unfolding expression
 expression_deepens b m p d n h a = deep_then n (λ ts. assignment b m ts) (λ e ts. comma_by b m e (is_kind kinds.Comma (head_of ts)) ts) h a (λ e. comma_deepens b m p d n e)

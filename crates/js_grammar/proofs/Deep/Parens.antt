@@ -27,7 +27,14 @@ abbrev pub Low : Expression → Type 0
 Low e = height e ≤ 1
 
 -- too deep behind a name
-behind_name : (b : Below) (m : ℕ) → Pair b b → DeepBelow b → (t : Token) (ts : List Token) → is_kind kinds.Name (Some t) ≡ true → (i : ℕ) → assignment b m (t ∷ ts) ≡ Err (deep i) → DeepTo (λ r. assignment b m r) (t ∷ ts) i (length ts)
+behind_name : (b : Below) (m : ℕ)
+    → Pair b b
+    → DeepBelow b
+    → (t : Token) (ts : List Token)
+    → is_kind kinds.Name (Some t) ≡ true
+    → (i : ℕ)
+    → assignment b m (t ∷ ts) ≡ Err (deep i)
+    → DeepTo (λ r. assignment b m r) (t ∷ ts) i (length ts)
 behind_name b m p d t ts n i e =
     let form : Reader Expression = λ r. named_form b m t.string_value (is_arrow (head_of r)) r in
     let c = deep_to_all form ts i ((named_deepens b m p d (length ts) t.string_value).at ts (omega arith) i (sym (named_assignment b m t ts n) ∙ e)) in
@@ -43,7 +50,12 @@ behind_name b m p d t ts n i e =
       near = c.near;
     }
 
-pub assignment_sure : (b : Below) (m : ℕ) → Pair b b → Spans b → DeepBelow b → ((n : ℕ) → Deepens n (λ ts. assignment b m ts)) → Sure Low (λ ts. assignment b m ts)
+pub assignment_sure : (b : Below) (m : ℕ)
+    → Pair b b
+    → Spans b
+    → DeepBelow b
+    → ((n : ℕ) → Deepens n (λ ts. assignment b m ts))
+    → Sure Low (λ ts. assignment b m ts)
 assignment_sure b m p s d h = record {
   names = assignment_names b m p s;
   keeps = h;
@@ -51,7 +63,13 @@ assignment_sure b m p s d h = record {
   behind = behind_name b m p d;
 }
 
-more_deep : (b : Below) → Sure Low b.assignment → (ts : List Token) → listed_by (past_names false ts) ≡ no_arrow → (i : ℕ) → more_assignments b ts ≡ Err (deep i) → DeepTo (λ r. more_assignments b r) ts i (length (scan_end false ts))
+more_deep : (b : Below)
+    → Sure Low b.assignment
+    → (ts : List Token)
+    → listed_by (past_names false ts) ≡ no_arrow
+    → (i : ℕ)
+    → more_assignments b ts ≡ Err (deep i)
+    → DeepTo (λ r. more_assignments b r) ts i (length (scan_end false ts))
 unfolding more_assignments
 more_deep b s ts q i e = lift_first (others_of b.assignment) (λ xs r. Ok (expressions xs, r)) ts i (length (scan_end false ts)) (others_deep Low b.assignment s (length ts) ts (omega arith) q i (made_deep (others_of b.assignment ts) expressions i e))
 
@@ -62,10 +80,25 @@ at_comma b m e ts = comma_by b m e (is_kind kinds.Comma (head_of ts)) ts
 abbrev comma_of : Below → Expression → Reader Expression
 comma_of b e ts = more_assignments b ts >>= λ x. Ok (trees.comma (trees.an_expression e x.0), x.1)
 
-comma_is : (b : Below) (m : ℕ) (e : Expression) → nat_le (height e) m ≡ true → (ts : List Token) → is_kind kinds.Comma (head_of ts) ≡ true → at_comma b m e ts ≡ comma_of b e ts
+comma_is : (b : Below) (m : ℕ) (e : Expression)
+    → nat_le (height e) m ≡ true
+    → (ts : List Token)
+    → is_kind kinds.Comma (head_of ts) ≡ true
+    → at_comma b m e ts ≡ comma_of b e ts
 comma_is b m e low ts c = rw (c, low) refl
 
-pub comma_deep : (b : Below) (m : ℕ) → Sure Low b.assignment → 1 ≤ m → (e : Expression) → Low e → (ts : List Token) → listed_by (past_names false ts) ≡ no_arrow → (v : Bool) → is_kind kinds.Comma (head_of ts) ≡ v → (i : ℕ) → at_comma b m e ts ≡ Err (deep i) → DeepTo (at_comma b m e) ts i (length (scan_end false ts))
+pub comma_deep : (b : Below) (m : ℕ)
+    → Sure Low b.assignment
+    → 1 ≤ m
+    → (e : Expression)
+    → Low e
+    → (ts : List Token)
+    → listed_by (past_names false ts) ≡ no_arrow
+    → (v : Bool)
+    → is_kind kinds.Comma (head_of ts) ≡ v
+    → (i : ℕ)
+    → at_comma b m e ts ≡ Err (deep i)
+    → DeepTo (at_comma b m e) ts i (length (scan_end false ts))
 comma_deep b m s le e low ts q false c i z =
     let y : comma_by b m e false ts ≡ Err (deep i) = ap (λ (v : Bool). comma_by b m e v ts) (sym c) ∙ z in
     absurd cc
@@ -89,7 +122,17 @@ comma_deep b m s le e low ts q true c i z =
     }
 
 -- An expression that is too deep behind a parenthesis is so behind the names there.
-pub expression_deep : (b : Below) (m : ℕ) → Pair b b → DeepBelow b → 1 ≤ m → Sure Low (λ ts. assignment b m ts) → Sure Low b.assignment → (ts : List Token) → listed_by (past_names true ts) ≡ no_arrow → (i : ℕ) → expression b m ts ≡ Err (deep i) → DeepTo (λ r. expression b m r) ts i (length (scan_end true ts))
+pub expression_deep : (b : Below) (m : ℕ)
+    → Pair b b
+    → DeepBelow b
+    → 1 ≤ m
+    → Sure Low (λ ts. assignment b m ts)
+    → Sure Low b.assignment
+    → (ts : List Token)
+    → listed_by (past_names true ts) ≡ no_arrow
+    → (i : ℕ)
+    → expression b m ts ≡ Err (deep i)
+    → DeepTo (λ r. expression b m r) ts i (length (scan_end true ts))
 unfolding expression
 expression_deep b m p d le one two ts q i e =
     names_deep Low (λ r. assignment b m r) one (at_comma b m) (comma_follows b b m m (omega arith) p) (λ n f. comma_deepens b m p d n f) ts q

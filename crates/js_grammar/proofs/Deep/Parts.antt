@@ -86,20 +86,29 @@ semicolon_deepens n end = quiet n (λ ts. semicolon_at end ts) (λ ts j e. semic
 
 -- ---- lists
 
-go_after_deepens : {A : Type 0} (n : ℕ) (closer : TokenKind) (go : Reader (List A)) → ((m : ℕ) → suc m ≤ n → Deepens m go) → Deepens n (λ ts. go_after go (after closer (head_of ts)) ts)
+go_after_deepens : {A : Type 0} (n : ℕ) (closer : TokenKind) (go : Reader (List A))
+    → ((m : ℕ) → suc m ≤ n → Deepens m go)
+    → Deepens n (λ ts. go_after go (after closer (head_of ts)) ts)
 go_after_deepens n closer go q = deep_peeks n (λ o. after closer o) (λ a ts. go_after go a ts) (λ j e. absurd cc) (elim [
   | goes_on ↦ deep_past_on n go q
   | ends ↦ on n (λ ts. Ok ([], tail_of ts)) (deep_token n [])
   | neither ↦ on n (λ ts. Err (stuck (length ts))) (deep_sticks n)
 ])
 
-pub elements_deepens : {S A : Type 0} (one : S → Reader A) (next : S → A → S) (closer : TokenKind) → ((s : S) → Follows (one s) (one s)) → ((n : ℕ) (s : S) → Deepens n (one s)) → (n : ℕ) (s : S) → Deepens n (λ ts. elements one next closer (suc (length ts)) s ts)
+pub elements_deepens : {S A : Type 0} (one : S → Reader A) (next : S → A → S) (closer : TokenKind)
+    → ((s : S) → Follows (one s) (one s))
+    → ((n : ℕ) (s : S) → Deepens n (one s))
+    → (n : ℕ) (s : S)
+    → Deepens n (λ ts. elements one next closer (suc (length ts)) s ts)
 elements_deepens {S} {A} one next closer h d n s = deep_loops (elements_body one next closer) (λ k s ts. elements one next closer k s ts) (elements_turns one next closer) (elements_local one next closer (λ s. shortens (one s) (one s) (h s))) turn n s
   where
     go : S → Reader (List A)
     go s ts = elements one next closer (suc (length ts)) s ts
 
-    turn : (n : ℕ) → ((m : ℕ) → suc m ≤ n → (s : S) → Deepens m (λ ts. go s ts)) → (s : S) → Deepens n (elements_body one next closer go s)
+    turn : (n : ℕ)
+        → ((m : ℕ) → suc m ≤ n → (s : S) → Deepens m (λ ts. go s ts))
+        → (s : S)
+        → Deepens n (elements_body one next closer go s)
     turn n q s = deep_peeks_all n (λ o. is_kind closer o) (λ c ts. elements_by one next go closer s c ts) (elim [
       | true ↦ deep_token n []
       | false ↦ deep_then n (one s) (λ a ts. go_after (go (next s a)) (after closer (head_of ts)) ts >>= λ y. Ok (a ∷ y.0, y.1)) (h s) (d n s)
@@ -107,20 +116,32 @@ elements_deepens {S} {A} one next closer h d n s = deep_loops (elements_body one
           (go_after_deepens n closer (go (next s a)) (λ m l. q m l (next s a))))
     ])
 
-pub others_deepens : {S A : Type 0} (one : S → Reader A) (next : S → A → S) → ((s : S) → Follows (one s) (one s)) → ((n : ℕ) (s : S) → Deepens n (one s)) → (n : ℕ) (s : S) → Deepens n (λ ts. others one next (suc (length ts)) s ts)
+pub others_deepens : {S A : Type 0} (one : S → Reader A) (next : S → A → S)
+    → ((s : S) → Follows (one s) (one s))
+    → ((n : ℕ) (s : S) → Deepens n (one s))
+    → (n : ℕ) (s : S)
+    → Deepens n (λ ts. others one next (suc (length ts)) s ts)
 others_deepens {S} {A} one next h d n s = deep_loops (others_body one next) (λ k s ts. others one next k s ts) (others_turns one next) (others_local one next (λ s. shortens (one s) (one s) (h s))) turn n s
   where
     go : S → Reader (List A)
     go s ts = others one next (suc (length ts)) s ts
 
-    turn : (n : ℕ) → ((m : ℕ) → suc m ≤ n → (s : S) → Deepens m (λ ts. go s ts)) → (s : S) → Deepens n (others_body one next go s)
+    turn : (n : ℕ)
+        → ((m : ℕ) → suc m ≤ n → (s : S) → Deepens m (λ ts. go s ts))
+        → (s : S)
+        → Deepens n (others_body one next go s)
     turn n q s = deep_peeks n (λ o. is_kind kinds.Comma o) (λ c ts. others_by one next go s c ts) (λ j e. absurd cc) (elim [
       | true ↦ deep_past_on n (λ us. one s us >>= λ x. go (next s x.0) x.1 >>= λ y. Ok (x.0 ∷ y.0, y.1)) (λ m l. deep_then m (one s) (λ a us. go (next s a) us >>= λ y. Ok (a ∷ y.0, y.1)) (h s) (d m s)
           (λ a. deep_makes m (go (next s a)) (λ ys. a ∷ ys) (others_follows one one next h (λ s. shortens (one s) (one s) (h s)) (next s a)) (q m l (next s a))))
       | false ↦ on n (λ ts. Ok ([], ts)) (deep_gives n [])
     ])
 
-pub items_deepens : {S A : Type 0} (one : S → Reader A) (next : S → A → S) → ((s : S) → Follows (one s) (one s)) → ((s : S) → Takes (one s)) → ((n : ℕ) (s : S) → Deepens n (one s)) → (n : ℕ) (s : S) → Deepens n (λ ts. items one next (suc (length ts)) s ts)
+pub items_deepens : {S A : Type 0} (one : S → Reader A) (next : S → A → S)
+    → ((s : S) → Follows (one s) (one s))
+    → ((s : S) → Takes (one s))
+    → ((n : ℕ) (s : S) → Deepens n (one s))
+    → (n : ℕ) (s : S)
+    → Deepens n (λ ts. items one next (suc (length ts)) s ts)
 items_deepens {S} {A} one next h takes d n s = deep_loops (items_body one next) (λ k s ts. items one next k s ts) (items_turns one next) (items_local one next takes) turn n s
   where
     go : S → Reader (List A)
@@ -129,13 +150,19 @@ items_deepens {S} {A} one next h takes d n s = deep_loops (items_body one next) 
     less : (m : ℕ) (s : S) (ts : List Token) (x : A × List Token) → length ts ≤ suc m → one s ts ≡ Ok x → length x.1 ≤ m
     less m s ts x l e = omega (arith, takes s ts x e)
 
-    by_bound : (n : ℕ) → ((m : ℕ) → suc m ≤ n → (s : S) → Deepens m (λ ts. go s ts)) → (s : S) → DeepensOn n (λ ts. one s ts >>= λ x. go (next s x.0) x.1 >>= λ y. Ok (x.0 ∷ y.0, y.1))
+    by_bound : (n : ℕ)
+        → ((m : ℕ) → suc m ≤ n → (s : S) → Deepens m (λ ts. go s ts))
+        → (s : S)
+        → DeepensOn n (λ ts. one s ts >>= λ x. go (next s x.0) x.1 >>= λ y. Ok (x.0 ∷ y.0, y.1))
     by_bound zero q s = record { at = λ t ts l j e. absurd (omega arith) }
     by_bound (suc m) q s = on (suc m) (λ ts. one s ts >>= λ x. go (next s x.0) x.1 >>= λ y. Ok (x.0 ∷ y.0, y.1))
         (deep_binds (suc m) m (one s) (λ a ts. go (next s a) ts >>= λ y. Ok (a ∷ y.0, y.1)) (h s) (less m s) (d (suc m) s)
         (λ a. deep_makes m (go (next s a)) (λ ys. a ∷ ys) (items_follows one one next h takes (next s a)) (q m (omega arith) (next s a))))
 
-    turn : (n : ℕ) → ((m : ℕ) → suc m ≤ n → (s : S) → Deepens m (λ ts. go s ts)) → (s : S) → Deepens n (items_body one next go s)
+    turn : (n : ℕ)
+        → ((m : ℕ) → suc m ≤ n → (s : S) → Deepens m (λ ts. go s ts))
+        → (s : S)
+        → Deepens n (items_body one next go s)
     turn n q s = deep_peeks n ends_list (λ c ts. items_by one next go s c ts) (λ j e. absurd cc) (elim [
       | true ↦ on n (λ ts. Ok ([], ts)) (deep_gives n [])
       | false ↦ by_bound n q s
@@ -143,7 +170,11 @@ items_deepens {S} {A} one next h takes d n s = deep_loops (items_body one next) 
 
 -- ---- lists of trees
 
-pub arguments_deepens : (b : Below) → Pair b b → DeepBelow b → (n : ℕ) (closer : TokenKind) → Deepens n (λ ts. arguments_before b closer ts)
+pub arguments_deepens : (b : Below)
+    → Pair b b
+    → DeepBelow b
+    → (n : ℕ) (closer : TokenKind)
+    → Deepens n (λ ts. arguments_before b closer ts)
 unfolding arguments_before
 arguments_deepens b p d n closer =
     deep_makes n (λ ts. elements (one_of b.assignment) no_state closer (suc (length ts)) tt ts) expressions
@@ -163,14 +194,22 @@ parameters_deepens n =
     deep_then n (λ ts. expect kinds.LeftParenthesis ts) (λ o ts. elements (λ s r. fresh_name s r) with_name kinds.RightParenthesis (suc (length ts)) [] ts) (expect_follows kinds.LeftParenthesis) (expect_deepens n kinds.LeftParenthesis)
     (λ o. elements_deepens (λ s r. fresh_name s r) with_name kinds.RightParenthesis fresh_follows (λ n s. fresh_deepens n s) n [])
 
-pub items_at_deepens : (b : Below) → Pair b b → DeepBelow b → (n : ℕ) (context : Context) (taken : List Identifier) → Deepens n (λ ts. items_at b context taken ts)
+pub items_at_deepens : (b : Below)
+    → Pair b b
+    → DeepBelow b
+    → (n : ℕ) (context : Context) (taken : List Identifier)
+    → Deepens n (λ ts. items_at b context taken ts)
 unfolding items_at
 items_at_deepens b p d n context taken =
     deep_makes n (λ ts. items (λ names r. b.item context names r) with_declared (suc (length ts)) taken ts) statements
     (items_follows (λ names r. b.item context names r) (λ names r. b.item context names r) with_declared (λ names. p.both.item context names) (λ names. p.takes context names) taken)
     (items_deepens (λ names r. b.item context names r) with_declared (λ names. p.both.item context names) (λ names. p.takes context names) (λ n names. d.item n context names) n taken)
 
-pub braces_deepens : (b : Below) → Pair b b → DeepBelow b → (n : ℕ) (context : Context) (taken : List Identifier) → Deepens n (λ ts. braces b context taken ts)
+pub braces_deepens : (b : Below)
+    → Pair b b
+    → DeepBelow b
+    → (n : ℕ) (context : Context) (taken : List Identifier)
+    → Deepens n (λ ts. braces b context taken ts)
 unfolding braces
 braces_deepens b p d n context taken =
     deep_then n (λ ts. expect kinds.LeftBrace ts) (λ o ts. items_at b context taken ts >>= λ x. expect kinds.RightBrace x.1 >>= λ y. Ok (x.0, y.1)) (expect_follows kinds.LeftBrace) (expect_deepens n kinds.LeftBrace)
@@ -185,7 +224,11 @@ code_deepens b p d n =
 
 -- ---- declared names
 
-pub initializer_deepens : (b : Below) → Pair b b → DeepBelow b → (n : ℕ) (constant : Bool) (s : Identifier) → Deepens n (λ ts. initializer_by b constant s (is_kind kinds.Assign (head_of ts)) ts)
+pub initializer_deepens : (b : Below)
+    → Pair b b
+    → DeepBelow b
+    → (n : ℕ) (constant : Bool) (s : Identifier)
+    → Deepens n (λ ts. initializer_by b constant s (is_kind kinds.Assign (head_of ts)) ts)
 initializer_deepens b p d n constant s = deep_peeks_all n (λ o. is_kind kinds.Assign o) (λ v ts. initializer_by b constant s v ts) (elim [
   | true ↦ deep_makes n (λ ts. b.assignment (tail_of ts)) (λ e. trees.declarator s (trees.present e)) (past b.assignment b.assignment p.both.assignment) (deep_past n b.assignment (d.assignment n))
   | false ↦ without constant
@@ -195,12 +238,20 @@ initializer_deepens b p d n constant s = deep_peeks_all n (λ o. is_kind kinds.A
     without true = deep_sticks n
     without false = deep_gives n (trees.declarator s trees.omitted)
 
-pub declarator_deepens : (b : Below) → Pair b b → DeepBelow b → (n : ℕ) (constant : Bool) (taken : List Identifier) → Deepens n (λ ts. declarator_at b constant taken ts)
+pub declarator_deepens : (b : Below)
+    → Pair b b
+    → DeepBelow b
+    → (n : ℕ) (constant : Bool) (taken : List Identifier)
+    → Deepens n (λ ts. declarator_at b constant taken ts)
 unfolding declarator_at
 declarator_deepens b p d n constant taken =
     deep_then n (λ ts. fresh_name taken ts) (λ s ts. initializer_by b constant s (is_kind kinds.Assign (head_of ts)) ts) (fresh_follows taken) (fresh_deepens n taken) (λ s. initializer_deepens b p d n constant s)
 
-pub declarators_deepens : (b : Below) → Pair b b → DeepBelow b → (n : ℕ) (constant : Bool) (taken : List Identifier) → Deepens n (λ ts. declarators_at b constant taken ts)
+pub declarators_deepens : (b : Below)
+    → Pair b b
+    → DeepBelow b
+    → (n : ℕ) (constant : Bool) (taken : List Identifier)
+    → Deepens n (λ ts. declarators_at b constant taken ts)
 unfolding declarators_at
 declarators_deepens b p d n constant taken =
     let more : Declarator → Reader (List Declarator) = λ c ts. others (λ names r. declarator_at b constant names r) with_declarator (suc (length ts)) (with_declarator taken c) ts in
@@ -211,7 +262,11 @@ declarators_deepens b p d n constant taken =
 
 -- ---- expressions with what ends them
 
-pub optional_deepens : (b : Below) → Pair b b → DeepBelow b → (n : ℕ) (closer : TokenKind) → Deepens n (λ ts. optional_before b closer ts)
+pub optional_deepens : (b : Below)
+    → Pair b b
+    → DeepBelow b
+    → (n : ℕ) (closer : TokenKind)
+    → Deepens n (λ ts. optional_before b closer ts)
 unfolding optional_before
 optional_deepens b p d n closer = deep_peeks_all n (λ o. is_kind closer o) (λ v ts. optional_by b closer v ts) (elim [
   | true ↦ deep_token n trees.omitted
@@ -251,5 +306,9 @@ seq_deepens b p d n (i ∷ is) =
     deep_then n (λ ts. item b i ts) (λ v ts. seq b is ts >>= λ y. Ok ((v, y.0), y.1)) (item_follows b b p i) (item_deepens b p d n i)
     (λ v. deep_makes n (λ ts. seq b is ts) (λ vs. (v, vs)) (seq_follows b b p is) (seq_deepens b p d n is))
 
-pub made_deepens : {A : Type 0} (b : Below) → Pair b b → DeepBelow b → (n : ℕ) (is : List Item) (make : Values is → A) → Deepens n (λ ts. made b is make ts)
+pub made_deepens : {A : Type 0} (b : Below)
+    → Pair b b
+    → DeepBelow b
+    → (n : ℕ) (is : List Item) (make : Values is → A)
+    → Deepens n (λ ts. made b is make ts)
 made_deepens b p d n is make = deep_makes n (λ ts. seq b is ts) make (seq_follows b b p is) (seq_deepens b p d n is)

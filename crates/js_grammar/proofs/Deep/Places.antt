@@ -42,7 +42,9 @@ not_too_deep n ts h d =
     let low : height s.1 ≤ n = s.3 in
     omega (arith, deeper, low)
 
-shallow : (n : ℕ) (before rest : List Token) (t : Expression) → p.parse_expression n (before ++ rest) ≡ Ok t → Shallow n before
+shallow : (n : ℕ) (before rest : List Token) (t : Expression)
+    → p.parse_expression n (before ++ rest) ≡ Ok t
+    → Shallow n before
 shallow n before rest t e = let s = expression_read n (before ++ rest) t e in (rest, t, s.0, s.1)
 
 -- ---- two names in parentheses
@@ -70,7 +72,8 @@ unfolding p.parse_expression p.below p.expression p.assignment p.joined p.arrow_
 arrow_read = refl
 
 -- All first tokens of it begin an arrow function, which is no deeper than 1.
-pub names_not_too_deep : (p.parse_expression (1 + 1) two_names ≡ Err (r.deep 2)) × (TooDeepFrom IsExpression height two_names 1 → ⊥)
+pub names_not_too_deep : (p.parse_expression (1 + 1) two_names ≡ Err (r.deep 2))
+    × (TooDeepFrom IsExpression height two_names 1 → ⊥)
 names_not_too_deep = (
   names_deep,
   not_too_deep 1 two_names (

@@ -42,9 +42,16 @@ pub record Kept (n : ℕ) : Type 0 where
   pub deepens : DeepBelow (room n)
   pub alive : AliveBelow (room n)
   pub sure : Sure Low (room n).assignment
-  pub hides : (ts : List Token) → listed_by (past_names true ts) ≡ no_arrow → (i : ℕ) → (room n).expression ts ≡ Err (deep i) → DeepTo (room n).expression ts i (length (scan_end true ts))
+  pub hides : (ts : List Token)
+      → listed_by (past_names true ts) ≡ no_arrow
+      → (i : ℕ)
+      → (room n).expression ts ≡ Err (deep i)
+      → DeepTo (room n).expression ts i (length (scan_end true ts))
 
-takes_from : (n : ℕ) → FollowsBelow (room n) (below (raised n)) → (context : Context) (taken : List Identifier) → Takes (λ ts. (room n).item context taken ts)
+takes_from : (n : ℕ)
+    → FollowsBelow (room n) (below (raised n))
+    → (context : Context) (taken : List Identifier)
+    → Takes (λ ts. (room n).item context taken ts)
 takes_from n f context taken ts x e = item_takes (raised n) context taken ts x (answers_so (λ ts. (room n).item context taken ts) (λ ts. (below (raised n)).item context taken ts) (f.item context taken) ts x e)
 
 pub pair_own : (n : ℕ) → Kept n → Pair (room n) (room n)

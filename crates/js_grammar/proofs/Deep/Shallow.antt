@@ -32,14 +32,21 @@ use Rattle.js_grammar.proofs.Deep.Start.{begins_call, begins_operand, begins_by,
 abbrev pub at_class : {A : Type 0} → (Option Token → Bool) → Reader A
 at_class test ts = cond (test (head_of ts)) (Err (deep (length (tail_of ts)))) (Err (stuck (length ts)))
 
-either : {A : Type 0} (v : Bool) (ts : List Token) (x : A × List Token) → cond v (Err (deep (length (tail_of ts)))) (Err (stuck (length ts))) ≡ Ok x → ⊥
+either : {A : Type 0} (v : Bool) (ts : List Token) (x : A × List Token)
+    → cond v (Err (deep (length (tail_of ts)))) (Err (stuck (length ts))) ≡ Ok x
+    → ⊥
 either true ts x e = absurd cc
 either false ts x e = absurd cc
 
-pub class_none : {A : Type 0} (test : Option Token → Bool) (ts : List Token) (x : A × List Token) → at_class test ts ≡ Ok x → ⊥
+pub class_none : {A : Type 0} (test : Option Token → Bool) (ts : List Token) (x : A × List Token)
+    → at_class test ts ≡ Ok x
+    → ⊥
 class_none test ts x e = either (test (head_of ts)) ts x e
 
-pub class_deepens : {A : Type 0} (test : Option Token → Bool) → test None ≡ false → (n : ℕ) → Deepens {A = A} n (λ ts. at_class test ts)
+pub class_deepens : {A : Type 0} (test : Option Token → Bool)
+    → test None ≡ false
+    → (n : ℕ)
+    → Deepens {A = A} n (λ ts. at_class test ts)
 class_deepens {A} test none n = record {
   at = elim [
     | [] ↦ λ l k e. absurd (at_end (test None) none k e)
@@ -51,26 +58,42 @@ class_deepens {A} test none n = record {
     at_end true h k e = absurd cc
     at_end false h k e = absurd cc
 
-    by_test : (t : Token) (ts : List Token) (k : ℕ) (v : Bool) → test (Some t) ≡ v → cond v (Err (deep (length ts))) (Err (stuck (suc (length ts)))) ≡ faulty {A = A} (deep k) → DeepAt {A = A} (λ us. at_class test us) (t ∷ ts) k
+    by_test : (t : Token) (ts : List Token) (k : ℕ) (v : Bool)
+        → test (Some t) ≡ v
+        → cond v (Err (deep (length ts))) (Err (stuck (suc (length ts)))) ≡ faulty {A = A} (deep k)
+        → DeepAt {A = A} (λ us. at_class test us) (t ∷ ts) k
     by_test t ts k true h e = record { before = []; here = t; left = ts; parts = refl; counted = deep_is {A = A} (length ts) k e; never = λ r x q. class_none {A = A} test (t ∷ r) x q }
     by_test t ts k false h e = absurd cc
 
 -- what is stuck elsewhere too answers alike
-pub class_follows : {A : Type 0} (test : Option Token → Bool) (g : Reader A) → ((ts : List Token) → test (head_of ts) ≡ false → g ts ≡ Err (stuck (length ts))) → Follows (λ ts. at_class test ts) g
+pub class_follows : {A : Type 0} (test : Option Token → Bool) (g : Reader A)
+    → ((ts : List Token) → test (head_of ts) ≡ false → g ts ≡ Err (stuck (length ts)))
+    → Follows (λ ts. at_class test ts) g
 class_follows {A} test g h = record { at = λ ts. by_test ts (test (head_of ts)) refl }
   where
-    by_test : (ts : List Token) (v : Bool) → test (head_of ts) ≡ v → FollowsAt (cond v (Err (deep (length (tail_of ts)))) (Err (stuck (length ts)))) g ts
+    by_test : (ts : List Token) (v : Bool)
+        → test (head_of ts) ≡ v
+        → FollowsAt (cond v (Err (deep (length (tail_of ts)))) (Err (stuck (length ts)))) g ts
     by_test ts true e = λ c. absurd c
     by_test ts false e = λ c. record { pre = []; left = ts; parts = refl; same = refl; again = λ r q. h r (ap (λ (o : Option Token). test o) q ∙ e) }
 
-pub class_stuck : {A : Type 0} (test : Option Token → Bool) (ts : List Token) → test (head_of ts) ≡ false → at_class {A = A} test ts ≡ Err (stuck (length ts))
+pub class_stuck : {A : Type 0} (test : Option Token → Bool) (ts : List Token)
+    → test (head_of ts) ≡ false
+    → at_class {A = A} test ts ≡ Err (stuck (length ts))
 class_stuck test ts e = rw e refl
 
-pub class_lives : {A : Type 0} {First : Option Token → Type 0} {flat_of : A → List Mark} {Good : A → Type 0} (test : Option Token → Bool) (ts : List Token) → (test (head_of ts) ≡ true → Lives First flat_of Good ts (deep (length (tail_of ts))))
-    → ((e : Fault) → Counts e ts → Lives First flat_of Good ts e) → (e : Fault) → at_class {A = A} test ts ≡ Err e → Lives First flat_of Good ts e
+pub class_lives : {A : Type 0} {First : Option Token → Type 0} {flat_of : A → List Mark} {Good : A → Type 0} (test : Option Token → Bool) (ts : List Token)
+    → (test (head_of ts) ≡ true → Lives First flat_of Good ts (deep (length (tail_of ts))))
+    → ((e : Fault) → Counts e ts → Lives First flat_of Good ts e)
+    → (e : Fault)
+    → at_class {A = A} test ts ≡ Err e
+    → Lives First flat_of Good ts e
 class_lives {A} {First} {flat_of} {Good} test ts here none e p = by_test (test (head_of ts)) refl p
   where
-    by_test : (v : Bool) → test (head_of ts) ≡ v → cond v (Err (deep (length (tail_of ts)))) (Err (stuck (length ts))) ≡ faulty {A = A} e → Lives First flat_of Good ts e
+    by_test : (v : Bool)
+        → test (head_of ts) ≡ v
+        → cond v (Err (deep (length (tail_of ts)))) (Err (stuck (length ts))) ≡ faulty {A = A} e
+        → Lives First flat_of Good ts e
     by_test true h q = subst (λ (e : Fault). Lives First flat_of Good ts e) (fault_is {A = A} (deep (length (tail_of ts))) e q) (here h)
     by_test false h q = none e (stuck_counts {A = A} ts e q)
 
@@ -92,13 +115,23 @@ shallow a e = record {
 
 -- what reads below is stuck at tokens that begin nothing
 pub record Elsewhere (c : Below) : Type 0 where
-  pub operation : (low : ℕ) (ts : List Token) → begins_operand (head_of ts) ≡ false → c.operation low ts ≡ Err (stuck (length ts))
+  pub operation : (low : ℕ) (ts : List Token)
+      → begins_operand (head_of ts) ≡ false
+      → c.operation low ts ≡ Err (stuck (length ts))
   pub unary : (ts : List Token) → begins_operand (head_of ts) ≡ false → c.unary ts ≡ Err (stuck (length ts))
   pub call : (ts : List Token) → begins_call (head_of ts) ≡ false → c.call ts ≡ Err (stuck (length ts))
-  pub statement : (context : Context) (ts : List Token) → begins_statement context (head_of ts) ≡ false → c.statement context ts ≡ Err (stuck (length ts))
-  pub item : (context : Context) (taken : List Identifier) (ts : List Token) → begins_item context (head_of ts) ≡ false → c.item context taken ts ≡ Err (stuck (length ts))
-  pub block : (context : Context) (taken : List Identifier) (ts : List Token) → is_kind kinds.LeftBrace (head_of ts) ≡ false → c.block context taken ts ≡ Err (stuck (length ts))
-  pub function : (ts : List Token) → is_kind kinds.LeftParenthesis (head_of ts) ≡ false → c.function ts ≡ Err (stuck (length ts))
+  pub statement : (context : Context) (ts : List Token)
+      → begins_statement context (head_of ts) ≡ false
+      → c.statement context ts ≡ Err (stuck (length ts))
+  pub item : (context : Context) (taken : List Identifier) (ts : List Token)
+      → begins_item context (head_of ts) ≡ false
+      → c.item context taken ts ≡ Err (stuck (length ts))
+  pub block : (context : Context) (taken : List Identifier) (ts : List Token)
+      → is_kind kinds.LeftBrace (head_of ts) ≡ false
+      → c.block context taken ts ≡ Err (stuck (length ts))
+  pub function : (ts : List Token)
+      → is_kind kinds.LeftParenthesis (head_of ts) ≡ false
+      → c.function ts ≡ Err (stuck (length ts))
 
 pub shallow_elsewhere : (a e : Reader Expression) → Elsewhere (shallow a e)
 shallow_elsewhere a e = record {
@@ -124,7 +157,11 @@ below_elsewhere n = record {
   function = λ ts h. function_elsewhere (below (suc n)) ts h;
 }
 
-pub shallow_follows : (a e : Reader Expression) (c : Below) → Elsewhere c → Follows a c.assignment → Follows e c.expression → FollowsBelow (shallow a e) c
+pub shallow_follows : (a e : Reader Expression) (c : Below)
+    → Elsewhere c
+    → Follows a c.assignment
+    → Follows e c.expression
+    → FollowsBelow (shallow a e) c
 shallow_follows a e c s h k = record {
   assignment = h;
   expression = k;
@@ -137,7 +174,8 @@ shallow_follows a e c s h k = record {
   function = class_follows (λ o. is_kind kinds.LeftParenthesis o) c.function s.function;
 }
 
-pub shallow_takes : (a e : Reader Expression) (context : Context) (taken : List Identifier) → Takes (λ ts. (shallow a e).item context taken ts)
+pub shallow_takes : (a e : Reader Expression) (context : Context) (taken : List Identifier)
+    → Takes (λ ts. (shallow a e).item context taken ts)
 shallow_takes a e context taken ts x p = absurd (class_none {A = Statement} (begins_item context) ts x p)
 
 pub shallow_own : (a e : Reader Expression) → Follows a a → Follows e e → Pair (shallow a e) (shallow a e)
@@ -145,7 +183,10 @@ shallow_own a e h k =
     let f : FollowsBelow (shallow a e) (shallow a e) = shallow_follows a e (shallow a e) (shallow_elsewhere a e) h k in
     record { both = f; right = f; takes = shallow_takes a e }
 
-pub shallow_deepens : (a e : Reader Expression) → ((n : ℕ) → Deepens n a) → ((n : ℕ) → Deepens n e) → DeepBelow (shallow a e)
+pub shallow_deepens : (a e : Reader Expression)
+    → ((n : ℕ) → Deepens n a)
+    → ((n : ℕ) → Deepens n e)
+    → DeepBelow (shallow a e)
 shallow_deepens a e h k = record {
   assignment = h;
   expression = k;
@@ -158,7 +199,10 @@ shallow_deepens a e h k = record {
   function = λ n. class_deepens (λ o. is_kind kinds.LeftParenthesis o) refl n;
 }
 
-pub shallow_sound : (n : ℕ) (a e : Reader Expression) → ((ts : List Token) (x : Expression × List Token) → a ts ≡ Ok x → TakesExpression 1 n ts x.0 x.1) → ((ts : List Token) (x : Expression × List Token) → e ts ≡ Ok x → TakesExpression 0 n ts x.0 x.1) → SoundBelow n (shallow a e)
+pub shallow_sound : (n : ℕ) (a e : Reader Expression)
+    → ((ts : List Token) (x : Expression × List Token) → a ts ≡ Ok x → TakesExpression 1 n ts x.0 x.1)
+    → ((ts : List Token) (x : Expression × List Token) → e ts ≡ Ok x → TakesExpression 0 n ts x.0 x.1)
+    → SoundBelow n (shallow a e)
 shallow_sound n a e h k = record {
   assignment = h;
   expression = k;
@@ -177,34 +221,53 @@ or_true : (a b : Bool) → (a || b) ≡ true → (a ≡ true) ⊎ (b ≡ true)
 or_true true b e = inl refl
 or_true false b e = inr e
 
-first_operand : (ts : List Token) → begins_operand (head_of ts) ≡ true → Lives Nothing flat (Fits 13) ts (deep (length (tail_of ts)))
+first_operand : (ts : List Token)
+    → begins_operand (head_of ts) ≡ true
+    → Lives Nothing flat (Fits 13) ts (deep (length (tail_of ts)))
 first_operand ts h = elim (or_true (begins_call (head_of ts)) (is_prefix (prefix (head_of ts))) h) [
   | inl k ↦ looser 15 13 (omega arith) (start_lives (start (head_of ts)) ts refl k)
   | inr k ↦ prefix_lives (prefix (head_of ts)) ts refl k
 ]
 
-pub operand_lives : (low : ℕ) → low ≤ 13 → (ts : List Token) (e : Fault) → at_class {A = Expression} begins_operand ts ≡ Err e → Lives IsZero flat (Fits low) ts e
+pub operand_lives : (low : ℕ)
+    → low ≤ 13
+    → (ts : List Token) (e : Fault)
+    → at_class {A = Expression} begins_operand ts ≡ Err e
+    → Lives IsZero flat (Fits low) ts e
 operand_lives low le ts e p = class_lives begins_operand ts (λ h. looser 13 low le (from_nothing (first_operand ts h))) (λ e c. zero_expression low (omega (arith, le)) ts e c) e p
 
-statement_by_lives : (context : Context) (c : First) (ts : List Token) → FirstNext c (head_of ts) → begins_by context c (head_of ts) ≡ true → Lives Nothing flat_statement (IsStatement context) ts (deep (length (tail_of ts)))
+statement_by_lives : (context : Context) (c : First) (ts : List Token)
+    → FirstNext c (head_of ts)
+    → begins_by context c (head_of ts) ≡ true
+    → Lives Nothing flat_statement (IsStatement context) ts (deep (length (tail_of ts)))
 statement_by_lives context (classes.a_lexical constant) ts f h = absurd cc
 statement_by_lives context classes.a_function ts f h = absurd cc
 statement_by_lives context classes.an_expression ts f h = expression_first_lives context ts f (looser 13 0 (omega arith) (first_operand ts h))
 statement_by_lives context c ts f h = first_lives context c ts f h
 
-item_by_lives : (context : Context) (taken : List Identifier) (c : First) (ts : List Token) → FirstNext c (head_of ts) → begins_item_by context c (head_of ts) ≡ true → Lives IsZero flat_statement (IsItem context taken) ts (deep (length (tail_of ts)))
+item_by_lives : (context : Context) (taken : List Identifier) (c : First) (ts : List Token)
+    → FirstNext c (head_of ts)
+    → begins_item_by context c (head_of ts) ≡ true
+    → Lives IsZero flat_statement (IsItem context taken) ts (deep (length (tail_of ts)))
 item_by_lives context taken (classes.a_lexical constant) ts f h = from_nothing (lexical_first_lives context taken constant ts f)
 item_by_lives context taken classes.a_function ts f h = from_nothing (function_first_lives context taken ts f)
 item_by_lives context taken c ts f h = as_item context taken ts (deep (length (tail_of ts))) (from_nothing (statement_by_lives context c ts f h))
 
-brace_lives : (context : Context) (taken : List Identifier) (ts : List Token) → is_kind kinds.LeftBrace (head_of ts) ≡ true → Lives (IsAdded kinds.LeftBrace) flat_block (IsBlock context taken) ts (deep (length (tail_of ts)))
+brace_lives : (context : Context) (taken : List Identifier) (ts : List Token)
+    → is_kind kinds.LeftBrace (head_of ts) ≡ true
+    → Lives (IsAdded kinds.LeftBrace) flat_block (IsBlock context taken) ts (deep (length (tail_of ts)))
 brace_lives context taken ts h = from_nothing (first_token kinds.LeftBrace ts (next_is kinds.LeftBrace (head_of ts) h) trees.no_statements (tt, tt) (token (fixed kinds.RightBrace) ∷ []) (a_token kinds.RightBrace ∷ []) (λ r. (refl, refl)) refl)
 
-parameters_live : (ts : List Token) → is_kind kinds.LeftParenthesis (head_of ts) ≡ true → Lives (IsAdded kinds.LeftParenthesis) flat_code IsCode ts (deep (length (tail_of ts)))
+parameters_live : (ts : List Token)
+    → is_kind kinds.LeftParenthesis (head_of ts) ≡ true
+    → Lives (IsAdded kinds.LeftParenthesis) flat_code IsCode ts (deep (length (tail_of ts)))
 parameters_live ts h =
     from_nothing (first_token kinds.LeftParenthesis ts (next_is kinds.LeftParenthesis (head_of ts) h) (record { parameters = []; body = trees.no_statements }) ((tt, tt), tt) (token (fixed kinds.RightParenthesis) ∷ empty_braces) (a_token kinds.RightParenthesis ∷ empty_brace_tokens) (λ r. (refl, (refl, (refl, refl)))) refl)
 
-pub shallow_alive : (a e : Reader Expression) → ((ts : List Token) (d : Fault) → a ts ≡ Err d → Lives IsZero flat (Fits 1) ts d) → ((ts : List Token) (d : Fault) → e ts ≡ Err d → Lives IsZero flat (Fits 0) ts d) → AliveBelow (shallow a e)
+pub shallow_alive : (a e : Reader Expression)
+    → ((ts : List Token) (d : Fault) → a ts ≡ Err d → Lives IsZero flat (Fits 1) ts d)
+    → ((ts : List Token) (d : Fault) → e ts ≡ Err d → Lives IsZero flat (Fits 0) ts d)
+    → AliveBelow (shallow a e)
 shallow_alive a e h k = record {
   assignment = h;
   expression = k;

@@ -25,7 +25,11 @@ pub record Deepens {A : Type 0} (n : ℕ) (f : Reader A) : Type 0 where
 
 -- so of those with a token
 pub record DeepensOn {A : Type 0} (n : ℕ) (f : Reader A) : Type 0 where
-  pub at : (t : Token) (ts : List Token) → suc (length ts) ≤ n → (k : ℕ) → f (t ∷ ts) ≡ Err (deep k) → DeepAt f (t ∷ ts) k
+  pub at : (t : Token) (ts : List Token)
+      → suc (length ts) ≤ n
+      → (k : ℕ)
+      → f (t ∷ ts) ≡ Err (deep k)
+      → DeepAt f (t ∷ ts) k
 
 pub on : {A : Type 0} (n : ℕ) (f : Reader A) → Deepens n f → DeepensOn n f
 on n f h = record { at = λ t ts l k e. h.at (t ∷ ts) l k e }
@@ -43,7 +47,9 @@ pub deep_sticks : {A : Type 0} (n : ℕ) → Deepens {A = A} n (λ ts. Err (stuc
 deep_sticks n = quiet n (λ ts. Err (stuck (length ts))) (λ ts k e. absurd cc)
 
 -- behind the next token
-pub one_before : {A : Type 0} (f : Reader A) (t : Token) (ts : List Token) (k : ℕ) → DeepAt f ts k → DeepAt (λ us. f (tail_of us)) (t ∷ ts) k
+pub one_before : {A : Type 0} (f : Reader A) (t : Token) (ts : List Token) (k : ℕ)
+    → DeepAt f ts k
+    → DeepAt (λ us. f (tail_of us)) (t ∷ ts) k
 one_before f t ts k d = record { before = t ∷ d.before; here = d.here; left = d.left; parts = ap (λ (l : List Token). t ∷ l) d.parts; counted = d.counted; never = d.never }
 
 no_parts : (before left : List Token) (here : Token) → [] ≡ before ++ (here ∷ left) → ⊥
@@ -59,11 +65,16 @@ deep_past {A} n f h = record {
 }
 
 -- where later turns have fewer tokens
-pub deep_past_on : {A : Type 0} (n : ℕ) (f : Reader A) → ((m : ℕ) → suc m ≤ n → Deepens m f) → DeepensOn n (λ ts. f (tail_of ts))
+pub deep_past_on : {A : Type 0} (n : ℕ) (f : Reader A)
+    → ((m : ℕ) → suc m ≤ n → Deepens m f)
+    → DeepensOn n (λ ts. f (tail_of ts))
 deep_past_on n f h = record { at = λ t ts l k e. one_before f t ts k ((h (length ts) l).at ts (omega arith) k e) }
 
 -- by a class of the next token, where there may be none
-pub deep_peeks : {A V : Type 0} (n : ℕ) (k : Option Token → V) (f : V → Reader A) → ((j : ℕ) → f (k None) [] ≡ Err (deep j) → ⊥) → ((v : V) → DeepensOn n (f v)) → Deepens n (λ ts. f (k (head_of ts)) ts)
+pub deep_peeks : {A V : Type 0} (n : ℕ) (k : Option Token → V) (f : V → Reader A)
+    → ((j : ℕ) → f (k None) [] ≡ Err (deep j) → ⊥)
+    → ((v : V) → DeepensOn n (f v))
+    → Deepens n (λ ts. f (k (head_of ts)) ts)
 deep_peeks {A} n k f none h = record {
   at = elim [
     | [] ↦ λ l j e. absurd (none j e)
@@ -71,7 +82,9 @@ deep_peeks {A} n k f none h = record {
   ];
 }
   where
-    seen : (t : Token) (ts : List Token) (j : ℕ) → DeepAt (f (k (Some t))) (t ∷ ts) j → DeepAt (λ us. f (k (head_of us)) us) (t ∷ ts) j
+    seen : (t : Token) (ts : List Token) (j : ℕ)
+        → DeepAt (f (k (Some t))) (t ∷ ts) j
+        → DeepAt (λ us. f (k (head_of us)) us) (t ∷ ts) j
     seen t ts j d = record {
       before = d.before;
       here = d.here;
@@ -84,10 +97,20 @@ deep_peeks {A} n k f none h = record {
     }
 
 -- one after the other
-pub deep_binds : {A B : Type 0} (n m : ℕ) (f : Reader A) (g : A → Reader B) → Follows f f → ((ts : List Token) (x : A × List Token) → length ts ≤ n → f ts ≡ Ok x → length x.1 ≤ m) → Deepens n f → ((a : A) → Deepens m (g a)) → Deepens n (λ ts. f ts >>= λ x. g x.0 x.1)
+pub deep_binds : {A B : Type 0} (n m : ℕ) (f : Reader A) (g : A → Reader B)
+    → Follows f f
+    → ((ts : List Token) (x : A × List Token) → length ts ≤ n → f ts ≡ Ok x → length x.1 ≤ m)
+    → Deepens n f
+    → ((a : A) → Deepens m (g a))
+    → Deepens n (λ ts. f ts >>= λ x. g x.0 x.1)
 deep_binds {A} {B} n m f g h less k j = record { at = λ ts l i e. by_answer ts l i (f ts) refl e }
   where
-    by_answer : (ts : List Token) → length ts ≤ n → (i : ℕ) (x : Read A) → f ts ≡ x → (x >>= λ x. g x.0 x.1) ≡ Err (deep i) → DeepAt (λ ts. f ts >>= λ x. g x.0 x.1) ts i
+    by_answer : (ts : List Token)
+        → length ts ≤ n
+        → (i : ℕ) (x : Read A)
+        → f ts ≡ x
+        → (x >>= λ x. g x.0 x.1) ≡ Err (deep i)
+        → DeepAt (λ ts. f ts >>= λ x. g x.0 x.1) ts i
     by_answer ts l i (Ok (a, u)) q e =
         let p = reads_again f f h ts a u q in
         let d = (j a).at u (less ts (a, u) l q) i e in
@@ -114,21 +137,38 @@ deep_binds {A} {B} n m f g h less k j = record { at = λ ts l i e. by_answer ts 
           never = λ r x o. let b = bind_ok (f (d.before ++ (d.here ∷ r))) (λ x. g x.0 x.1) x o in d.never r b.0 b.1;
         }
 
-no_more : {A : Type 0} (n : ℕ) (f : Reader A) → Follows f f → (ts : List Token) (x : A × List Token) → length ts ≤ n → f ts ≡ Ok x → length x.1 ≤ n
+no_more : {A : Type 0} (n : ℕ) (f : Reader A)
+    → Follows f f
+    → (ts : List Token) (x : A × List Token)
+    → length ts ≤ n
+    → f ts ≡ Ok x
+    → length x.1 ≤ n
 no_more n f h ts x l e = omega (arith, shortens f f h ts x e)
 
-pub deep_then : {A B : Type 0} (n : ℕ) (f : Reader A) (g : A → Reader B) → Follows f f → Deepens n f → ((a : A) → Deepens n (g a)) → Deepens n (λ ts. f ts >>= λ x. g x.0 x.1)
+pub deep_then : {A B : Type 0} (n : ℕ) (f : Reader A) (g : A → Reader B)
+    → Follows f f
+    → Deepens n f
+    → ((a : A) → Deepens n (g a))
+    → Deepens n (λ ts. f ts >>= λ x. g x.0 x.1)
 deep_then n f g h k j = deep_binds n n f g h (no_more n f h) k j
 
-pub deep_makes : {A B : Type 0} (n : ℕ) (f : Reader A) (make : A → B) → Follows f f → Deepens n f → Deepens n (λ ts. f ts >>= λ x. Ok (make x.0, x.1))
+pub deep_makes : {A B : Type 0} (n : ℕ) (f : Reader A) (make : A → B)
+    → Follows f f
+    → Deepens n f
+    → Deepens n (λ ts. f ts >>= λ x. Ok (make x.0, x.1))
 deep_makes n f make h k = deep_then n f (λ a ts. Ok (make a, ts)) h k (λ a. deep_gives n (make a))
 
-pub deep_tests : {A : Type 0} (n : ℕ) (b : Bool) (f g : Reader A) → DeepensOn n f → DeepensOn n g → DeepensOn n (λ ts. cond b (f ts) (g ts))
+pub deep_tests : {A : Type 0} (n : ℕ) (b : Bool) (f g : Reader A)
+    → DeepensOn n f
+    → DeepensOn n g
+    → DeepensOn n (λ ts. cond b (f ts) (g ts))
 deep_tests n true f g h k = h
 deep_tests n false f g h k = k
 
 -- a test of the depth at a token
-pub deep_limit : {A : Type 0} (n h k : ℕ) (f : Reader A) → DeepensOn n f → DeepensOn n (λ ts. cond (nat_le h k) (f ts) (Err (deep (length (tail_of ts)))))
+pub deep_limit : {A : Type 0} (n h k : ℕ) (f : Reader A)
+    → DeepensOn n f
+    → DeepensOn n (λ ts. cond (nat_le h k) (f ts) (Err (deep (length (tail_of ts)))))
 deep_limit {A} n h k f d = by_test (nat_le h k)
   where
     by_test : (v : Bool) → DeepensOn n (λ ts. cond v (f ts) (Err (deep (length (tail_of ts)))))
@@ -146,7 +186,9 @@ deep_as n f g is h = record {
 -- ---- loops
 
 -- a loop, where a turn keeps it if later turns do for fewer tokens
-pub deep_loops : {S B : Type 0} (body : (S → Reader B) → S → Reader B) (go : ℕ → S → Reader B) → Turns body go → Local body
+pub deep_loops : {S B : Type 0} (body : (S → Reader B) → S → Reader B) (go : ℕ → S → Reader B)
+    → Turns body go
+    → Local body
     → ((n : ℕ) → ((m : ℕ) → suc m ≤ n → (s : S) → Deepens m (enough_of go s)) → (s : S) → Deepens n (body (enough_of go) s))
     → (n : ℕ) (s : S) → Deepens n (enough_of go s)
 deep_loops {S} {B} body go t l c n s = up_to (suc n) n (omega arith) s
@@ -156,7 +198,9 @@ deep_loops {S} {B} body go t l c n s = up_to (suc n) n (omega arith) s
     up_to (suc k) n e s = deep_as n (body (enough_of go) s) (enough_of go s) (one_turn body go t l s) (c n (λ m q u. up_to k m (omega arith) u) s)
 
 -- by a class of the next token, or of none
-pub deep_peeks_all : {A V : Type 0} (n : ℕ) (k : Option Token → V) (f : V → Reader A) → ((v : V) → Deepens n (f v)) → Deepens n (λ ts. f (k (head_of ts)) ts)
+pub deep_peeks_all : {A V : Type 0} (n : ℕ) (k : Option Token → V) (f : V → Reader A)
+    → ((v : V) → Deepens n (f v))
+    → Deepens n (λ ts. f (k (head_of ts)) ts)
 deep_peeks_all n k f h = deep_peeks n k f (λ j e. let d = (h (k None)).at [] (omega arith) j e in no_parts d.before d.left d.here d.parts) (λ v. on n (f v) (h v))
 
 -- a value behind the next token

@@ -22,8 +22,10 @@ pub record FollowsBelow (b c : Below) : Type 0 where
   pub unary : Follows b.unary c.unary
   pub call : Follows b.call c.call
   pub statement : (context : Context) → Follows (λ ts. b.statement context ts) (λ ts. c.statement context ts)
-  pub item : (context : Context) (taken : List Identifier) → Follows (λ ts. b.item context taken ts) (λ ts. c.item context taken ts)
-  pub block : (context : Context) (taken : List Identifier) → Follows (λ ts. b.block context taken ts) (λ ts. c.block context taken ts)
+  pub item : (context : Context) (taken : List Identifier)
+      → Follows (λ ts. b.item context taken ts) (λ ts. c.item context taken ts)
+  pub block : (context : Context) (taken : List Identifier)
+      → Follows (λ ts. b.block context taken ts) (λ ts. c.block context taken ts)
   pub function : Follows b.function c.function
 
 -- The same, and what the right side reads it also reads so itself; an item takes a token at least.
@@ -52,7 +54,8 @@ next_follows : {A : Type 0} (value : A) (v : Bool) → Follows (next_by value v)
 next_follows value true = past (λ ts. Ok (value, ts)) (λ ts. Ok (value, ts)) (gives value)
 next_follows value false = sticks
 
-pub if_next_follows : {A : Type 0} (test : Option Token → Bool) (value : Option Token → A) → Follows (if_next test value) (if_next test value)
+pub if_next_follows : {A : Type 0} (test : Option Token → Bool) (value : Option Token → A)
+    → Follows (if_next test value) (if_next test value)
 if_next_follows test value = peeks (λ o. o) (next_of test value) (next_of test value) (λ o. next_follows (value o) (test o))
 
 pub expect_follows : (k : TokenKind) → Follows (λ ts. expect k ts) (λ ts. expect k ts)
@@ -113,49 +116,81 @@ semicolon_follows end = peeks (λ o. is_kind kinds.Semicolon o) (semicolon_by en
 
 -- ---- elements up to a token
 
-comma_shorter : (closer : TokenKind) (ts : List Token) → after closer (head_of ts) ≡ goes_on → suc (length (tail_of ts)) ≡ length ts
+comma_shorter : (closer : TokenKind) (ts : List Token)
+    → after closer (head_of ts) ≡ goes_on
+    → suc (length (tail_of ts)) ≡ length ts
 comma_shorter closer [] e = absurd cc
 comma_shorter closer (t ∷ ts) e = refl
 
-go_after_local : {A : Type 0} (go go' : Reader (List A)) (closer : TokenKind) (n : ℕ) (a : After) (ts : List Token) → after closer (head_of ts) ≡ a → length ts ≤ n → ((r : List Token) → suc (length r) ≤ n → go r ≡ go' r) → go_after go a ts ≡ go_after go' a ts
+go_after_local : {A : Type 0} (go go' : Reader (List A)) (closer : TokenKind) (n : ℕ) (a : After) (ts : List Token)
+    → after closer (head_of ts) ≡ a
+    → length ts ≤ n
+    → ((r : List Token) → suc (length r) ≤ n → go r ≡ go' r)
+    → go_after go a ts ≡ go_after go' a ts
 go_after_local go go' closer n goes_on ts e le h = h (tail_of ts) (omega (arith, comma_shorter closer ts e))
 go_after_local go go' closer n ends ts e le h = refl
 go_after_local go go' closer n neither ts e le h = refl
 
-abbrev pub elements_body : {S A : Type 0} → (S → Reader A) → (S → A → S) → TokenKind → (S → Reader (List A)) → S → Reader (List A)
+abbrev pub elements_body : {S A : Type 0}
+    → (S → Reader A)
+    → (S → A → S)
+    → TokenKind
+    → (S → Reader (List A))
+    → S
+    → Reader (List A)
 elements_body one next closer go s ts = elements_by one next go closer s (is_kind closer (head_of ts)) ts
 
-pub elements_local : {S A : Type 0} (one : S → Reader A) (next : S → A → S) (closer : TokenKind) → ((s : S) → Shortens (one s)) → Local (elements_body one next closer)
+pub elements_local : {S A : Type 0} (one : S → Reader A) (next : S → A → S) (closer : TokenKind)
+    → ((s : S) → Shortens (one s))
+    → Local (elements_body one next closer)
 elements_local {S} {A} one next closer sh = λ go go' s ts h. by_close go go' s ts h (is_kind closer (head_of ts))
   where
-    by_first : (go go' : S → Reader (List A)) (s : S) (ts : List Token) → ((u : S) (r : List Token) → suc (length r) ≤ length ts → go u r ≡ go' u r) → (x : Read A) → one s ts ≡ x
+    by_first : (go go' : S → Reader (List A)) (s : S) (ts : List Token)
+        → ((u : S) (r : List Token) → suc (length r) ≤ length ts → go u r ≡ go' u r)
+        → (x : Read A)
+        → one s ts ≡ x
         → (x >>= λ x. go_after (go (next s x.0)) (after closer (head_of x.1)) x.1 >>= λ y. Ok (x.0 ∷ y.0, y.1)) ≡ (x >>= λ x. go_after (go' (next s x.0)) (after closer (head_of x.1)) x.1 >>= λ y. Ok (x.0 ∷ y.0, y.1))
     by_first go go' s ts h (Ok x) e = ap (λ (r : Read (List A)). r >>= λ y. Ok (x.0 ∷ y.0, y.1)) (go_after_local (go (next s x.0)) (go' (next s x.0)) closer (length ts) (after closer (head_of x.1)) x.1 refl (sh s ts x e) (λ r l. h (next s x.0) r l))
     by_first go go' s ts h (Err z) e = refl
 
-    by_close : (go go' : S → Reader (List A)) (s : S) (ts : List Token) → ((u : S) (r : List Token) → suc (length r) ≤ length ts → go u r ≡ go' u r) → (c : Bool) → elements_by one next go closer s c ts ≡ elements_by one next go' closer s c ts
+    by_close : (go go' : S → Reader (List A)) (s : S) (ts : List Token)
+        → ((u : S) (r : List Token) → suc (length r) ≤ length ts → go u r ≡ go' u r)
+        → (c : Bool)
+        → elements_by one next go closer s c ts ≡ elements_by one next go' closer s c ts
     by_close go go' s ts h true = refl
     by_close go go' s ts h false = by_first go go' s ts h (one s ts) refl
 
-pub go_after_follows : {A : Type 0} (closer : TokenKind) (go go' : Reader (List A)) → Follows go go' → Follows (λ ts. go_after go (after closer (head_of ts)) ts) (λ ts. go_after go' (after closer (head_of ts)) ts)
+pub go_after_follows : {A : Type 0} (closer : TokenKind) (go go' : Reader (List A))
+    → Follows go go'
+    → Follows (λ ts. go_after go (after closer (head_of ts)) ts) (λ ts. go_after go' (after closer (head_of ts)) ts)
 go_after_follows closer go go' h = peeks (λ o. after closer o) (λ a ts. go_after go a ts) (λ a ts. go_after go' a ts) (elim [
   | goes_on ↦ past go go' h
   | ends ↦ past (λ ts. Ok ([], ts)) (λ ts. Ok ([], ts)) (gives [])
   | neither ↦ sticks
 ])
 
-pub elements_turn : {S A : Type 0} (one one' : S → Reader A) (next : S → A → S) (closer : TokenKind) → ((s : S) → Follows (one s) (one' s)) → (f f' : S → Reader (List A)) → ((s : S) → Follows (f s) (f' s)) → (s : S) → Follows (elements_body one next closer f s) (elements_body one' next closer f' s)
+pub elements_turn : {S A : Type 0} (one one' : S → Reader A) (next : S → A → S) (closer : TokenKind)
+    → ((s : S) → Follows (one s) (one' s))
+    → (f f' : S → Reader (List A))
+    → ((s : S) → Follows (f s) (f' s))
+    → (s : S)
+    → Follows (elements_body one next closer f s) (elements_body one' next closer f' s)
 elements_turn one one' next closer h f f' k s = peeks (λ o. is_kind closer o) (λ c ts. elements_by one next f closer s c ts) (λ c ts. elements_by one' next f' closer s c ts) (elim [
   | true ↦ past (λ ts. Ok ([], ts)) (λ ts. Ok ([], ts)) (gives [])
   | false ↦ binds (one s) (one' s) (λ a ts. go_after (f (next s a)) (after closer (head_of ts)) ts >>= λ y. Ok (a ∷ y.0, y.1)) (λ a ts. go_after (f' (next s a)) (after closer (head_of ts)) ts >>= λ y. Ok (a ∷ y.0, y.1)) (h s)
       (λ a. makes (λ ts. go_after (f (next s a)) (after closer (head_of ts)) ts) (λ ts. go_after (f' (next s a)) (after closer (head_of ts)) ts) (λ ys. a ∷ ys) (go_after_follows closer (f (next s a)) (f' (next s a)) (k (next s a))))
 ])
 
-pub elements_turns : {S A : Type 0} (one : S → Reader A) (next : S → A → S) (closer : TokenKind) → Turns (elements_body one next closer) (λ k s ts. elements one next closer k s ts)
+pub elements_turns : {S A : Type 0} (one : S → Reader A) (next : S → A → S) (closer : TokenKind)
+    → Turns (elements_body one next closer) (λ k s ts. elements one next closer k s ts)
 unfolding elements
 elements_turns one next closer = record { none = λ s ts. refl; one = λ k s ts. refl }
 
-pub elements_follows : {S A : Type 0} (one one' : S → Reader A) (next : S → A → S) (closer : TokenKind) → ((s : S) → Follows (one s) (one' s)) → ((s : S) → Shortens (one' s)) → (s : S) → Follows (λ ts. elements one next closer (suc (length ts)) s ts) (λ ts. elements one' next closer (suc (length ts)) s ts)
+pub elements_follows : {S A : Type 0} (one one' : S → Reader A) (next : S → A → S) (closer : TokenKind)
+    → ((s : S) → Follows (one s) (one' s))
+    → ((s : S) → Shortens (one' s))
+    → (s : S)
+    → Follows (λ ts. elements one next closer (suc (length ts)) s ts) (λ ts. elements one' next closer (suc (length ts)) s ts)
 elements_follows one one' next closer h sh s =
     loops (elements_body one next closer) (elements_body one' next closer) (λ k s ts. elements one next closer k s ts) (λ k s ts. elements one' next closer k s ts) (elements_turns one next closer) (elements_turns one' next closer) (elements_local one' next closer sh) (elements_turn one one' next closer h) s
 
@@ -168,35 +203,59 @@ kind_shorter : (k : TokenKind) (ts : List Token) → is_kind k (head_of ts) ≡ 
 kind_shorter k [] e = absurd cc
 kind_shorter k (t ∷ ts) e = refl
 
-pub others_local : {S A : Type 0} (one : S → Reader A) (next : S → A → S) → ((s : S) → Shortens (one s)) → Local (others_body one next)
+pub others_local : {S A : Type 0} (one : S → Reader A) (next : S → A → S)
+    → ((s : S) → Shortens (one s))
+    → Local (others_body one next)
 others_local {S} {A} one next sh = λ go go' s ts h. by_comma go go' s ts h (is_kind kinds.Comma (head_of ts)) refl
   where
-    by_first : (go go' : S → Reader (List A)) (s : S) (ts : List Token) → is_kind kinds.Comma (head_of ts) ≡ true → ((u : S) (r : List Token) → suc (length r) ≤ length ts → go u r ≡ go' u r) → (x : Read A) → one s (tail_of ts) ≡ x
+    by_first : (go go' : S → Reader (List A)) (s : S) (ts : List Token)
+        → is_kind kinds.Comma (head_of ts) ≡ true
+        → ((u : S) (r : List Token) → suc (length r) ≤ length ts → go u r ≡ go' u r)
+        → (x : Read A)
+        → one s (tail_of ts) ≡ x
         → (x >>= λ x. go (next s x.0) x.1 >>= λ y. Ok (x.0 ∷ y.0, y.1)) ≡ (x >>= λ x. go' (next s x.0) x.1 >>= λ y. Ok (x.0 ∷ y.0, y.1))
     by_first go go' s ts c h (Ok x) e = ap (λ (r : Read (List A)). r >>= λ y. Ok (x.0 ∷ y.0, y.1)) (h (next s x.0) x.1 (omega (arith, sh s (tail_of ts) x e, kind_shorter kinds.Comma ts c)))
     by_first go go' s ts c h (Err z) e = refl
 
-    by_comma : (go go' : S → Reader (List A)) (s : S) (ts : List Token) → ((u : S) (r : List Token) → suc (length r) ≤ length ts → go u r ≡ go' u r) → (c : Bool) → is_kind kinds.Comma (head_of ts) ≡ c → others_by one next go s c ts ≡ others_by one next go' s c ts
+    by_comma : (go go' : S → Reader (List A)) (s : S) (ts : List Token)
+        → ((u : S) (r : List Token) → suc (length r) ≤ length ts → go u r ≡ go' u r)
+        → (c : Bool)
+        → is_kind kinds.Comma (head_of ts) ≡ c
+        → others_by one next go s c ts ≡ others_by one next go' s c ts
     by_comma go go' s ts h true e = by_first go go' s ts e h (one s (tail_of ts)) refl
     by_comma go go' s ts h false e = refl
 
-pub others_turn : {S A : Type 0} (one one' : S → Reader A) (next : S → A → S) → ((s : S) → Follows (one s) (one' s)) → (f f' : S → Reader (List A)) → ((s : S) → Follows (f s) (f' s)) → (s : S) → Follows (others_body one next f s) (others_body one' next f' s)
+pub others_turn : {S A : Type 0} (one one' : S → Reader A) (next : S → A → S)
+    → ((s : S) → Follows (one s) (one' s))
+    → (f f' : S → Reader (List A))
+    → ((s : S) → Follows (f s) (f' s))
+    → (s : S)
+    → Follows (others_body one next f s) (others_body one' next f' s)
 others_turn one one' next h f f' k s = peeks (λ o. is_kind kinds.Comma o) (λ c ts. others_by one next f s c ts) (λ c ts. others_by one' next f' s c ts) (elim [
   | true ↦ binds (λ ts. one s (tail_of ts)) (λ ts. one' s (tail_of ts)) (λ a ts. f (next s a) ts >>= λ y. Ok (a ∷ y.0, y.1)) (λ a ts. f' (next s a) ts >>= λ y. Ok (a ∷ y.0, y.1)) (past (one s) (one' s) (h s))
       (λ a. makes (f (next s a)) (f' (next s a)) (λ ys. a ∷ ys) (k (next s a)))
   | false ↦ gives []
 ])
 
-pub others_turns : {S A : Type 0} (one : S → Reader A) (next : S → A → S) → Turns (others_body one next) (λ k s ts. others one next k s ts)
+pub others_turns : {S A : Type 0} (one : S → Reader A) (next : S → A → S)
+    → Turns (others_body one next) (λ k s ts. others one next k s ts)
 unfolding others
 others_turns one next = record { none = λ s ts. refl; one = λ k s ts. refl }
 
-pub others_follows : {S A : Type 0} (one one' : S → Reader A) (next : S → A → S) → ((s : S) → Follows (one s) (one' s)) → ((s : S) → Shortens (one' s)) → (s : S) → Follows (λ ts. others one next (suc (length ts)) s ts) (λ ts. others one' next (suc (length ts)) s ts)
+pub others_follows : {S A : Type 0} (one one' : S → Reader A) (next : S → A → S)
+    → ((s : S) → Follows (one s) (one' s))
+    → ((s : S) → Shortens (one' s))
+    → (s : S)
+    → Follows (λ ts. others one next (suc (length ts)) s ts) (λ ts. others one' next (suc (length ts)) s ts)
 others_follows one one' next h sh s =
     loops (others_body one next) (others_body one' next) (λ k s ts. others one next k s ts) (λ k s ts. others one' next k s ts) (others_turns one next) (others_turns one' next) (others_local one' next sh) (others_turn one one' next h) s
 
 -- so many of them at most
-pub others_from : {S A : Type 0} (one one' : S → Reader A) (next : S → A → S) → ((s : S) → Follows (one s) (one' s)) → ((s : S) → Shortens (one' s)) → (k : ℕ) (s : S) → Follows (λ ts. others one next k s ts) (λ ts. others one' next (suc (length ts)) s ts)
+pub others_from : {S A : Type 0} (one one' : S → Reader A) (next : S → A → S)
+    → ((s : S) → Follows (one s) (one' s))
+    → ((s : S) → Shortens (one' s))
+    → (k : ℕ) (s : S)
+    → Follows (λ ts. others one next k s ts) (λ ts. others one' next (suc (length ts)) s ts)
 others_from one one' next h sh k s =
     loop_from (others_body one next) (others_body one' next) (λ k s ts. others one next k s ts) (λ k s ts. others one' next k s ts) (others_turns one next) (others_turns one' next) (others_local one' next sh) (others_turn one one' next h) k s
 
@@ -205,42 +264,65 @@ others_from one one' next h sh k s =
 abbrev pub items_body : {S A : Type 0} → (S → Reader A) → (S → A → S) → (S → Reader (List A)) → S → Reader (List A)
 items_body one next go s ts = items_by one next go s (ends_list (head_of ts)) ts
 
-pub items_local : {S A : Type 0} (one : S → Reader A) (next : S → A → S) → ((s : S) → Takes (one s)) → Local (items_body one next)
+pub items_local : {S A : Type 0} (one : S → Reader A) (next : S → A → S)
+    → ((s : S) → Takes (one s))
+    → Local (items_body one next)
 items_local {S} {A} one next sh = λ go go' s ts h. by_end go go' s ts h (ends_list (head_of ts))
   where
-    by_first : (go go' : S → Reader (List A)) (s : S) (ts : List Token) → ((u : S) (r : List Token) → suc (length r) ≤ length ts → go u r ≡ go' u r) → (x : Read A) → one s ts ≡ x
+    by_first : (go go' : S → Reader (List A)) (s : S) (ts : List Token)
+        → ((u : S) (r : List Token) → suc (length r) ≤ length ts → go u r ≡ go' u r)
+        → (x : Read A)
+        → one s ts ≡ x
         → (x >>= λ x. go (next s x.0) x.1 >>= λ y. Ok (x.0 ∷ y.0, y.1)) ≡ (x >>= λ x. go' (next s x.0) x.1 >>= λ y. Ok (x.0 ∷ y.0, y.1))
     by_first go go' s ts h (Ok x) e = ap (λ (r : Read (List A)). r >>= λ y. Ok (x.0 ∷ y.0, y.1)) (h (next s x.0) x.1 (sh s ts x e))
     by_first go go' s ts h (Err z) e = refl
 
-    by_end : (go go' : S → Reader (List A)) (s : S) (ts : List Token) → ((u : S) (r : List Token) → suc (length r) ≤ length ts → go u r ≡ go' u r) → (c : Bool) → items_by one next go s c ts ≡ items_by one next go' s c ts
+    by_end : (go go' : S → Reader (List A)) (s : S) (ts : List Token)
+        → ((u : S) (r : List Token) → suc (length r) ≤ length ts → go u r ≡ go' u r)
+        → (c : Bool)
+        → items_by one next go s c ts ≡ items_by one next go' s c ts
     by_end go go' s ts h true = refl
     by_end go go' s ts h false = by_first go go' s ts h (one s ts) refl
 
-pub items_turn : {S A : Type 0} (one one' : S → Reader A) (next : S → A → S) → ((s : S) → Follows (one s) (one' s)) → (f f' : S → Reader (List A)) → ((s : S) → Follows (f s) (f' s)) → (s : S) → Follows (items_body one next f s) (items_body one' next f' s)
+pub items_turn : {S A : Type 0} (one one' : S → Reader A) (next : S → A → S)
+    → ((s : S) → Follows (one s) (one' s))
+    → (f f' : S → Reader (List A))
+    → ((s : S) → Follows (f s) (f' s))
+    → (s : S)
+    → Follows (items_body one next f s) (items_body one' next f' s)
 items_turn one one' next h f f' k s = peeks ends_list (λ c ts. items_by one next f s c ts) (λ c ts. items_by one' next f' s c ts) (elim [
   | true ↦ gives []
   | false ↦ binds (one s) (one' s) (λ a ts. f (next s a) ts >>= λ y. Ok (a ∷ y.0, y.1)) (λ a ts. f' (next s a) ts >>= λ y. Ok (a ∷ y.0, y.1)) (h s)
       (λ a. makes (f (next s a)) (f' (next s a)) (λ ys. a ∷ ys) (k (next s a)))
 ])
 
-pub items_turns : {S A : Type 0} (one : S → Reader A) (next : S → A → S) → Turns (items_body one next) (λ k s ts. items one next k s ts)
+pub items_turns : {S A : Type 0} (one : S → Reader A) (next : S → A → S)
+    → Turns (items_body one next) (λ k s ts. items one next k s ts)
 unfolding items
 items_turns one next = record { none = λ s ts. refl; one = λ k s ts. refl }
 
-pub items_follows : {S A : Type 0} (one one' : S → Reader A) (next : S → A → S) → ((s : S) → Follows (one s) (one' s)) → ((s : S) → Takes (one' s)) → (s : S) → Follows (λ ts. items one next (suc (length ts)) s ts) (λ ts. items one' next (suc (length ts)) s ts)
+pub items_follows : {S A : Type 0} (one one' : S → Reader A) (next : S → A → S)
+    → ((s : S) → Follows (one s) (one' s))
+    → ((s : S) → Takes (one' s))
+    → (s : S)
+    → Follows (λ ts. items one next (suc (length ts)) s ts) (λ ts. items one' next (suc (length ts)) s ts)
 items_follows one one' next h sh s =
     loops (items_body one next) (items_body one' next) (λ k s ts. items one next k s ts) (λ k s ts. items one' next k s ts) (items_turns one next) (items_turns one' next) (items_local one' next sh) (items_turn one one' next h) s
 
 -- ---- lists of trees
 
-pub arguments_follows : (b c : Below) → Pair b c → (closer : TokenKind) → Follows (λ ts. arguments_before b closer ts) (λ ts. arguments_before c closer ts)
+pub arguments_follows : (b c : Below)
+    → Pair b c
+    → (closer : TokenKind)
+    → Follows (λ ts. arguments_before b closer ts) (λ ts. arguments_before c closer ts)
 unfolding arguments_before
 arguments_follows b c p closer =
     makes (λ ts. elements (one_of b.assignment) no_state closer (suc (length ts)) tt ts) (λ ts. elements (one_of c.assignment) no_state closer (suc (length ts)) tt ts) expressions
     (elements_follows (one_of b.assignment) (one_of c.assignment) no_state closer (λ s. p.both.assignment) (λ s. shortens c.assignment c.assignment p.right.assignment) tt)
 
-pub more_assignments_follows : (b c : Below) → Pair b c → Follows (λ ts. more_assignments b ts) (λ ts. more_assignments c ts)
+pub more_assignments_follows : (b c : Below)
+    → Pair b c
+    → Follows (λ ts. more_assignments b ts) (λ ts. more_assignments c ts)
 unfolding more_assignments
 more_assignments_follows b c p =
     makes (λ ts. others (one_of b.assignment) no_state (suc (length ts)) tt ts) (λ ts. others (one_of c.assignment) no_state (suc (length ts)) tt ts) expressions
@@ -253,13 +335,19 @@ parameters_follows =
     binds (λ ts. expect kinds.LeftParenthesis ts) (λ ts. expect kinds.LeftParenthesis ts) (λ o ts. names ts) (λ o ts. names ts) (expect_follows kinds.LeftParenthesis)
     (λ o. elements_follows (λ s r. fresh_name s r) (λ s r. fresh_name s r) with_name kinds.RightParenthesis fresh_follows (λ s. shortens (λ r. fresh_name s r) (λ r. fresh_name s r) (fresh_follows s)) [])
 
-pub items_at_follows : (b c : Below) → Pair b c → (context : Context) (taken : List Identifier) → Follows (λ ts. items_at b context taken ts) (λ ts. items_at c context taken ts)
+pub items_at_follows : (b c : Below)
+    → Pair b c
+    → (context : Context) (taken : List Identifier)
+    → Follows (λ ts. items_at b context taken ts) (λ ts. items_at c context taken ts)
 unfolding items_at
 items_at_follows b c p context taken =
     makes (λ ts. items (λ names r. b.item context names r) with_declared (suc (length ts)) taken ts) (λ ts. items (λ names r. c.item context names r) with_declared (suc (length ts)) taken ts) statements
     (items_follows (λ names r. b.item context names r) (λ names r. c.item context names r) with_declared (λ names. p.both.item context names) (λ names. p.takes context names) taken)
 
-pub braces_follows : (b c : Below) → Pair b c → (context : Context) (taken : List Identifier) → Follows (λ ts. braces b context taken ts) (λ ts. braces c context taken ts)
+pub braces_follows : (b c : Below)
+    → Pair b c
+    → (context : Context) (taken : List Identifier)
+    → Follows (λ ts. braces b context taken ts) (λ ts. braces c context taken ts)
 unfolding braces
 braces_follows b c p context taken =
     let ended_left : Reader trees.Statements = λ ts. items_at b context taken ts >>= λ x. expect kinds.RightBrace x.1 >>= λ y. Ok (x.0, y.1) in
@@ -279,23 +367,33 @@ code_follows b c p =
 
 -- ---- declared names
 
-pub initializer_follows : (b c : Below) → Pair b c → (constant : Bool) (n : Identifier) → Follows (λ ts. initializer_by b constant n (is_kind kinds.Assign (head_of ts)) ts) (λ ts. initializer_by c constant n (is_kind kinds.Assign (head_of ts)) ts)
+pub initializer_follows : (b c : Below)
+    → Pair b c
+    → (constant : Bool) (n : Identifier)
+    → Follows (λ ts. initializer_by b constant n (is_kind kinds.Assign (head_of ts)) ts) (λ ts. initializer_by c constant n (is_kind kinds.Assign (head_of ts)) ts)
 initializer_follows b c p constant n = peeks (λ o. is_kind kinds.Assign o) (λ v ts. initializer_by b constant n v ts) (λ v ts. initializer_by c constant n v ts) (elim [
   | true ↦ makes (λ ts. b.assignment (tail_of ts)) (λ ts. c.assignment (tail_of ts)) (λ e. trees.declarator n (trees.present e)) (past b.assignment c.assignment p.both.assignment)
   | false ↦ without constant
 ])
   where
-    without : (constant : Bool) → Follows (λ ts. initializer_by b constant n false ts) (λ ts. initializer_by c constant n false ts)
+    without : (constant : Bool)
+        → Follows (λ ts. initializer_by b constant n false ts) (λ ts. initializer_by c constant n false ts)
     without true = sticks
     without false = gives (trees.declarator n trees.omitted)
 
-pub declarator_follows : (b c : Below) → Pair b c → (constant : Bool) (taken : List Identifier) → Follows (λ ts. declarator_at b constant taken ts) (λ ts. declarator_at c constant taken ts)
+pub declarator_follows : (b c : Below)
+    → Pair b c
+    → (constant : Bool) (taken : List Identifier)
+    → Follows (λ ts. declarator_at b constant taken ts) (λ ts. declarator_at c constant taken ts)
 unfolding declarator_at
 declarator_follows b c p constant taken =
     binds (λ ts. fresh_name taken ts) (λ ts. fresh_name taken ts) (λ n ts. initializer_by b constant n (is_kind kinds.Assign (head_of ts)) ts) (λ n ts. initializer_by c constant n (is_kind kinds.Assign (head_of ts)) ts) (fresh_follows taken)
     (λ n. initializer_follows b c p constant n)
 
-pub declarators_follows : (b c : Below) → Pair b c → (constant : Bool) (taken : List Identifier) → Follows (λ ts. declarators_at b constant taken ts) (λ ts. declarators_at c constant taken ts)
+pub declarators_follows : (b c : Below)
+    → Pair b c
+    → (constant : Bool) (taken : List Identifier)
+    → Follows (λ ts. declarators_at b constant taken ts) (λ ts. declarators_at c constant taken ts)
 unfolding declarators_at
 declarators_follows b c p constant taken =
     let left : Declarator → Reader (List Declarator) = λ d ts. others (λ names r. declarator_at b constant names r) with_declarator (suc (length ts)) (with_declarator taken d) ts in
@@ -307,7 +405,10 @@ declarators_follows b c p constant taken =
 
 -- ---- expressions with what ends them
 
-pub optional_follows : (b c : Below) → Pair b c → (closer : TokenKind) → Follows (λ ts. optional_before b closer ts) (λ ts. optional_before c closer ts)
+pub optional_follows : (b c : Below)
+    → Pair b c
+    → (closer : TokenKind)
+    → Follows (λ ts. optional_before b closer ts) (λ ts. optional_before c closer ts)
 unfolding optional_before
 optional_follows b c p closer = peeks (λ o. is_kind closer o) (λ v ts. optional_by b closer v ts) (λ v ts. optional_by c closer v ts) (elim [
   | true ↦ past (λ ts. Ok (trees.omitted, ts)) (λ ts. Ok (trees.omitted, ts)) (gives trees.omitted)
@@ -347,5 +448,8 @@ seq_follows b c p (i ∷ is) =
     binds (λ ts. item b i ts) (λ ts. item c i ts) (λ v ts. seq b is ts >>= λ y. Ok ((v, y.0), y.1)) (λ v ts. seq c is ts >>= λ y. Ok ((v, y.0), y.1)) (item_follows b c p i)
     (λ v. makes (λ ts. seq b is ts) (λ ts. seq c is ts) (λ vs. (v, vs)) (seq_follows b c p is))
 
-pub made_follows : {A : Type 0} (b c : Below) → Pair b c → (is : List Item) (make : Values is → A) → Follows (λ ts. made b is make ts) (λ ts. made c is make ts)
+pub made_follows : {A : Type 0} (b c : Below)
+    → Pair b c
+    → (is : List Item) (make : Values is → A)
+    → Follows (λ ts. made b is make ts) (λ ts. made c is make ts)
 made_follows b c p is make = makes (λ ts. seq b is ts) (λ ts. seq c is ts) make (seq_follows b c p is)

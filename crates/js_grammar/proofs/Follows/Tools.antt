@@ -95,7 +95,9 @@ past {A = A} f g h = record {
     one_past y x ts s = record { pre = x ∷ s.pre; left = s.left; parts = ap (λ r. x ∷ r) s.parts; same = s.same; again = s.again }
 
 -- by a class of the next token
-pub peeks : {A V : Type 0} (k : Option Token → V) (f g : V → Reader A) → ((v : V) → Follows (f v) (g v)) → Follows (λ ts. f (k (head_of ts)) ts) (λ ts. g (k (head_of ts)) ts)
+pub peeks : {A V : Type 0} (k : Option Token → V) (f g : V → Reader A)
+    → ((v : V) → Follows (f v) (g v))
+    → Follows (λ ts. f (k (head_of ts)) ts) (λ ts. g (k (head_of ts)) ts)
 peeks k f g h = record {
   at = λ ts c.
       let s = (h (k (head_of ts))).at ts c in
@@ -109,10 +111,16 @@ peeks k f g h = record {
       };
 }
 
-pub binds : {A B : Type 0} (f f' : Reader A) (g g' : A → Reader B) → Follows f f' → ((a : A) → Follows (g a) (g' a)) → Follows (λ ts. f ts >>= λ x. g x.0 x.1) (λ ts. f' ts >>= λ x. g' x.0 x.1)
+pub binds : {A B : Type 0} (f f' : Reader A) (g g' : A → Reader B)
+    → Follows f f'
+    → ((a : A) → Follows (g a) (g' a))
+    → Follows (λ ts. f ts >>= λ x. g x.0 x.1) (λ ts. f' ts >>= λ x. g' x.0 x.1)
 binds {A = A} {B = B} f f' g g' h k = record { at = λ ts. by_answer ts (f ts) (h.at ts) }
   where
-    then_ok : (ts : List Token) (a : A) (r : List Token) (y : Read B) → Seen f' ts (Ok (a, r)) → Seen (g' a) r y → Seen (λ ts. f' ts >>= λ x. g' x.0 x.1) ts y
+    then_ok : (ts : List Token) (a : A) (r : List Token) (y : Read B)
+        → Seen f' ts (Ok (a, r))
+        → Seen (g' a) r y
+        → Seen (λ ts. f' ts >>= λ x. g' x.0 x.1) ts y
     then_ok ts a r y s t =
         let left_is : s.left ≡ r = same_left a s.left r s.same in
         let head_is : (q : List Token) → head_of q ≡ head_of t.left → head_of (t.pre ++ q) ≡ head_of s.left = λ q e. head_past t.pre q t.left e ∙ ap (λ l. head_of l) (sym t.parts ∙ sym left_is) in
@@ -124,28 +132,42 @@ binds {A = A} {B = B} f f' g g' h k = record { at = λ ts. by_answer ts (f ts) (
           again = λ q e. rw (append_assoc s.pre t.pre q, s.again (t.pre ++ q) (head_is q e)) (t.again q e);
         }
 
-    then_stuck : (ts : List Token) (n : ℕ) → Seen f' ts (Err (stuck n)) → Seen {A = B} (λ ts. f' ts >>= λ x. g' x.0 x.1) ts (Err (stuck n))
+    then_stuck : (ts : List Token) (n : ℕ)
+        → Seen f' ts (Err (stuck n))
+        → Seen {A = B} (λ ts. f' ts >>= λ x. g' x.0 x.1) ts (Err (stuck n))
     then_stuck ts n s = record { pre = s.pre; left = s.left; parts = s.parts; same = let e : length s.left ≡ n = cc s.same in ap (λ n. Err (stuck n)) e; again = λ q e. rw (s.again q e) refl }
 
-    by_answer : (ts : List Token) (x : Read A) → FollowsAt x f' ts → FollowsAt (x >>= λ x. g x.0 x.1) (λ ts. f' ts >>= λ x. g' x.0 x.1) ts
+    by_answer : (ts : List Token) (x : Read A)
+        → FollowsAt x f' ts
+        → FollowsAt (x >>= λ x. g x.0 x.1) (λ ts. f' ts >>= λ x. g' x.0 x.1) ts
     by_answer ts (Ok x) s = λ c. then_ok ts x.0 x.1 (g x.0 x.1) (s tt) ((k x.0).at x.1 c)
     by_answer ts (Err (stuck n)) s = λ c. then_stuck ts n (s tt)
     by_answer ts (Err (deep k)) s = λ c. absurd c
 
 -- a value made of what is read
-pub makes : {A B : Type 0} (f f' : Reader A) (make : A → B) → Follows f f' → Follows (λ ts. f ts >>= λ x. Ok (make x.0, x.1)) (λ ts. f' ts >>= λ x. Ok (make x.0, x.1))
+pub makes : {A B : Type 0} (f f' : Reader A) (make : A → B)
+    → Follows f f'
+    → Follows (λ ts. f ts >>= λ x. Ok (make x.0, x.1)) (λ ts. f' ts >>= λ x. Ok (make x.0, x.1))
 makes f f' make h = binds f f' (λ a ts. Ok (make a, ts)) (λ a ts. Ok (make a, ts)) h (λ a. gives (make a))
 
 -- one test for both
-pub tests : {A : Type 0} (b : Bool) (f f' g g' : Reader A) → Follows f f' → Follows g g' → Follows (λ ts. cond b (f ts) (g ts)) (λ ts. cond b (f' ts) (g' ts))
+pub tests : {A : Type 0} (b : Bool) (f f' g g' : Reader A)
+    → Follows f f'
+    → Follows g g'
+    → Follows (λ ts. cond b (f ts) (g ts)) (λ ts. cond b (f' ts) (g' ts))
 tests true f f' g g' h k = h
 tests false f f' g g' h k = k
 
 -- a test of the depth, which may be looser on the right
-pub low_enough : {A : Type 0} (h n m : ℕ) (f g : Reader A) → n ≤ m → Follows f g → Follows (λ ts. cond (nat_le h n) (f ts) (Err (deep (length (tail_of ts))))) (λ ts. cond (nat_le h m) (g ts) (Err (deep (length (tail_of ts)))))
+pub low_enough : {A : Type 0} (h n m : ℕ) (f g : Reader A)
+    → n ≤ m
+    → Follows f g
+    → Follows (λ ts. cond (nat_le h n) (f ts) (Err (deep (length (tail_of ts))))) (λ ts. cond (nat_le h m) (g ts) (Err (deep (length (tail_of ts)))))
 low_enough h n m f g le k = record { at = λ ts. by_test ts (nat_le h n) refl }
   where
-    by_test : (ts : List Token) (b : Bool) → nat_le h n ≡ b → FollowsAt (cond b (f ts) (Err (deep (length (tail_of ts))))) (λ ts. cond (nat_le h m) (g ts) (Err (deep (length (tail_of ts))))) ts
+    by_test : (ts : List Token) (b : Bool)
+        → nat_le h n ≡ b
+        → FollowsAt (cond b (f ts) (Err (deep (length (tail_of ts))))) (λ ts. cond (nat_le h m) (g ts) (Err (deep (length (tail_of ts))))) ts
     by_test ts true e = λ c.
         let s = k.at ts c in
         let low : h ≤ n = leb-true h n e in
@@ -162,7 +184,11 @@ pub from : {A : Type 0} (f f' g : Reader A) → ((ts : List Token) → f' ts ≡
 from f f' g e h = record { at = λ ts. subst (λ x. FollowsAt x g ts) (sym (e ts)) (h.at ts) }
 
 -- on both sides
-pub alike : {A : Type 0} (f f' g g' : Reader A) → ((ts : List Token) → f' ts ≡ f ts) → ((ts : List Token) → g' ts ≡ g ts) → Follows f g → Follows f' g'
+pub alike : {A : Type 0} (f f' g g' : Reader A)
+    → ((ts : List Token) → f' ts ≡ f ts)
+    → ((ts : List Token) → g' ts ≡ g ts)
+    → Follows f g
+    → Follows f' g'
 alike f f' g g' e e' h = from f f' g' e (onto f g g' e' h)
 
 -- ---- what it says of answers
@@ -176,14 +202,26 @@ abbrev pub Takes : {A : Type 0} → Reader A → Type 0
 Takes {A} f = (ts : List Token) (x : A × List Token) → f ts ≡ Ok x → suc (length x.1) ≤ length ts
 
 -- what f reads, g reads before all tokens that begin alike
-pub reads_again : {A : Type 0} (f g : Reader A) → Follows f g → (ts : List Token) (a : A) (left : List Token) → f ts ≡ Ok (a, left) → (pre : List Token) × (ts ≡ pre ++ left) × ((r : List Token) → head_of r ≡ head_of left → g (pre ++ r) ≡ Ok (a, r))
+pub reads_again : {A : Type 0} (f g : Reader A)
+    → Follows f g
+    → (ts : List Token) (a : A) (left : List Token)
+    → f ts ≡ Ok (a, left)
+    → (pre : List Token) × (ts ≡ pre ++ left) × ((r : List Token) → head_of r ≡ head_of left → g (pre ++ r) ≡ Ok (a, r))
 reads_again {A} f g h ts a left e =
     let s : Seen g ts (Ok (a, left)) = subst (λ (x : Read A). FollowsAt x g ts) e (h.at ts) tt in
     let is : s.left ≡ left = same_left a s.left left s.same in
     (s.pre, s.parts ∙ ap (λ (l : List Token). s.pre ++ l) is, λ r q. s.again r (q ∙ ap (λ (l : List Token). head_of l) (sym is)))
 
 -- where f is stuck, g is stuck before all tokens that begin alike
-pub sticks_again : {A : Type 0} (f g : Reader A) → Follows f g → (ts : List Token) (k : ℕ) → f ts ≡ Err (stuck k) → (pre : List Token) × (left : List Token) × (ts ≡ pre ++ left) × (length left ≡ k) × ((r : List Token) → head_of r ≡ head_of left → g (pre ++ r) ≡ Err (stuck (length r)))
+pub sticks_again : {A : Type 0} (f g : Reader A)
+    → Follows f g
+    → (ts : List Token) (k : ℕ)
+    → f ts ≡ Err (stuck k)
+    → (pre : List Token)
+    × (left : List Token)
+    × (ts ≡ pre ++ left)
+    × (length left ≡ k)
+    × ((r : List Token) → head_of r ≡ head_of left → g (pre ++ r) ≡ Err (stuck (length r)))
 sticks_again {A} f g h ts k e =
     let s : Seen g ts (Err (stuck k)) = subst (λ (x : Read A). FollowsAt x g ts) e (h.at ts) tt in
     (s.pre, s.left, s.parts, same_count {A = A} (length s.left) k s.same, s.again)
@@ -208,18 +246,31 @@ pub record Turns {S B : Type 0} (body : (S → Reader B) → S → Reader B) (go
 abbrev pub enough_of : {S B : Type 0} → (ℕ → S → Reader B) → S → Reader B
 enough_of go s ts = go (suc (length ts)) s ts
 
-enough : {S B : Type 0} (body : (S → Reader B) → S → Reader B) (go : ℕ → S → Reader B) → Turns body go → Local body → (k j : ℕ) (s : S) (ts : List Token) → length ts < k → length ts < j → go k s ts ≡ go j s ts
+enough : {S B : Type 0} (body : (S → Reader B) → S → Reader B) (go : ℕ → S → Reader B)
+    → Turns body go
+    → Local body
+    → (k j : ℕ) (s : S) (ts : List Token)
+    → length ts < k
+    → length ts < j
+    → go k s ts ≡ go j s ts
 enough body go t l zero j s ts p q = absurd (omega arith)
 enough body go t l (suc k) zero s ts p q = absurd (omega arith)
 enough body go t l (suc k) (suc j) s ts p q =
     t.one k s ts ∙ l (λ u r. go k u r) (λ u r. go j u r) s ts (λ u r e. enough body go t l k j u r (omega arith) (omega arith)) ∙ sym (t.one j s ts)
 
-pub one_turn : {S B : Type 0} (body : (S → Reader B) → S → Reader B) (go : ℕ → S → Reader B) → Turns body go → Local body → (s : S) (ts : List Token) → enough_of go s ts ≡ body (enough_of go) s ts
+pub one_turn : {S B : Type 0} (body : (S → Reader B) → S → Reader B) (go : ℕ → S → Reader B)
+    → Turns body go
+    → Local body
+    → (s : S) (ts : List Token)
+    → enough_of go s ts ≡ body (enough_of go) s ts
 one_turn body go t l s ts =
     t.one (length ts) s ts ∙ l (λ u r. go (length ts) u r) (enough_of go) s ts (λ u r e. enough body go t l (length ts) (suc (length r)) u r (omega arith) (omega arith))
 
 -- a loop with a bound on its turns
-pub loop_from : {S B : Type 0} (body body' : (S → Reader B) → S → Reader B) (go go' : ℕ → S → Reader B) → Turns body go → Turns body' go' → Local body'
+pub loop_from : {S B : Type 0} (body body' : (S → Reader B) → S → Reader B) (go go' : ℕ → S → Reader B)
+    → Turns body go
+    → Turns body' go'
+    → Local body'
     → ((f f' : S → Reader B) → ((s : S) → Follows (f s) (f' s)) → (s : S) → Follows (body f s) (body' f' s))
     → (k : ℕ) (s : S) → Follows (go k s) (enough_of go' s)
 loop_from body body' go go' t t' l c zero s = from (λ ts. Err (deep (length ts))) (go zero s) (enough_of go' s) (t.none s) (deepens (enough_of go' s))
@@ -228,7 +279,10 @@ loop_from body body' go go' t t' l c (suc k) s =
     (c (λ u r. go k u r) (enough_of go') (λ u. loop_from body body' go go' t t' l c k u) s)
 
 -- a loop, where each turn follows if the later ones do
-pub loops : {S B : Type 0} (body body' : (S → Reader B) → S → Reader B) (go go' : ℕ → S → Reader B) → Turns body go → Turns body' go' → Local body'
+pub loops : {S B : Type 0} (body body' : (S → Reader B) → S → Reader B) (go go' : ℕ → S → Reader B)
+    → Turns body go
+    → Turns body' go'
+    → Local body'
     → ((f f' : S → Reader B) → ((s : S) → Follows (f s) (f' s)) → (s : S) → Follows (body f s) (body' f' s))
     → (s : S) → Follows (enough_of go s) (enough_of go' s)
 loops body body' go go' t t' l c s = record { at = λ ts. (loop_from body body' go go' t t' l c (suc (length ts)) s).at ts }

@@ -33,8 +33,18 @@ use Rattle.std.proofs.lemmas.Bool.{and_parts, not-true}
 abbrev pub TakesFunction : ℕ → List Token → Expression → List Token → Type 0
 TakesFunction n s e r = TakesExpression 1 (suc n) s e r × (is_function e ≡ true)
 
-arrow_body_by_sound : (q : SeqSound) (n : ℕ) (b : Below) → SoundBelow n b → (s : List Token) (ps : Parameters) (ts : List Token) → Matches (flat_arrow_parameters ps) s ts → AreFresh [] (names_of_parameters ps)
-    → (us : List Token) → Matches (beside (fixed kinds.Arrow) ∷ []) ts us → (c : Bool) → is_kind kinds.LeftBrace (head_of us) ≡ c → (x : Expression × List Token) → arrow_body_by b ps (names_of_parameters ps) c us ≡ Ok x → TakesFunction n s x.0 x.1
+arrow_body_by_sound : (q : SeqSound) (n : ℕ) (b : Below)
+    → SoundBelow n b
+    → (s : List Token) (ps : Parameters) (ts : List Token)
+    → Matches (flat_arrow_parameters ps) s ts
+    → AreFresh [] (names_of_parameters ps)
+    → (us : List Token)
+    → Matches (beside (fixed kinds.Arrow) ∷ []) ts us
+    → (c : Bool)
+    → is_kind kinds.LeftBrace (head_of us) ≡ c
+    → (x : Expression × List Token)
+    → arrow_body_by b ps (names_of_parameters ps) c us ≡ Ok x
+    → TakesFunction n s x.0 x.1
 arrow_body_by_sound q n b snd s ps ts m fresh us a true f x e =
     made_takes q n b snd (in_braces function_body (with_names [] (names_of_parameters ps)) ∷ []) (λ v. trees.arrow_block ps v.0) us x (λ e r. TakesFunction n s e r) (λ v r t. (
       record {
@@ -56,13 +66,23 @@ arrow_body_by_sound q n b snd s ps ts m fresh us a false f x e =
       refl,
     )) e
 
-pub arrow_rest_sound : (q : SeqSound) (n : ℕ) (b : Below) → SoundBelow n b → (s : List Token) (ps : Parameters) (ts : List Token) (x : Expression × List Token) → Matches (flat_arrow_parameters ps) s ts → AreFresh [] (names_of_parameters ps) → arrow_rest b ps (names_of_parameters ps) ts ≡ Ok x → TakesFunction n s x.0 x.1
+pub arrow_rest_sound : (q : SeqSound) (n : ℕ) (b : Below)
+    → SoundBelow n b
+    → (s : List Token) (ps : Parameters) (ts : List Token) (x : Expression × List Token)
+    → Matches (flat_arrow_parameters ps) s ts
+    → AreFresh [] (names_of_parameters ps)
+    → arrow_rest b ps (names_of_parameters ps) ts ≡ Ok x
+    → TakesFunction n s x.0 x.1
 unfolding arrow_rest
 arrow_rest_sound q n b snd s ps ts x m fresh e =
     let a = bind_ok (expect_near kinds.Arrow ts) (λ a. arrow_body_by b ps (names_of_parameters ps) (is_kind kinds.LeftBrace (head_of a.1)) a.1) x e in
     arrow_body_by_sound q n b snd s ps ts m fresh a.0.1 (expect_near_sound kinds.Arrow ts a.0 a.1) (is_kind kinds.LeftBrace (head_of a.0.1)) refl x a.2
 
-pub arrow_of_one_sound : (q : SeqSound) (n : ℕ) (b : Below) → SoundBelow n b → (ts : List Token) (x : Expression × List Token) → arrow_of_one b ts ≡ Ok x → TakesFunction n ts x.0 x.1
+pub arrow_of_one_sound : (q : SeqSound) (n : ℕ) (b : Below)
+    → SoundBelow n b
+    → (ts : List Token) (x : Expression × List Token)
+    → arrow_of_one b ts ≡ Ok x
+    → TakesFunction n ts x.0 x.1
 unfolding arrow_of_one
 arrow_of_one_sound q n b s ts x e =
     let p = bind_ok (name_at ts) (λ n. arrow_rest b (trees.one_name n.0) (n.0 ∷ []) n.1) x e in
@@ -75,7 +95,12 @@ fresh_is taken (n ∷ ns) e =
     (not-true (is_among taken n) p.0, fresh_is (n ∷ taken) ns p.1)
 
 -- an arrow function whose names in parentheses were read
-arrow_of_names_sound : (q : SeqSound) (n : ℕ) (b : Below) → SoundBelow n b → (s : List Token) (only : Bool) (names : List Identifier) (ts : List Token) (x : Expression × List Token) → Matches (flat_parameters names) s ts → arrow_of_names b only names ts ≡ Ok x → TakesFunction n s x.0 x.1
+arrow_of_names_sound : (q : SeqSound) (n : ℕ) (b : Below)
+    → SoundBelow n b
+    → (s : List Token) (only : Bool) (names : List Identifier) (ts : List Token) (x : Expression × List Token)
+    → Matches (flat_parameters names) s ts
+    → arrow_of_names b only names ts ≡ Ok x
+    → TakesFunction n s x.0 x.1
 arrow_of_names_sound q n b snd s only names ts x m e =
     elim (cond_ok (are_fresh [] names) (arrow_rest b (trees.name_list names) names ts) (if only then Err (stuck (suc (length ts))) else Err (stuck (length ts))) x e) [
       | inl p ↦ arrow_rest_sound q n b snd s (trees.name_list names) ts x m (fresh_is [] names p.0) p.1
@@ -85,7 +110,11 @@ arrow_of_names_sound q n b snd s only names ts x m e =
       ]
     ]
 
-pub arrow_of_list_sound : (q : SeqSound) (n : ℕ) (b : Below) → SoundBelow n b → (only : Bool) (ts : List Token) (x : Expression × List Token) → arrow_of_list b only ts ≡ Ok x → TakesFunction n ts x.0 x.1
+pub arrow_of_list_sound : (q : SeqSound) (n : ℕ) (b : Below)
+    → SoundBelow n b
+    → (only : Bool) (ts : List Token) (x : Expression × List Token)
+    → arrow_of_list b only ts ≡ Ok x
+    → TakesFunction n ts x.0 x.1
 unfolding arrow_of_list
 arrow_of_list_sound q n b s only ts x e =
     let o = bind_ok (expect kinds.LeftParenthesis ts) (λ o. names_before o.1 >>= λ ns. arrow_of_names b only ns.0 ns.1) x e in
@@ -95,7 +124,12 @@ arrow_of_list_sound q n b s only ts x e =
 
 -- ---- assignments
 
-joined_by_sound : (q : SeqSound) (n : ℕ) (b : Below) → SoundBelow n b → (s : List Token) (t : Expression) (j : Joint) (ts : List Token) (x : Expression × List Token) → TakesExpression 3 (suc n) s t ts → joined_by b n t j ts ≡ Ok x → TakesExpression 1 (suc n) s x.0 x.1
+joined_by_sound : (q : SeqSound) (n : ℕ) (b : Below)
+    → SoundBelow n b
+    → (s : List Token) (t : Expression) (j : Joint) (ts : List Token) (x : Expression × List Token)
+    → TakesExpression 3 (suc n) s t ts
+    → joined_by b n t j ts ≡ Ok x
+    → TakesExpression 1 (suc n) s x.0 x.1
 joined_by_sound q n b snd s t question ts x l e =
     let p = low_ok (height t) n ts (made b (tok kinds.Question ∷ an_assignment ∷ tok kinds.Colon ∷ an_assignment ∷ []) (λ v. trees.conditional t v.1.0 v.1.1.1.0) ts) x e in
     made_takes q n b snd (tok kinds.Question ∷ an_assignment ∷ tok kinds.Colon ∷ an_assignment ∷ []) (λ v. trees.conditional t v.1.0 v.1.1.1.0) ts x (λ e r. TakesExpression 1 (suc n) s e r) (λ v r a. record {
@@ -115,29 +149,52 @@ joined_by_sound q n b snd s t (assigns_by o) ts x l e =
     }) p.1
 joined_by_sound q n b snd s t no_joint ts x l e = takes_ok 1 (suc n) s t ts x e (weaker 3 1 (suc n) s t ts (omega arith) l)
 
-pub joined_sound : (q : SeqSound) (n : ℕ) (b : Below) → SoundBelow n b → (s : List Token) (t : Expression) (ts : List Token) (x : Expression × List Token) → TakesExpression 3 (suc n) s t ts → joined b n t ts ≡ Ok x → TakesExpression 1 (suc n) s x.0 x.1
+pub joined_sound : (q : SeqSound) (n : ℕ) (b : Below)
+    → SoundBelow n b
+    → (s : List Token) (t : Expression) (ts : List Token) (x : Expression × List Token)
+    → TakesExpression 3 (suc n) s t ts
+    → joined b n t ts ≡ Ok x
+    → TakesExpression 1 (suc n) s x.0 x.1
 unfolding joined
 joined_sound q n b snd s t ts x l e = joined_by_sound q n b snd s t (joint (head_of ts)) ts x l e
 
-assignment_by_sound : (q : SeqSound) (n : ℕ) (b : Below) → SoundBelow n b → (h : Head) (ts : List Token) (x : Expression × List Token) → assignment_by b n h ts ≡ Ok x → TakesExpression 1 (suc n) ts x.0 x.1
+assignment_by_sound : (q : SeqSound) (n : ℕ) (b : Below)
+    → SoundBelow n b
+    → (h : Head) (ts : List Token) (x : Expression × List Token)
+    → assignment_by b n h ts ≡ Ok x
+    → TakesExpression 1 (suc n) ts x.0 x.1
 assignment_by_sound q n b s one_parameter ts x e = (arrow_of_one_sound q n b s ts x e).0
 assignment_by_sound q n b s (listed only) ts x e = (arrow_of_list_sound q n b s only ts x e).0
 assignment_by_sound q n b s no_arrow ts x e =
     let p = bind_ok (operation b n 3 ts) (λ x. joined b n x.0 x.1) x e in
     joined_sound q n b s ts p.0.0 p.0.1 x (operation_sound n b s (call_sound q n b s) 3 (omega arith) ts p.0 p.1).0 p.2
 
-pub assignment_sound : (q : SeqSound) (n : ℕ) (b : Below) → SoundBelow n b → (ts : List Token) (x : Expression × List Token) → assignment b n ts ≡ Ok x → TakesExpression 1 (suc n) ts x.0 x.1
+pub assignment_sound : (q : SeqSound) (n : ℕ) (b : Below)
+    → SoundBelow n b
+    → (ts : List Token) (x : Expression × List Token)
+    → assignment b n ts ≡ Ok x
+    → TakesExpression 1 (suc n) ts x.0 x.1
 unfolding assignment
 assignment_sound q n b s ts x e = assignment_by_sound q n b s (arrow_head ts) ts x e
 
 -- ---- expressions
 
 -- a comma goes on with one expression at least
-two_by : (e : Expression) (es : Expressions) (ts r : List Token) → is_kind kinds.Comma (head_of ts) ≡ true → is_kind kinds.Comma (head_of r) ≡ false → Matches (more_expressions es) ts r → is_two_expressions (trees.an_expression e es) ≡ true
+two_by : (e : Expression) (es : Expressions) (ts r : List Token)
+    → is_kind kinds.Comma (head_of ts) ≡ true
+    → is_kind kinds.Comma (head_of r) ≡ false
+    → Matches (more_expressions es) ts r
+    → is_two_expressions (trees.an_expression e es) ≡ true
 two_by e trees.no_expressions ts r f g m = let same : is_kind kinds.Comma (head_of ts) ≡ is_kind kinds.Comma (head_of r) = ap (λ (l : List Token). is_kind kinds.Comma (head_of l)) m in absurd cc
 two_by e (trees.an_expression d es) ts r f g m = refl
 
-comma_by_sound : (n : ℕ) (b : Below) → SoundBelow n b → (s : List Token) (f : Expression) (c : Bool) (ts : List Token) (x : Expression × List Token) → is_kind kinds.Comma (head_of ts) ≡ c → TakesExpression 1 (suc n) s f ts → comma_by b n f c ts ≡ Ok x → TakesExpression 0 (suc n) s x.0 x.1
+comma_by_sound : (n : ℕ) (b : Below)
+    → SoundBelow n b
+    → (s : List Token) (f : Expression) (c : Bool) (ts : List Token) (x : Expression × List Token)
+    → is_kind kinds.Comma (head_of ts) ≡ c
+    → TakesExpression 1 (suc n) s f ts
+    → comma_by b n f c ts ≡ Ok x
+    → TakesExpression 0 (suc n) s x.0 x.1
 comma_by_sound n b snd s f false ts x g t e = takes_ok 0 (suc n) s f ts x e (weaker 1 0 (suc n) s f ts (omega arith) t)
 comma_by_sound n b snd s f true ts x g t e =
     let l = low_ok (height f) n ts (more_assignments b ts >>= λ x. Ok (trees.comma (trees.an_expression f x.0), x.1)) x e in
@@ -150,7 +207,11 @@ comma_by_sound n b snd s f true ts x g t e =
       height = omega (arith, a.2, l.0);
     })
 
-pub expression_sound : (q : SeqSound) (n : ℕ) (b : Below) → SoundBelow n b → (ts : List Token) (x : Expression × List Token) → expression b n ts ≡ Ok x → TakesExpression 0 (suc n) ts x.0 x.1
+pub expression_sound : (q : SeqSound) (n : ℕ) (b : Below)
+    → SoundBelow n b
+    → (ts : List Token) (x : Expression × List Token)
+    → expression b n ts ≡ Ok x
+    → TakesExpression 0 (suc n) ts x.0 x.1
 unfolding expression
 expression_sound q n b s ts x e =
     let p = bind_ok (assignment b n ts) (λ x. comma_by b n x.0 (is_kind kinds.Comma (head_of x.1)) x.1) x e in
@@ -159,7 +220,12 @@ expression_sound q n b s ts x e =
 -- ---- functions alone
 
 -- a function expression or an arrow function
-pub function_code_sound : (q : SeqSound) (n : ℕ) (b : Below) → SoundBelow n b → (c : Start) (ts : List Token) (x : Expression × List Token) → start (head_of ts) ≡ c → function_code_by b c ts ≡ Ok x → TakesFunction n ts x.0 x.1
+pub function_code_sound : (q : SeqSound) (n : ℕ) (b : Below)
+    → SoundBelow n b
+    → (c : Start) (ts : List Token) (x : Expression × List Token)
+    → start (head_of ts) ≡ c
+    → function_code_by b c ts ≡ Ok x
+    → TakesFunction n ts x.0 x.1
 function_code_sound q n b s classes.function_word ts x f e =
     let t = function_sound q n b s ts x (start_function (head_of ts) f) e in
     (weaker 15 1 (suc n) ts x.0 x.1 (omega arith) t.0, t.1)

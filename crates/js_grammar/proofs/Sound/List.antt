@@ -64,12 +64,22 @@ after_ends closer o e = next_is closer o (closes (is_kind closer o) (is_kind kin
     closes false false e = absurd cc
 
 -- a comma with what is read behind it
-behind_one : {A : Type 0} (flat_of : A → List Mark) (closer : TokenKind) (xs : List A) (ts r : List Token) → IsNext (fixed kinds.Comma) (head_of ts) → Matches (up_to flat_of closer xs) (tail_of ts) r → Matches (behind_commas flat_of xs ++ (trailing_comma ∷ token (fixed closer) ∷ [])) ts r
+behind_one : {A : Type 0} (flat_of : A → List Mark) (closer : TokenKind) (xs : List A) (ts r : List Token)
+    → IsNext (fixed kinds.Comma) (head_of ts)
+    → Matches (up_to flat_of closer xs) (tail_of ts) r
+    → Matches (behind_commas flat_of xs ++ (trailing_comma ∷ token (fixed closer) ∷ [])) ts r
 behind_one flat_of closer [] ts r c m = inl (c, m)
 behind_one flat_of closer (x ∷ xs) ts r c m = (c, m)
 
-go_after_sound : {A : Type 0} (flat_of : A → List Mark) (closer : TokenKind) (Fine : List A → Type 0) → Fine [] → (go : Reader (List A)) → ((ts : List Token) (y : List A × List Token) → go ts ≡ Ok y → Matches (up_to flat_of closer y.0) ts y.1 × Fine y.0)
-    → (a : After) (ts : List Token) → after closer (head_of ts) ≡ a → (y : List A × List Token) → go_after go a ts ≡ Ok y → Matches (behind_commas flat_of y.0 ++ (trailing_comma ∷ token (fixed closer) ∷ [])) ts y.1 × Fine y.0
+go_after_sound : {A : Type 0} (flat_of : A → List Mark) (closer : TokenKind) (Fine : List A → Type 0)
+    → Fine []
+    → (go : Reader (List A))
+    → ((ts : List Token) (y : List A × List Token) → go ts ≡ Ok y → Matches (up_to flat_of closer y.0) ts y.1 × Fine y.0)
+    → (a : After) (ts : List Token)
+    → after closer (head_of ts) ≡ a
+    → (y : List A × List Token)
+    → go_after go a ts ≡ Ok y
+    → Matches (behind_commas flat_of y.0 ++ (trailing_comma ∷ token (fixed closer) ∷ [])) ts y.1 × Fine y.0
 go_after_sound flat_of closer Fine none go h goes_on ts f y e =
     let g = h (tail_of ts) y e in
     (behind_one flat_of closer y.0 ts y.1 (after_goes closer (head_of ts) f) g.0, g.1)
@@ -77,9 +87,15 @@ go_after_sound {A} flat_of closer Fine none go h ends ts f y e =
     subst (λ (y : List A × List Token). Matches (behind_commas flat_of y.0 ++ (trailing_comma ∷ token (fixed closer) ∷ [])) ts y.1 × Fine y.0) (ok_is ([], tail_of ts) y e) (inr (after_ends closer (head_of ts) f, refl), none)
 go_after_sound flat_of closer Fine none go h neither ts f y e = absurd cc
 
-elements_by_sound : {S A : Type 0} (one : S → Reader A) (next : S → A → S) (flat_of : A → List Mark) (Good : S → A → Type 0) → Reads one flat_of Good
-    → (closer : TokenKind) (go : S → Reader (List A)) → ((s : S) (ts : List Token) (y : List A × List Token) → go s ts ≡ Ok y → Matches (up_to flat_of closer y.0) ts y.1 × AllGood next Good s y.0)
-    → (c : Bool) (s : S) (ts : List Token) → is_kind closer (head_of ts) ≡ c → (y : List A × List Token) → elements_by one next go closer s c ts ≡ Ok y → Matches (up_to flat_of closer y.0) ts y.1 × AllGood next Good s y.0
+elements_by_sound : {S A : Type 0} (one : S → Reader A) (next : S → A → S) (flat_of : A → List Mark) (Good : S → A → Type 0)
+    → Reads one flat_of Good
+    → (closer : TokenKind) (go : S → Reader (List A))
+    → ((s : S) (ts : List Token) (y : List A × List Token) → go s ts ≡ Ok y → Matches (up_to flat_of closer y.0) ts y.1 × AllGood next Good s y.0)
+    → (c : Bool) (s : S) (ts : List Token)
+    → is_kind closer (head_of ts) ≡ c
+    → (y : List A × List Token)
+    → elements_by one next go closer s c ts ≡ Ok y
+    → Matches (up_to flat_of closer y.0) ts y.1 × AllGood next Good s y.0
 elements_by_sound {S} {A} one next flat_of Good reads closer go h true s ts f y e =
     subst (λ (y : List A × List Token). Matches (up_to flat_of closer y.0) ts y.1 × AllGood next Good s y.0) (ok_is ([], tail_of ts) y e) ((next_is closer (head_of ts) f, refl), tt)
 elements_by_sound {S} {A} one next flat_of Good reads closer go h false s ts f y e =
@@ -91,8 +107,11 @@ elements_by_sound {S} {A} one next flat_of Good reads closer go h false s ts f y
     subst (λ (y : List A × List Token). Matches (up_to flat_of closer y.0) ts y.1 × AllGood next Good s y.0) {x = (p.0.0 ∷ q.0.0, q.0.1)} (ok_is (p.0.0 ∷ q.0.0, q.0.1) y q.2)
     (subst (λ (ms : List Mark). Matches ms ts q.0.1) (sym (append_assoc (flat_of p.0.0) (behind_commas flat_of q.0.0) (trailing_comma ∷ token (fixed closer) ∷ []))) m, (t.1, u.1))
 
-pub elements_sound : {S A : Type 0} (one : S → Reader A) (next : S → A → S) (flat_of : A → List Mark) (Good : S → A → Type 0) → Reads one flat_of Good
-    → (closer : TokenKind) (k : ℕ) (s : S) (ts : List Token) (y : List A × List Token) → elements one next closer k s ts ≡ Ok y → Matches (up_to flat_of closer y.0) ts y.1 × AllGood next Good s y.0
+pub elements_sound : {S A : Type 0} (one : S → Reader A) (next : S → A → S) (flat_of : A → List Mark) (Good : S → A → Type 0)
+    → Reads one flat_of Good
+    → (closer : TokenKind) (k : ℕ) (s : S) (ts : List Token) (y : List A × List Token)
+    → elements one next closer k s ts ≡ Ok y
+    → Matches (up_to flat_of closer y.0) ts y.1 × AllGood next Good s y.0
 unfolding elements
 elements_sound one next flat_of Good reads closer zero s ts y e = absurd cc
 elements_sound one next flat_of Good reads closer (suc k) s ts y e =
@@ -100,9 +119,15 @@ elements_sound one next flat_of Good reads closer (suc k) s ts y e =
 
 -- ---- further elements
 
-others_by_sound : {S A : Type 0} (one : S → Reader A) (next : S → A → S) (flat_of : A → List Mark) (Good : S → A → Type 0) → Reads one flat_of Good
-    → (go : S → Reader (List A)) → ((s : S) (ts : List Token) (y : List A × List Token) → go s ts ≡ Ok y → Matches (behind_commas flat_of y.0) ts y.1 × AllGood next Good s y.0 × (is_kind kinds.Comma (head_of y.1) ≡ false))
-    → (c : Bool) (s : S) (ts : List Token) → is_kind kinds.Comma (head_of ts) ≡ c → (y : List A × List Token) → others_by one next go s c ts ≡ Ok y → Matches (behind_commas flat_of y.0) ts y.1 × AllGood next Good s y.0 × (is_kind kinds.Comma (head_of y.1) ≡ false)
+others_by_sound : {S A : Type 0} (one : S → Reader A) (next : S → A → S) (flat_of : A → List Mark) (Good : S → A → Type 0)
+    → Reads one flat_of Good
+    → (go : S → Reader (List A))
+    → ((s : S) (ts : List Token) (y : List A × List Token) → go s ts ≡ Ok y → Matches (behind_commas flat_of y.0) ts y.1 × AllGood next Good s y.0 × (is_kind kinds.Comma (head_of y.1) ≡ false))
+    → (c : Bool) (s : S) (ts : List Token)
+    → is_kind kinds.Comma (head_of ts) ≡ c
+    → (y : List A × List Token)
+    → others_by one next go s c ts ≡ Ok y
+    → Matches (behind_commas flat_of y.0) ts y.1 × AllGood next Good s y.0 × (is_kind kinds.Comma (head_of y.1) ≡ false)
 others_by_sound {S} {A} one next flat_of Good reads go h false s ts f y e =
     subst (λ (y : List A × List Token). Matches (behind_commas flat_of y.0) ts y.1 × AllGood next Good s y.0 × (is_kind kinds.Comma (head_of y.1) ≡ false)) (ok_is ([], ts) y e) (refl, tt, f)
 others_by_sound {S} {A} one next flat_of Good reads go h true s ts f y e =
@@ -114,8 +139,11 @@ others_by_sound {S} {A} one next flat_of Good reads go h true s ts f y e =
     ((next_is kinds.Comma (head_of ts) f, joins (flat_of p.0.0) (behind_commas flat_of q.0.0) (tail_of ts) p.0.1 q.0.1 t.0 u.0), (t.1, u.1), u.2)
 
 -- behind the last of them stands no comma
-pub others_sound : {S A : Type 0} (one : S → Reader A) (next : S → A → S) (flat_of : A → List Mark) (Good : S → A → Type 0) → Reads one flat_of Good
-    → (k : ℕ) (s : S) (ts : List Token) (y : List A × List Token) → others one next k s ts ≡ Ok y → Matches (behind_commas flat_of y.0) ts y.1 × AllGood next Good s y.0 × (is_kind kinds.Comma (head_of y.1) ≡ false)
+pub others_sound : {S A : Type 0} (one : S → Reader A) (next : S → A → S) (flat_of : A → List Mark) (Good : S → A → Type 0)
+    → Reads one flat_of Good
+    → (k : ℕ) (s : S) (ts : List Token) (y : List A × List Token)
+    → others one next k s ts ≡ Ok y
+    → Matches (behind_commas flat_of y.0) ts y.1 × AllGood next Good s y.0 × (is_kind kinds.Comma (head_of y.1) ≡ false)
 unfolding others
 others_sound one next flat_of Good reads zero s ts y e = absurd cc
 others_sound one next flat_of Good reads (suc k) s ts y e =
@@ -123,9 +151,15 @@ others_sound one next flat_of Good reads (suc k) s ts y e =
 
 -- ---- elements up to what ends a list of statements
 
-items_by_sound : {S A : Type 0} (one : S → Reader A) (next : S → A → S) (flat_of : A → List Mark) (Good : S → A → Type 0) → Reads one flat_of Good
-    → (go : S → Reader (List A)) → ((s : S) (ts : List Token) (y : List A × List Token) → go s ts ≡ Ok y → Matches (in_a_row flat_of y.0) ts y.1 × AllGood next Good s y.0 × (ends_list (head_of y.1) ≡ true))
-    → (c : Bool) (s : S) (ts : List Token) → ends_list (head_of ts) ≡ c → (y : List A × List Token) → items_by one next go s c ts ≡ Ok y → Matches (in_a_row flat_of y.0) ts y.1 × AllGood next Good s y.0 × (ends_list (head_of y.1) ≡ true)
+items_by_sound : {S A : Type 0} (one : S → Reader A) (next : S → A → S) (flat_of : A → List Mark) (Good : S → A → Type 0)
+    → Reads one flat_of Good
+    → (go : S → Reader (List A))
+    → ((s : S) (ts : List Token) (y : List A × List Token) → go s ts ≡ Ok y → Matches (in_a_row flat_of y.0) ts y.1 × AllGood next Good s y.0 × (ends_list (head_of y.1) ≡ true))
+    → (c : Bool) (s : S) (ts : List Token)
+    → ends_list (head_of ts) ≡ c
+    → (y : List A × List Token)
+    → items_by one next go s c ts ≡ Ok y
+    → Matches (in_a_row flat_of y.0) ts y.1 × AllGood next Good s y.0 × (ends_list (head_of y.1) ≡ true)
 items_by_sound {S} {A} one next flat_of Good reads go h true s ts f y e =
     subst (λ (y : List A × List Token). Matches (in_a_row flat_of y.0) ts y.1 × AllGood next Good s y.0 × (ends_list (head_of y.1) ≡ true)) (ok_is ([], ts) y e) (refl, tt, f)
 items_by_sound {S} {A} one next flat_of Good reads go h false s ts f y e =
@@ -137,8 +171,11 @@ items_by_sound {S} {A} one next flat_of Good reads go h false s ts f y e =
     (joins (flat_of p.0.0) (in_a_row flat_of q.0.0) ts p.0.1 q.0.1 t.0 u.0, (t.1, u.1), u.2)
 
 -- behind the last of them stands what ends a list
-pub items_sound : {S A : Type 0} (one : S → Reader A) (next : S → A → S) (flat_of : A → List Mark) (Good : S → A → Type 0) → Reads one flat_of Good
-    → (k : ℕ) (s : S) (ts : List Token) (y : List A × List Token) → items one next k s ts ≡ Ok y → Matches (in_a_row flat_of y.0) ts y.1 × AllGood next Good s y.0 × (ends_list (head_of y.1) ≡ true)
+pub items_sound : {S A : Type 0} (one : S → Reader A) (next : S → A → S) (flat_of : A → List Mark) (Good : S → A → Type 0)
+    → Reads one flat_of Good
+    → (k : ℕ) (s : S) (ts : List Token) (y : List A × List Token)
+    → items one next k s ts ≡ Ok y
+    → Matches (in_a_row flat_of y.0) ts y.1 × AllGood next Good s y.0 × (ends_list (head_of y.1) ≡ true)
 unfolding items
 items_sound one next flat_of Good reads zero s ts y e = absurd cc
 items_sound one next flat_of Good reads (suc k) s ts y e =

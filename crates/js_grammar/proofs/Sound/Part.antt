@@ -33,12 +33,16 @@ or_swap true false c = refl
 or_swap false b c = refl
 
 -- a name is among names and further ones if it is among one of the two
-pub among_with : (taken ns : List Identifier) (n : Identifier) → is_among (with_names taken ns) n ≡ (is_among ns n || is_among taken n)
+pub among_with : (taken ns : List Identifier) (n : Identifier)
+    → is_among (with_names taken ns) n ≡ (is_among ns n || is_among taken n)
 among_with taken [] n = refl
 among_with taken (m ∷ ns) n = among_with (m ∷ taken) ns n ∙ or_swap (pointwise nat_eq m n) (is_among ns n) (is_among taken n)
 
 -- names that differ from some differ from all lists with the same names
-pub fresh_same : (known taken ns : List Identifier) → ((n : Identifier) → is_among known n ≡ is_among taken n) → AreFresh known ns → AreFresh taken ns
+pub fresh_same : (known taken ns : List Identifier)
+    → ((n : Identifier) → is_among known n ≡ is_among taken n)
+    → AreFresh known ns
+    → AreFresh taken ns
 fresh_same known taken [] same f = tt
 fresh_same known taken (n ∷ ns) same f = (sym (same n) ∙ f.0, fresh_same (n ∷ known) (n ∷ taken) ns (λ m. ap (λ (b : Bool). pointwise nat_eq n m || b) (same m)) f.1)
 
@@ -51,7 +55,10 @@ pub fresh_behind : (ps ns : List Identifier) → AreFresh (with_names [] ps) ns 
 fresh_behind ps ns f = fresh_same (with_names [] ps) ps ns (λ n. among_with [] ps n ∙ or_false (is_among ps n)) f
 
 -- names that differ one after the other
-pub fresh_append : (taken ns ms : List Identifier) → AreFresh taken ns → AreFresh (with_names taken ns) ms → AreFresh taken (ns ++ ms)
+pub fresh_append : (taken ns ms : List Identifier)
+    → AreFresh taken ns
+    → AreFresh (with_names taken ns) ms
+    → AreFresh taken (ns ++ ms)
 fresh_append taken [] ms f g = g
 fresh_append taken (n ∷ ns) ms f g = (f.0, fresh_append (n ∷ taken) ns ms f.1 g)
 
@@ -64,7 +71,9 @@ IsAssignment n u e = Well e × (1 ≤ level e) × (height e ≤ n)
 one_reads : (n : ℕ) (b : Below) → SoundBelow n b → Reads (one_of b.assignment) flat (IsAssignment n)
 one_reads n b s = λ u ts x e. let t = s.assignment ts x e in (t.marks, (t.well, t.level, t.height))
 
-all_assignments : (n : ℕ) (u : Unit {0}) (es : List Expression) → AllGood no_state (IsAssignment n) u es → AreAssignments (expressions es) × (height_of_expressions (expressions es) ≤ n)
+all_assignments : (n : ℕ) (u : Unit {0}) (es : List Expression)
+    → AllGood no_state (IsAssignment n) u es
+    → AreAssignments (expressions es) × (height_of_expressions (expressions es) ≤ n)
 all_assignments n u [] g = (tt, omega arith)
 all_assignments n u (e ∷ es) g = let r = all_assignments n tt es g.1 in ((g.0.0, g.0.1, r.0), omega (arith, g.0.2, r.1))
 
@@ -72,12 +81,18 @@ pub more_is : (es : List Expression) → more_expressions (expressions es) ≡ b
 more_is [] = refl
 more_is (e ∷ es) = ap (λ (ms : List Mark). token (fixed kinds.Comma) ∷ (flat e ++ ms)) (append-nil (more_expressions (expressions es)) ∙ more_is es)
 
-pub arguments_marks : (closer : TokenKind) (es : List Expression) → flat_expressions (expressions es) ++ (trailing (expressions es) ++ (token (fixed closer) ∷ [])) ≡ up_to flat closer es
+pub arguments_marks : (closer : TokenKind) (es : List Expression)
+    → flat_expressions (expressions es) ++ (trailing (expressions es) ++ (token (fixed closer) ∷ [])) ≡ up_to flat closer es
 arguments_marks closer [] = refl
 arguments_marks closer (e ∷ es) = ap (λ (ms : List Mark). (flat e ++ ms) ++ (trailing_comma ∷ token (fixed closer) ∷ [])) (more_is es)
 
-pub arguments_sound : (n : ℕ) (b : Below) → SoundBelow n b → (closer : TokenKind) (ts : List Token) (x : Expressions × List Token) → arguments_before b closer ts ≡ Ok x
-    → Matches (flat_expressions x.0 ++ (trailing x.0 ++ (token (fixed closer) ∷ []))) ts x.1 × AreAssignments x.0 × (height_of_expressions x.0 ≤ n)
+pub arguments_sound : (n : ℕ) (b : Below)
+    → SoundBelow n b
+    → (closer : TokenKind) (ts : List Token) (x : Expressions × List Token)
+    → arguments_before b closer ts ≡ Ok x
+    → Matches (flat_expressions x.0 ++ (trailing x.0 ++ (token (fixed closer) ∷ []))) ts x.1
+    × AreAssignments x.0
+    × (height_of_expressions x.0 ≤ n)
 unfolding arguments_before
 arguments_sound n b s closer ts x e =
     let p = bind_ok (elements (one_of b.assignment) no_state closer (suc (length ts)) tt ts) (λ x. Ok (expressions x.0, x.1)) x e in
@@ -87,8 +102,14 @@ arguments_sound n b s closer ts x e =
     (subst (λ (ms : List Mark). Matches ms ts p.0.1) (sym (arguments_marks closer p.0.0)) t.0, g.0, g.1)
 
 -- behind further expressions stands no comma
-pub more_sound : (n : ℕ) (b : Below) → SoundBelow n b → (ts : List Token) (x : Expressions × List Token) → more_assignments b ts ≡ Ok x
-    → Matches (more_expressions x.0) ts x.1 × AreAssignments x.0 × (height_of_expressions x.0 ≤ n) × (is_kind kinds.Comma (head_of x.1) ≡ false)
+pub more_sound : (n : ℕ) (b : Below)
+    → SoundBelow n b
+    → (ts : List Token) (x : Expressions × List Token)
+    → more_assignments b ts ≡ Ok x
+    → Matches (more_expressions x.0) ts x.1
+    × AreAssignments x.0
+    × (height_of_expressions x.0 ≤ n)
+    × (is_kind kinds.Comma (head_of x.1) ≡ false)
 unfolding more_assignments
 more_sound n b s ts x e =
     let p = bind_ok (others (one_of b.assignment) no_state (suc (length ts)) tt ts) (λ x. Ok (expressions x.0, x.1)) x e in
@@ -103,7 +124,8 @@ pub more_names_is : (ns : List Identifier) → more_names ns ≡ behind_commas a
 more_names_is [] = refl
 more_names_is (n ∷ ns) = ap (λ (ms : List Mark). token (fixed kinds.Comma) ∷ token (identifier n) ∷ ms) (more_names_is ns)
 
-pub names_marks : (ns : List Identifier) → flat_names ns ++ (token (fixed kinds.RightParenthesis) ∷ []) ≡ up_to an_identifier kinds.RightParenthesis ns
+pub names_marks : (ns : List Identifier)
+    → flat_names ns ++ (token (fixed kinds.RightParenthesis) ∷ []) ≡ up_to an_identifier kinds.RightParenthesis ns
 names_marks [] = refl
 names_marks (n ∷ ns) =
     ap (λ (ms : List Mark). token (identifier n) ∷ ms) (append_assoc (more_names ns) (trailing_comma ∷ []) (token (fixed kinds.RightParenthesis) ∷ [])
@@ -113,7 +135,9 @@ abbrev AnyName : Unit {0} → Identifier → Type 0
 AnyName u n = Unit {0}
 
 -- names up to the parenthesis
-pub names_before_sound : (ts : List Token) (x : List Identifier × List Token) → names_before ts ≡ Ok x → Matches (flat_names x.0 ++ (token (fixed kinds.RightParenthesis) ∷ [])) ts x.1
+pub names_before_sound : (ts : List Token) (x : List Identifier × List Token)
+    → names_before ts ≡ Ok x
+    → Matches (flat_names x.0 ++ (token (fixed kinds.RightParenthesis) ∷ [])) ts x.1
 unfolding names_before
 names_before_sound ts x e =
     let t = elements_sound (one_of name_at) no_state an_identifier AnyName (λ u ts x e. (name_sound ts x e, tt)) kinds.RightParenthesis (suc (length ts)) tt ts x e in
@@ -127,7 +151,9 @@ pub all_fresh : (taken ns : List Identifier) → AllGood with_name Differs taken
 all_fresh taken [] g = tt
 all_fresh taken (n ∷ ns) g = (g.0, all_fresh (n ∷ taken) ns g.1)
 
-pub parameters_sound : (ts : List Token) (x : List Identifier × List Token) → parameters_at ts ≡ Ok x → Matches (flat_parameters x.0) ts x.1 × AreFresh [] x.0
+pub parameters_sound : (ts : List Token) (x : List Identifier × List Token)
+    → parameters_at ts ≡ Ok x
+    → Matches (flat_parameters x.0) ts x.1 × AreFresh [] x.0
 unfolding parameters_at
 parameters_sound ts x e =
     let o = bind_ok (expect kinds.LeftParenthesis ts) (λ o. elements fresh_name with_name kinds.RightParenthesis (suc (length o.1)) [] o.1) x e in
@@ -148,8 +174,11 @@ pub record TakesItems (context : Context) (taken : List Identifier) (n : ℕ) (t
 abbrev IsItem : Context → ℕ → List Identifier → Statement → Type 0
 IsItem context n taken s = WellStatement context s × AreFresh taken (declared_by s) × (height_of_statement s ≤ n)
 
-all_items : (context : Context) (n : ℕ) (taken : List Identifier) (ss : List Statement) → AllGood with_declared (IsItem context n) taken ss
-    → WellStatements context (statements ss) × AreFresh taken (declared_names (statements ss)) × (height_of_statements (statements ss) ≤ n)
+all_items : (context : Context) (n : ℕ) (taken : List Identifier) (ss : List Statement)
+    → AllGood with_declared (IsItem context n) taken ss
+    → WellStatements context (statements ss)
+    × AreFresh taken (declared_names (statements ss))
+    × (height_of_statements (statements ss) ≤ n)
 all_items context n taken [] g = (tt, tt, omega arith)
 all_items context n taken (s ∷ ss) g =
     let r = all_items context n (with_declared taken s) ss g.1 in
@@ -159,7 +188,11 @@ pub row_is : (ss : List Statement) → flat_statements (statements ss) ≡ in_a_
 row_is [] = refl
 row_is (s ∷ ss) = ap (λ (ms : List Mark). flat_statement s ++ ms) (row_is ss)
 
-pub items_at_sound : (n : ℕ) (b : Below) → SoundBelow n b → (context : Context) (taken : List Identifier) (ts : List Token) (x : Statements × List Token) → items_at b context taken ts ≡ Ok x → TakesItems context taken n ts x.0 x.1
+pub items_at_sound : (n : ℕ) (b : Below)
+    → SoundBelow n b
+    → (context : Context) (taken : List Identifier) (ts : List Token) (x : Statements × List Token)
+    → items_at b context taken ts ≡ Ok x
+    → TakesItems context taken n ts x.0 x.1
 unfolding items_at
 items_at_sound n b s context taken ts x e =
     let p = bind_ok (items (λ names r. b.item context names r) with_declared (suc (length ts)) taken ts) (λ x. Ok (statements x.0, x.1)) x e in
@@ -174,7 +207,11 @@ items_at_sound n b s context taken ts x e =
       ends = t.2;
     })
 
-pub braces_sound : (n : ℕ) (b : Below) → SoundBelow n b → (context : Context) (taken : List Identifier) (ts : List Token) (x : Statements × List Token) → braces b context taken ts ≡ Ok x → TakesBlock context taken n ts x.0 x.1
+pub braces_sound : (n : ℕ) (b : Below)
+    → SoundBelow n b
+    → (context : Context) (taken : List Identifier) (ts : List Token) (x : Statements × List Token)
+    → braces b context taken ts ≡ Ok x
+    → TakesBlock context taken n ts x.0 x.1
 unfolding braces
 braces_sound n b s context taken ts x e =
     let o = bind_ok (expect kinds.LeftBrace ts) (λ o. items_at b context taken o.1 >>= λ x. expect kinds.RightBrace x.1 >>= λ c. Ok (x.0, c.1)) x e in
@@ -189,7 +226,11 @@ braces_sound n b s context taken ts x e =
       height = t.height;
     })
 
-pub code_sound : (n : ℕ) (b : Below) → SoundBelow n b → (ts : List Token) (x : Code × List Token) → code_at b ts ≡ Ok x → TakesCode n ts x.0 x.1
+pub code_sound : (n : ℕ) (b : Below)
+    → SoundBelow n b
+    → (ts : List Token) (x : Code × List Token)
+    → code_at b ts ≡ Ok x
+    → TakesCode n ts x.0 x.1
 unfolding code_at
 code_sound n b s ts x e =
     let p = bind_ok (parameters_at ts) (λ ps. braces b function_body (with_names [] ps.0) ps.1 >>= λ body. Ok (record { parameters = ps.0; body = body.0 }, body.1)) x e in
@@ -217,12 +258,21 @@ pub record TakesDeclarator (constant : Bool) (taken : List Identifier) (n : ℕ)
   pub fresh : is_among taken (name_of d) ≡ false
   pub height : height_of_declarator d ≤ n
 
-pub initialized_present : (constant : Bool) (m : Identifier) (e : Expression) → InitializedOne constant (trees.declarator m (trees.present e))
+pub initialized_present : (constant : Bool) (m : Identifier) (e : Expression)
+    → InitializedOne constant (trees.declarator m (trees.present e))
 initialized_present true m e = refl
 initialized_present false m e = tt
 
-initializer_sound : (n : ℕ) (b : Below) → SoundBelow n b → (constant : Bool) (taken : List Identifier) (ts : List Token) (m : Identifier) (r : List Token) → Matches (token (identifier m) ∷ []) ts r → is_among taken m ≡ false
-    → (a : Bool) → is_kind kinds.Assign (head_of r) ≡ a → (x : Declarator × List Token) → initializer_by b constant m a r ≡ Ok x → TakesDeclarator constant taken n ts x.0 x.1
+initializer_sound : (n : ℕ) (b : Below)
+    → SoundBelow n b
+    → (constant : Bool) (taken : List Identifier) (ts : List Token) (m : Identifier) (r : List Token)
+    → Matches (token (identifier m) ∷ []) ts r
+    → is_among taken m ≡ false
+    → (a : Bool)
+    → is_kind kinds.Assign (head_of r) ≡ a
+    → (x : Declarator × List Token)
+    → initializer_by b constant m a r ≡ Ok x
+    → TakesDeclarator constant taken n ts x.0 x.1
 initializer_sound n b s constant taken ts m r t f true h x e =
     let p = bind_ok (b.assignment (tail_of r)) (λ e. Ok (trees.declarator m (trees.present e.0), e.1)) x e in
     let u = s.assignment (tail_of r) p.0 p.1 in
@@ -243,7 +293,11 @@ initializer_sound n b s false taken ts m r t f false h x e =
       height = omega arith;
     })
 
-pub declarator_sound : (n : ℕ) (b : Below) → SoundBelow n b → (constant : Bool) (taken : List Identifier) (ts : List Token) (x : Declarator × List Token) → declarator_at b constant taken ts ≡ Ok x → TakesDeclarator constant taken n ts x.0 x.1
+pub declarator_sound : (n : ℕ) (b : Below)
+    → SoundBelow n b
+    → (constant : Bool) (taken : List Identifier) (ts : List Token) (x : Declarator × List Token)
+    → declarator_at b constant taken ts ≡ Ok x
+    → TakesDeclarator constant taken n ts x.0 x.1
 unfolding declarator_at
 declarator_sound n b s constant taken ts x e =
     let p = bind_ok (fresh_name taken ts) (λ n. initializer_by b constant n.0 (is_kind kinds.Assign (head_of n.1)) n.1) x e in
@@ -261,7 +315,10 @@ pub record TakesDeclarators (constant : Bool) (taken : List Identifier) (n : ℕ
 abbrev IsDeclarator : Bool → ℕ → List Identifier → Declarator → Type 0
 IsDeclarator constant n taken d = WellDeclarator d × InitializedOne constant d × (is_among taken (name_of d) ≡ false) × (height_of_declarator d ≤ n)
 
-pub initialized_more : (constant : Bool) (d : Declarator) (ds : Declarators) → InitializedOne constant d → IsInitialized constant ds → IsInitialized constant (trees.a_declarator d ds)
+pub initialized_more : (constant : Bool) (d : Declarator) (ds : Declarators)
+    → InitializedOne constant d
+    → IsInitialized constant ds
+    → IsInitialized constant (trees.a_declarator d ds)
 initialized_more true d ds i is = (i, is)
 initialized_more false d ds i is = tt
 
@@ -269,11 +326,18 @@ pub no_more_initialized : (constant : Bool) → IsInitialized constant trees.no_
 no_more_initialized true = tt
 no_more_initialized false = tt
 
-pub fresh_more : (taken : List Identifier) (d : Declarator) (ds : Declarators) → is_among taken (name_of d) ≡ false → AreFresh (with_declarator taken d) (names_of_declarators ds) → AreFresh taken (names_of_declarators (trees.a_declarator d ds))
+pub fresh_more : (taken : List Identifier) (d : Declarator) (ds : Declarators)
+    → is_among taken (name_of d) ≡ false
+    → AreFresh (with_declarator taken d) (names_of_declarators ds)
+    → AreFresh taken (names_of_declarators (trees.a_declarator d ds))
 fresh_more taken (trees.declarator n e) ds f g = (f, g)
 
-all_declarators : (constant : Bool) (n : ℕ) (taken : List Identifier) (ds : List Declarator) → AllGood with_declarator (IsDeclarator constant n) taken ds
-    → WellDeclarators (declarators ds) × IsInitialized constant (declarators ds) × AreFresh taken (names_of_declarators (declarators ds)) × (height_of_declarators (declarators ds) ≤ n)
+all_declarators : (constant : Bool) (n : ℕ) (taken : List Identifier) (ds : List Declarator)
+    → AllGood with_declarator (IsDeclarator constant n) taken ds
+    → WellDeclarators (declarators ds)
+    × IsInitialized constant (declarators ds)
+    × AreFresh taken (names_of_declarators (declarators ds))
+    × (height_of_declarators (declarators ds) ≤ n)
 all_declarators constant n taken [] g = (tt, no_more_initialized constant, tt, omega arith)
 all_declarators constant n taken (d ∷ ds) g =
     let r = all_declarators constant n (with_declarator taken d) ds g.1 in
@@ -283,7 +347,11 @@ pub more_declarators_is : (ds : List Declarator) → more_declarators (declarato
 more_declarators_is [] = refl
 more_declarators_is (d ∷ ds) = ap (λ (ms : List Mark). token (fixed kinds.Comma) ∷ (flat_declarator d ++ ms)) (append-nil (more_declarators (declarators ds)) ∙ more_declarators_is ds)
 
-pub declarators_sound : (n : ℕ) (b : Below) → SoundBelow n b → (constant : Bool) (taken : List Identifier) (ts : List Token) (x : Declarators × List Token) → declarators_at b constant taken ts ≡ Ok x → TakesDeclarators constant taken n ts x.0 x.1
+pub declarators_sound : (n : ℕ) (b : Below)
+    → SoundBelow n b
+    → (constant : Bool) (taken : List Identifier) (ts : List Token) (x : Declarators × List Token)
+    → declarators_at b constant taken ts ≡ Ok x
+    → TakesDeclarators constant taken n ts x.0 x.1
 unfolding declarators_at
 declarators_sound n b s constant taken ts x e =
     let p = bind_ok (declarator_at b constant taken ts) (λ d. others (λ names r. declarator_at b constant names r) with_declarator (suc (length d.1)) (with_declarator taken d.0) d.1 >>= λ ds. Ok (trees.a_declarator d.0 (declarators ds.0), ds.1)) x e in
@@ -303,8 +371,15 @@ declarators_sound n b s constant taken ts x e =
 
 -- ---- expressions with what ends them
 
-optional_by_sound : (n : ℕ) (b : Below) → SoundBelow n b → (closer : TokenKind) (c : Bool) (ts : List Token) → is_kind closer (head_of ts) ≡ c → (x : OptionalExpression × List Token) → optional_by b closer c ts ≡ Ok x
-    → Matches (flat_optional x.0 ++ (token (fixed closer) ∷ [])) ts x.1 × WellOptional x.0 × (height_of_optional x.0 ≤ n)
+optional_by_sound : (n : ℕ) (b : Below)
+    → SoundBelow n b
+    → (closer : TokenKind) (c : Bool) (ts : List Token)
+    → is_kind closer (head_of ts) ≡ c
+    → (x : OptionalExpression × List Token)
+    → optional_by b closer c ts ≡ Ok x
+    → Matches (flat_optional x.0 ++ (token (fixed closer) ∷ [])) ts x.1
+    × WellOptional x.0
+    × (height_of_optional x.0 ≤ n)
 optional_by_sound n b s closer true ts h x e =
     subst (λ (x : OptionalExpression × List Token). Matches (flat_optional x.0 ++ (token (fixed closer) ∷ [])) ts x.1 × WellOptional x.0 × (height_of_optional x.0 ≤ n)) (ok_is (trees.omitted, tail_of ts) x e)
     ((next_is closer (head_of ts) h, refl), tt, omega arith)
@@ -315,12 +390,20 @@ optional_by_sound n b s closer false ts h x e =
     subst (λ (x : OptionalExpression × List Token). Matches (flat_optional x.0 ++ (token (fixed closer) ∷ [])) ts x.1 × WellOptional x.0 × (height_of_optional x.0 ≤ n)) (ok_is (trees.present p.0.0, c.0.1) x c.2)
     (joins (flat p.0.0) (token (fixed closer) ∷ []) ts p.0.1 c.0.1 t.marks (expect_sound closer p.0.1 c.0 c.1), t.well, t.height)
 
-pub optional_sound : (n : ℕ) (b : Below) → SoundBelow n b → (closer : TokenKind) (ts : List Token) (x : OptionalExpression × List Token) → optional_before b closer ts ≡ Ok x
-    → Matches (flat_optional x.0 ++ (token (fixed closer) ∷ [])) ts x.1 × WellOptional x.0 × (height_of_optional x.0 ≤ n)
+pub optional_sound : (n : ℕ) (b : Below)
+    → SoundBelow n b
+    → (closer : TokenKind) (ts : List Token) (x : OptionalExpression × List Token)
+    → optional_before b closer ts ≡ Ok x
+    → Matches (flat_optional x.0 ++ (token (fixed closer) ∷ [])) ts x.1
+    × WellOptional x.0
+    × (height_of_optional x.0 ≤ n)
 unfolding optional_before
 optional_sound n b s closer ts x e = optional_by_sound n b s closer (is_kind closer (head_of ts)) ts refl x e
 
-pub ended_sound : (n : ℕ) (b : Below) → SoundBelow n b → (ts : List Token) (x : Expression × List Token) → ended_expression b ts ≡ Ok x
+pub ended_sound : (n : ℕ) (b : Below)
+    → SoundBelow n b
+    → (ts : List Token) (x : Expression × List Token)
+    → ended_expression b ts ≡ Ok x
     → Matches (flat x.0 ++ (semicolon (after_expression (edge x.0)) ∷ [])) ts x.1 × Well x.0 × (height x.0 ≤ n)
 unfolding ended_expression
 ended_sound n b s ts x e =
@@ -337,7 +420,9 @@ name_is n (Some t) e =
     let p = and_parts (is_kind kinds.Name (Some t)) (pointwise nat_eq t.string_value n) e in
     (next_is kinds.Name (Some t) p.0, same_text t.string_value n (sym p.1))
 
-pub expect_name_sound : (n : List ℕ) (ts : List Token) (y : Unit {0} × List Token) → expect_name n ts ≡ Ok y → Matches (token (identifier n) ∷ []) ts y.1
+pub expect_name_sound : (n : List ℕ) (ts : List Token) (y : Unit {0} × List Token)
+    → expect_name n ts ≡ Ok y
+    → Matches (token (identifier n) ∷ []) ts y.1
 unfolding expect_name
 expect_name_sound n ts y e =
     let t = test_ok (is_name n (head_of ts)) (Ok (tt, tail_of ts)) (stuck (length ts)) y e in
@@ -356,7 +441,11 @@ pub record TakesOne (n : ℕ) (i : Item) (ts : List Token) (v : Value i) (r : Li
   pub last : ItemNoElse i v r
   pub height : height_at i v ≤ n
 
-pub item_sound : (n : ℕ) (b : Below) → SoundBelow n b → (i : Item) (ts : List Token) (x : Value i × List Token) → item b i ts ≡ Ok x → TakesOne n i ts x.0 x.1
+pub item_sound : (n : ℕ) (b : Below)
+    → SoundBelow n b
+    → (i : Item) (ts : List Token) (x : Value i × List Token)
+    → item b i ts ≡ Ok x
+    → TakesOne n i ts x.0 x.1
 item_sound n b s (tok k) ts x e = record { marks = expect_sound k ts x e; sane = tt; last = tt; height = omega arith }
 item_sound n b s (near k) ts x e = record { marks = expect_near_sound k ts x e; sane = tt; last = tt; height = omega arith }
 item_sound n b s a_name ts x e = record { marks = name_sound ts x e; sane = tt; last = tt; height = omega arith }
@@ -377,11 +466,17 @@ last_one : (i : Item) (vs : Values (i ∷ [])) (r : List Token) → ItemNoElse i
 last_one (a_statement context) vs r h = h
 last_one _ vs r h = tt
 
-last_more : (i j : Item) (is : List Item) (vs : Values (i ∷ j ∷ is)) (r : List Token) → LastNoElse (j ∷ is) vs.1 r → LastNoElse (i ∷ j ∷ is) vs r
+last_more : (i j : Item) (is : List Item) (vs : Values (i ∷ j ∷ is)) (r : List Token)
+    → LastNoElse (j ∷ is) vs.1 r
+    → LastNoElse (i ∷ j ∷ is) vs r
 last_more (a_statement context) j is vs r h = h
 last_more _ j is vs r h = h
 
-last_of : (i : Item) (is : List Item) (vs : Values (i ∷ is)) (us r : List Token) → ItemNoElse i vs.0 us → Matches (marks is vs.1) us r → LastNoElse is vs.1 r → LastNoElse (i ∷ is) vs r
+last_of : (i : Item) (is : List Item) (vs : Values (i ∷ is)) (us r : List Token)
+    → ItemNoElse i vs.0 us
+    → Matches (marks is vs.1) us r
+    → LastNoElse is vs.1 r
+    → LastNoElse (i ∷ is) vs r
 last_of i [] vs us r h m l = last_one i vs r (subst (λ (r : List Token). ItemNoElse i vs.0 r) m h)
 last_of i (j ∷ is) vs us r h m l = last_more i j is vs r l
 

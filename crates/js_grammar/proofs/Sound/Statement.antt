@@ -41,8 +41,13 @@ all_low n [] vs h = tt
 all_low n (i ∷ is) vs h = let p = max_low (height_at i vs.0) (height_all is vs.1) n h in (p.0, all_low n is vs.1 p.1)
 
 -- what is made of what a production reads
-pub made_as : {A : Type 0} (n : ℕ) (b : Below) → SoundBelow n b → (is : List Item) (make : Values is → A) (ts : List Token) (P : A → List Token → Type 0)
-    → ((vs : Values is) (r : List Token) → TakesAll n is ts vs r → AllLow n is vs → P (make vs) r) → (x : A × List Token) → made b is make ts ≡ Ok x → P x.0 x.1
+pub made_as : {A : Type 0} (n : ℕ) (b : Below)
+    → SoundBelow n b
+    → (is : List Item) (make : Values is → A) (ts : List Token) (P : A → List Token → Type 0)
+    → ((vs : Values is) (r : List Token) → TakesAll n is ts vs r → AllLow n is vs → P (make vs) r)
+    → (x : A × List Token)
+    → made b is make ts ≡ Ok x
+    → P x.0 x.1
 made_as {A} n b s is make ts P f x e =
     let p = bind_ok (seq b is ts) (λ x. Ok (make x.0, x.1)) x e in
     let t = seq_sound n b s is ts p.0 p.1 in
@@ -51,29 +56,43 @@ made_as {A} n b s is make ts P f x e =
 -- ---- marks
 
 -- the first token stands on the line of the one before it
-pub on_line_is : (ms ns : List Mark) (ts r : List Token) → is_on_line (head_of ts) ≡ true → Matches (ms ++ ns) ts r → Matches (on_line ms ++ ns) ts r
+pub on_line_is : (ms ns : List Mark) (ts r : List Token)
+    → is_on_line (head_of ts) ≡ true
+    → Matches (ms ++ ns) ts r
+    → Matches (on_line ms ++ ns) ts r
 on_line_is [] ns ts r h m = m
 on_line_is (token s ∷ ms) ns ts r h m = (m.0, h, m.1)
 on_line_is (beside s ∷ ms) ns ts r h m = m
 on_line_is (semicolon end ∷ ms) ns ts r h m = m
 on_line_is (trailing_comma ∷ ms) ns ts r h m = m
 
-pub no_brace : (ms : List Mark) (ts r : List Token) → is_kind kinds.LeftBrace (head_of ts) ≡ false → Matches ms ts r → begins_with_brace ms ≡ false
+pub no_brace : (ms : List Mark) (ts r : List Token)
+    → is_kind kinds.LeftBrace (head_of ts) ≡ false
+    → Matches ms ts r
+    → begins_with_brace ms ≡ false
 no_brace (token (fixed kinds.LeftBrace) ∷ ms) ts r h m = let q : is_kind kinds.LeftBrace (head_of ts) ≡ true = next_again kinds.LeftBrace (head_of ts) m.0 in absurd cc
 no_brace _ ts r h m = refl
 
-pub no_function : (ms : List Mark) (ts r : List Token) → is_kind kinds.Function (head_of ts) ≡ false → Matches ms ts r → begins_with_function ms ≡ false
+pub no_function : (ms : List Mark) (ts r : List Token)
+    → is_kind kinds.Function (head_of ts) ≡ false
+    → Matches ms ts r
+    → begins_with_function ms ≡ false
 no_function (token (fixed kinds.Function) ∷ ms) ts r h m = let q : is_kind kinds.Function (head_of ts) ≡ true = next_again kinds.Function (head_of ts) m.0 in absurd cc
 no_function _ ts r h m = refl
 
 -- ---- classes
 
 -- an expression statement begins neither with { nor with function
-expression_next : (o : Option Token) → first o ≡ classes.an_expression → (is_kind kinds.LeftBrace o ≡ false) × (is_kind kinds.Function o ≡ false)
+expression_next : (o : Option Token)
+    → first o ≡ classes.an_expression
+    → (is_kind kinds.LeftBrace o ≡ false) × (is_kind kinds.Function o ≡ false)
 expression_next None e = (refl, refl)
 expression_next (Some t) e = by_kind t.kind e
   where
-    by_kind : (k : TokenKind) → first (Some (record t { kind = k })) ≡ classes.an_expression → (is_kind kinds.LeftBrace (Some (record t { kind = k })) ≡ false) × (is_kind kinds.Function (Some (record t { kind = k })) ≡ false)
+    by_kind : (k : TokenKind)
+        → first (Some (record t { kind = k })) ≡ classes.an_expression
+        → (is_kind kinds.LeftBrace (Some (record t { kind = k })) ≡ false)
+        × (is_kind kinds.Function (Some (record t { kind = k })) ≡ false)
     by_kind kinds.LeftBrace e = absurd cc
     by_kind kinds.Function e = absurd cc
     by_kind _ e = (refl, refl)
@@ -87,7 +106,9 @@ given_on_line (Some t) e = by_kind t.kind t.newline_before e
     by_line true e = absurd cc
     by_line false e = refl
 
-    by_kind : (k : TokenKind) (line : Bool) → (is_kind kinds.Semicolon (Some (record t { kind = k })) || absent_before after_word k line) ≡ false → not line ≡ true
+    by_kind : (k : TokenKind) (line : Bool)
+        → (is_kind kinds.Semicolon (Some (record t { kind = k })) || absent_before after_word k line) ≡ false
+        → not line ≡ true
     by_kind kinds.Semicolon line e = absurd cc
     by_kind kinds.RightBrace line e = absurd cc
     by_kind _ line e = by_line line e
@@ -95,18 +116,29 @@ given_on_line (Some t) e = by_kind t.kind t.newline_before e
 -- ---- if
 
 -- further marks behind those of an if
-pub behind_if : (es ss ms : List Mark) (k : TokenKind) → (es ++ (token (fixed k) ∷ (ss ++ []))) ++ ms ≡ es ++ (token (fixed k) ∷ (ss ++ ms))
+pub behind_if : (es ss ms : List Mark) (k : TokenKind)
+    → (es ++ (token (fixed k) ∷ (ss ++ []))) ++ ms ≡ es ++ (token (fixed k) ∷ (ss ++ ms))
 behind_if es ss ms k = append_assoc es (token (fixed k) ∷ (ss ++ [])) ms ∙ ap (λ (l : List Mark). es ++ (token (fixed k) ∷ (l ++ ms))) (append-nil ss)
 
-pub no_open_if : (s : Statement) (r : List Token) → NoElse s r → is_kind kinds.Else (head_of r) ≡ true → ends_in_if s ≡ false
+pub no_open_if : (s : Statement) (r : List Token)
+    → NoElse s r
+    → is_kind kinds.Else (head_of r) ≡ true
+    → ends_in_if s ≡ false
 no_open_if s r h e = by_end (ends_in_if s) h
   where
     by_end : (c : Bool) → (c ≡ true → is_kind kinds.Else (head_of r) ≡ false) → c ≡ false
     by_end true h = let f = h refl in absurd cc
     by_end false h = refl
 
-else_sound : (n : ℕ) (b : Below) → SoundBelow n b → (context : Context) (ts : List Token) (vs : Values (if_items context)) (r : List Token) → TakesAll n (if_items context) ts vs r
-    → (c : Bool) → is_kind kinds.Else (head_of r) ≡ c → (x : Statement × List Token) → else_by b context vs.1.1.0 vs.1.1.1.1.0 c r ≡ Ok x → TakesStatement context (suc n) ts x.0 x.1
+else_sound : (n : ℕ) (b : Below)
+    → SoundBelow n b
+    → (context : Context) (ts : List Token) (vs : Values (if_items context)) (r : List Token)
+    → TakesAll n (if_items context) ts vs r
+    → (c : Bool)
+    → is_kind kinds.Else (head_of r) ≡ c
+    → (x : Statement × List Token)
+    → else_by b context vs.1.1.0 vs.1.1.1.1.0 c r ≡ Ok x
+    → TakesStatement context (suc n) ts x.0 x.1
 else_sound n b s context ts vs r t true h x e =
     let low = all_low n (if_items context) vs t.height in
     made_as n b s (tok kinds.Else ∷ a_statement context ∷ []) (λ v. trees.if_else vs.1.1.0 vs.1.1.1.1.0 v.1.0) r (TakesStatement context (suc n) ts) (λ v l u more. record {
@@ -127,7 +159,11 @@ else_sound n b s context ts vs r t false h x e =
       height = let p = low.1.1.0 in let q = low.1.1.1.1.0 in omega (arith, p, q);
     })
 
-if_sound : (n : ℕ) (b : Below) → SoundBelow n b → (context : Context) (ts : List Token) (x : Statement × List Token) → if_at b context ts ≡ Ok x → TakesStatement context (suc n) ts x.0 x.1
+if_sound : (n : ℕ) (b : Below)
+    → SoundBelow n b
+    → (context : Context) (ts : List Token) (x : Statement × List Token)
+    → if_at b context ts ≡ Ok x
+    → TakesStatement context (suc n) ts x.0 x.1
 unfolding if_at
 if_sound n b s context ts x e =
     let p = bind_ok (seq b (if_items context) ts) (λ x. else_by b context x.0.1.1.0 x.0.1.1.1.1.0 (is_kind kinds.Else (head_of x.1)) x.1) x e in
@@ -135,7 +171,11 @@ if_sound n b s context ts x e =
 
 -- ---- loops
 
-do_sound : (n : ℕ) (b : Below) → SoundBelow n b → (context : Context) (ts : List Token) (x : Statement × List Token) → made b (do_items context) (λ v. trees.do_while v.1.0 v.1.1.1.1.0) ts ≡ Ok x → TakesStatement context (suc n) ts x.0 x.1
+do_sound : (n : ℕ) (b : Below)
+    → SoundBelow n b
+    → (context : Context) (ts : List Token) (x : Statement × List Token)
+    → made b (do_items context) (λ v. trees.do_while v.1.0 v.1.1.1.1.0) ts ≡ Ok x
+    → TakesStatement context (suc n) ts x.0 x.1
 do_sound n b s context ts = made_as n b s (do_items context) (λ v. trees.do_while v.1.0 v.1.1.1.1.0) ts (TakesStatement context (suc n) ts) (λ v r t low. record {
   marks = t.marks;
   well = (t.sane.1.0.0, t.sane.1.0.1, t.sane.1.1.1.1.0);
@@ -144,7 +184,11 @@ do_sound n b s context ts = made_as n b s (do_items context) (λ v. trees.do_whi
   height = let p = low.1.0 in let q = low.1.1.1.1.0 in omega (arith, p, q);
 })
 
-while_sound : (n : ℕ) (b : Below) → SoundBelow n b → (context : Context) (ts : List Token) (x : Statement × List Token) → made b (while_items context) (λ v. trees.while v.1.1.0 v.1.1.1.1.0) ts ≡ Ok x → TakesStatement context (suc n) ts x.0 x.1
+while_sound : (n : ℕ) (b : Below)
+    → SoundBelow n b
+    → (context : Context) (ts : List Token) (x : Statement × List Token)
+    → made b (while_items context) (λ v. trees.while v.1.1.0 v.1.1.1.1.0) ts ≡ Ok x
+    → TakesStatement context (suc n) ts x.0 x.1
 while_sound n b s context ts = made_as n b s (while_items context) (λ v. trees.while v.1.1.0 v.1.1.1.1.0) ts (TakesStatement context (suc n) ts) (λ v r t low. record {
   marks = t.marks;
   well = (t.sane.1.1.0, t.sane.1.1.1.1.0.0, t.sane.1.1.1.1.0.1);
@@ -154,7 +198,8 @@ while_sound n b s context ts = made_as n b s (while_items context) (λ v. trees.
 })
 
 -- the marks of an optional expression and its closer, one after the other
-pub next_optional : (es ms : List Mark) (k : TokenKind) → (es ++ (token (fixed k) ∷ [])) ++ ms ≡ es ++ (token (fixed k) ∷ ms)
+pub next_optional : (es ms : List Mark) (k : TokenKind)
+    → (es ++ (token (fixed k) ∷ [])) ++ ms ≡ es ++ (token (fixed k) ∷ ms)
 next_optional es ms k = append_assoc es (token (fixed k) ∷ []) ms
 
 pub let_is : (constant : Bool) → token (fixed (let_kind constant)) ∷ [] ≡ let_or_const constant
@@ -162,13 +207,18 @@ let_is true = refl
 let_is false = refl
 
 -- the tests and the update of a for with its body
-pub tails_are : (is ts ms : List Mark) → (is ++ (token (fixed kinds.Semicolon) ∷ [])) ++ ((ts ++ (token (fixed kinds.RightParenthesis) ∷ [])) ++ ms) ≡ is ++ (token (fixed kinds.Semicolon) ∷ (ts ++ (token (fixed kinds.RightParenthesis) ∷ ms)))
+pub tails_are : (is ts ms : List Mark)
+    → (is ++ (token (fixed kinds.Semicolon) ∷ [])) ++ ((ts ++ (token (fixed kinds.RightParenthesis) ∷ [])) ++ ms) ≡ is ++ (token (fixed kinds.Semicolon) ∷ (ts ++ (token (fixed kinds.RightParenthesis) ∷ ms)))
 tails_are is ts ms = next_optional is ((ts ++ (token (fixed kinds.RightParenthesis) ∷ [])) ++ ms) kinds.Semicolon ∙ ap (λ (l : List Mark). is ++ (token (fixed kinds.Semicolon) ∷ l)) (next_optional ts ms kinds.RightParenthesis)
 
 max4 : (a b c d n : ℕ) → a ≤ n → b ≤ n → c ≤ n → d ≤ n → suc (max a (max b (max c d))) ≤ suc n
 max4 a b c d n p q r s = omega (arith, p, q, r, s)
 
-for_plain_sound : (n : ℕ) (b : Below) → SoundBelow n b → (context : Context) (ts : List Token) (x : Statement × List Token) → for_by b context plain_head ts ≡ Ok x → TakesStatement context (suc n) ts x.0 x.1
+for_plain_sound : (n : ℕ) (b : Below)
+    → SoundBelow n b
+    → (context : Context) (ts : List Token) (x : Statement × List Token)
+    → for_by b context plain_head ts ≡ Ok x
+    → TakesStatement context (suc n) ts x.0 x.1
 for_plain_sound n b s context ts = made_as n b s (for_items context) (λ v. trees.for v.1.1.0 v.1.1.1.0 v.1.1.1.1.0 v.1.1.1.1.1.0) ts (TakesStatement context (suc n) ts) (λ v r t low.
     let body = flat_statement v.1.1.1.1.1.0 ++ [] in
     let after_first = (flat_optional v.1.1.1.0 ++ (token (fixed kinds.Semicolon) ∷ [])) ++ ((flat_optional v.1.1.1.1.0 ++ (token (fixed kinds.RightParenthesis) ∷ [])) ++ body) in
@@ -181,7 +231,11 @@ for_plain_sound n b s context ts = made_as n b s (for_items context) (λ v. tree
       height = max4 _ _ _ _ n low.1.1.0 low.1.1.1.0 low.1.1.1.1.0 low.1.1.1.1.1.0;
     })
 
-for_lexical_sound : (n : ℕ) (b : Below) → SoundBelow n b → (context : Context) (constant : Bool) (ts : List Token) (x : Statement × List Token) → for_by b context (declares constant) ts ≡ Ok x → TakesStatement context (suc n) ts x.0 x.1
+for_lexical_sound : (n : ℕ) (b : Below)
+    → SoundBelow n b
+    → (context : Context) (constant : Bool) (ts : List Token) (x : Statement × List Token)
+    → for_by b context (declares constant) ts ≡ Ok x
+    → TakesStatement context (suc n) ts x.0 x.1
 for_lexical_sound n b s context constant ts = made_as n b s (for_lexical_items context constant) (λ v. trees.for_lexical constant v.1.1.1.0 v.1.1.1.1.1.0 v.1.1.1.1.1.1.0 v.1.1.1.1.1.1.1.0) ts (TakesStatement context (suc n) ts) (λ v r t low.
     let body = flat_statement v.1.1.1.1.1.1.1.0 ++ [] in
     let tails = (flat_optional v.1.1.1.1.1.0 ++ (token (fixed kinds.Semicolon) ∷ [])) ++ ((flat_optional v.1.1.1.1.1.1.0 ++ (token (fixed kinds.RightParenthesis) ∷ [])) ++ body) in
@@ -195,7 +249,11 @@ for_lexical_sound n b s context constant ts = made_as n b s (for_lexical_items c
       height = max4 _ _ _ _ n low.1.1.1.0 low.1.1.1.1.1.0 low.1.1.1.1.1.1.0 low.1.1.1.1.1.1.1.0;
     })
 
-for_of_sound : (n : ℕ) (b : Below) → SoundBelow n b → (context : Context) (constant : Bool) (ts : List Token) (x : Statement × List Token) → for_by b context (each constant) ts ≡ Ok x → TakesStatement context (suc n) ts x.0 x.1
+for_of_sound : (n : ℕ) (b : Below)
+    → SoundBelow n b
+    → (context : Context) (constant : Bool) (ts : List Token) (x : Statement × List Token)
+    → for_by b context (each constant) ts ≡ Ok x
+    → TakesStatement context (suc n) ts x.0 x.1
 for_of_sound n b s context constant ts = made_as n b s (for_of_items context constant) (λ v. trees.for_of constant v.1.1.1.0 v.1.1.1.1.1.0 v.1.1.1.1.1.1.1.0) ts (TakesStatement context (suc n) ts) (λ v r t low.
     let rest = token (identifier v.1.1.1.0) ∷ token (identifier (codes "of")) ∷ (flat v.1.1.1.1.1.0 ++ (token (fixed kinds.RightParenthesis) ∷ (flat_statement v.1.1.1.1.1.1.1.0 ++ []))) in
     record {
@@ -206,18 +264,32 @@ for_of_sound n b s context constant ts = made_as n b s (for_of_items context con
       height = let p = low.1.1.1.1.1.0 in let q = low.1.1.1.1.1.1.1.0 in omega (arith, p, q);
     })
 
-for_by_sound : (n : ℕ) (b : Below) → SoundBelow n b → (context : Context) (h : ForHead) (ts : List Token) (x : Statement × List Token) → for_by b context h ts ≡ Ok x → TakesStatement context (suc n) ts x.0 x.1
+for_by_sound : (n : ℕ) (b : Below)
+    → SoundBelow n b
+    → (context : Context) (h : ForHead) (ts : List Token) (x : Statement × List Token)
+    → for_by b context h ts ≡ Ok x
+    → TakesStatement context (suc n) ts x.0 x.1
 for_by_sound n b s context (each constant) ts x e = for_of_sound n b s context constant ts x e
 for_by_sound n b s context (declares constant) ts x e = for_lexical_sound n b s context constant ts x e
 for_by_sound n b s context plain_head ts x e = for_plain_sound n b s context ts x e
 
-for_sound : (n : ℕ) (b : Below) → SoundBelow n b → (context : Context) (ts : List Token) (x : Statement × List Token) → for_at b context ts ≡ Ok x → TakesStatement context (suc n) ts x.0 x.1
+for_sound : (n : ℕ) (b : Below)
+    → SoundBelow n b
+    → (context : Context) (ts : List Token) (x : Statement × List Token)
+    → for_at b context ts ≡ Ok x
+    → TakesStatement context (suc n) ts x.0 x.1
 unfolding for_at
 for_sound n b s context ts x e = for_by_sound n b s context (for_head (tail_of (tail_of ts))) ts x e
 
 -- ---- statements of a word
 
-continue_sound : (n : ℕ) (b : Below) → SoundBelow n b → (context : Context) → context.in_loop ≡ true → (ts : List Token) (x : Statement × List Token) → made b (tok kinds.Continue ∷ an_end after_word ∷ []) (λ v. trees.continue) ts ≡ Ok x → TakesStatement context (suc n) ts x.0 x.1
+continue_sound : (n : ℕ) (b : Below)
+    → SoundBelow n b
+    → (context : Context)
+    → context.in_loop ≡ true
+    → (ts : List Token) (x : Statement × List Token)
+    → made b (tok kinds.Continue ∷ an_end after_word ∷ []) (λ v. trees.continue) ts ≡ Ok x
+    → TakesStatement context (suc n) ts x.0 x.1
 continue_sound n b s context loop ts = made_as n b s (tok kinds.Continue ∷ an_end after_word ∷ []) (λ v. trees.continue) ts (TakesStatement context (suc n) ts) (λ v r t low. record {
   marks = t.marks;
   well = loop;
@@ -226,7 +298,13 @@ continue_sound n b s context loop ts = made_as n b s (tok kinds.Continue ∷ an_
   height = omega arith;
 })
 
-break_sound : (n : ℕ) (b : Below) → SoundBelow n b → (context : Context) → context.in_loop ≡ true → (ts : List Token) (x : Statement × List Token) → made b (tok kinds.Break ∷ an_end after_word ∷ []) (λ v. trees.break) ts ≡ Ok x → TakesStatement context (suc n) ts x.0 x.1
+break_sound : (n : ℕ) (b : Below)
+    → SoundBelow n b
+    → (context : Context)
+    → context.in_loop ≡ true
+    → (ts : List Token) (x : Statement × List Token)
+    → made b (tok kinds.Break ∷ an_end after_word ∷ []) (λ v. trees.break) ts ≡ Ok x
+    → TakesStatement context (suc n) ts x.0 x.1
 break_sound n b s context loop ts = made_as n b s (tok kinds.Break ∷ an_end after_word ∷ []) (λ v. trees.break) ts (TakesStatement context (suc n) ts) (λ v r t low. record {
   marks = t.marks;
   well = loop;
@@ -235,7 +313,11 @@ break_sound n b s context loop ts = made_as n b s (tok kinds.Break ∷ an_end af
   height = omega arith;
 })
 
-debugger_sound : (n : ℕ) (b : Below) → SoundBelow n b → (context : Context) (ts : List Token) (x : Statement × List Token) → made b (tok kinds.Debugger ∷ an_end after_word ∷ []) (λ v. trees.debugger) ts ≡ Ok x → TakesStatement context (suc n) ts x.0 x.1
+debugger_sound : (n : ℕ) (b : Below)
+    → SoundBelow n b
+    → (context : Context) (ts : List Token) (x : Statement × List Token)
+    → made b (tok kinds.Debugger ∷ an_end after_word ∷ []) (λ v. trees.debugger) ts ≡ Ok x
+    → TakesStatement context (suc n) ts x.0 x.1
 debugger_sound n b s context ts = made_as n b s (tok kinds.Debugger ∷ an_end after_word ∷ []) (λ v. trees.debugger) ts (TakesStatement context (suc n) ts) (λ v r t low. record {
   marks = t.marks;
   well = tt;
@@ -244,7 +326,15 @@ debugger_sound n b s context ts = made_as n b s (tok kinds.Debugger ∷ an_end a
   height = omega arith;
 })
 
-return_sound : (n : ℕ) (b : Below) → SoundBelow n b → (context : Context) → context.in_function ≡ true → (ts : List Token) (c : Bool) → ends_return (head_of (tail_of ts)) ≡ c → (x : Statement × List Token) → return_by b c ts ≡ Ok x → TakesStatement context (suc n) ts x.0 x.1
+return_sound : (n : ℕ) (b : Below)
+    → SoundBelow n b
+    → (context : Context)
+    → context.in_function ≡ true
+    → (ts : List Token) (c : Bool)
+    → ends_return (head_of (tail_of ts)) ≡ c
+    → (x : Statement × List Token)
+    → return_by b c ts ≡ Ok x
+    → TakesStatement context (suc n) ts x.0 x.1
 return_sound n b s context inside ts true h = made_as n b s (tok kinds.Return ∷ an_end after_word ∷ []) (λ v. trees.return trees.omitted) ts (TakesStatement context (suc n) ts) (λ v r t low. record {
   marks = t.marks;
   well = (inside, tt);
@@ -260,7 +350,13 @@ return_sound n b s context inside ts false h = made_as n b s (tok kinds.Return �
   height = let p = low.1.0 in omega (arith, p);
 })
 
-throw_sound : (n : ℕ) (b : Below) → SoundBelow n b → (context : Context) (ts : List Token) (c : Bool) → is_on_line (head_of (tail_of ts)) ≡ c → (x : Statement × List Token) → throw_by b c ts ≡ Ok x → TakesStatement context (suc n) ts x.0 x.1
+throw_sound : (n : ℕ) (b : Below)
+    → SoundBelow n b
+    → (context : Context) (ts : List Token) (c : Bool)
+    → is_on_line (head_of (tail_of ts)) ≡ c
+    → (x : Statement × List Token)
+    → throw_by b c ts ≡ Ok x
+    → TakesStatement context (suc n) ts x.0 x.1
 throw_sound n b s context ts true h x e = made_as n b s (tok kinds.Throw ∷ ended ∷ []) (λ v. trees.throw v.1.0) ts (TakesStatement context (suc n) ts) (λ v r t low. record {
   marks = (t.marks.0, on_line_is (flat v.1.0) (semicolon (after_expression (edge v.1.0)) ∷ []) (tail_of ts) r h (and_nothing (flat v.1.0 ++ (semicolon (after_expression (edge v.1.0)) ∷ [])) (tail_of ts) r t.marks.1));
   well = t.sane.1.0;
@@ -288,7 +384,13 @@ pub record TakesFinalizer (context : Context) (n : ℕ) (h : Handler) (ts : List
 abbrev pub catch_items : List Item
 catch_items = tok kinds.LeftParenthesis ∷ a_name ∷ tok kinds.RightParenthesis ∷ []
 
-catch_sound : (n : ℕ) (b : Below) → SoundBelow n b → (context : Context) (ts : List Token) → is_kind kinds.Catch (head_of ts) ≡ true → (c : Bool) (x : Handler × List Token) → catch_by b context c (tail_of ts) ≡ Ok x → TakesHandler context n ts x.0 x.1
+catch_sound : (n : ℕ) (b : Below)
+    → SoundBelow n b
+    → (context : Context) (ts : List Token)
+    → is_kind kinds.Catch (head_of ts) ≡ true
+    → (c : Bool) (x : Handler × List Token)
+    → catch_by b context c (tail_of ts) ≡ Ok x
+    → TakesHandler context n ts x.0 x.1
 catch_sound n b s context ts h true x e =
     let p = bind_ok (seq b catch_items (tail_of ts)) (λ n. b.block context (n.0.1.0 ∷ []) n.1 >>= λ x. Ok (trees.catch (Some n.0.1.0) x.0, x.1)) x e in
     let q = bind_ok (b.block context (p.0.0.1.0 ∷ []) p.0.1) (λ x. Ok (trees.catch (Some p.0.0.1.0) x.0, x.1)) x p.2 in
@@ -308,12 +410,22 @@ catch_sound n b s context ts h false x e =
       height = u.1;
     })
 
-handler_by_sound : (n : ℕ) (b : Below) → SoundBelow n b → (context : Context) (ts : List Token) (c : Bool) → is_kind kinds.Catch (head_of ts) ≡ c → (x : Handler × List Token) → handler_by b context c ts ≡ Ok x → TakesHandler context n ts x.0 x.1
+handler_by_sound : (n : ℕ) (b : Below)
+    → SoundBelow n b
+    → (context : Context) (ts : List Token) (c : Bool)
+    → is_kind kinds.Catch (head_of ts) ≡ c
+    → (x : Handler × List Token)
+    → handler_by b context c ts ≡ Ok x
+    → TakesHandler context n ts x.0 x.1
 handler_by_sound n b s context ts true h x e = catch_sound n b s context ts h (is_kind kinds.LeftParenthesis (head_of (tail_of ts))) x e
 handler_by_sound n b s context ts false h x e =
     subst (λ (x : Handler × List Token). TakesHandler context n ts x.0 x.1) (ok_is (trees.no_catch, ts) x e) (record { marks = refl; well = tt; height = omega arith })
 
-pub handler_sound : (n : ℕ) (b : Below) → SoundBelow n b → (context : Context) (ts : List Token) (x : Handler × List Token) → handler_at b context ts ≡ Ok x → TakesHandler context n ts x.0 x.1
+pub handler_sound : (n : ℕ) (b : Below)
+    → SoundBelow n b
+    → (context : Context) (ts : List Token) (x : Handler × List Token)
+    → handler_at b context ts ≡ Ok x
+    → TakesHandler context n ts x.0 x.1
 unfolding handler_at
 handler_sound n b s context ts x e = handler_by_sound n b s context ts (is_kind kinds.Catch (head_of ts)) refl x e
 
@@ -321,7 +433,11 @@ pub finally_handled : (h : Handler) (ss : Statements) → is_handled h (trees.fi
 finally_handled trees.no_catch ss = refl
 finally_handled (trees.catch n body) ss = refl
 
-finalizer_by_sound : (n : ℕ) (b : Below) → SoundBelow n b → (context : Context) (h : Handler) (c : Bool) (ts : List Token) (x : Finalizer × List Token) → finalizer_by b context h c ts ≡ Ok x → TakesFinalizer context n h ts x.0 x.1
+finalizer_by_sound : (n : ℕ) (b : Below)
+    → SoundBelow n b
+    → (context : Context) (h : Handler) (c : Bool) (ts : List Token) (x : Finalizer × List Token)
+    → finalizer_by b context h c ts ≡ Ok x
+    → TakesFinalizer context n h ts x.0 x.1
 finalizer_by_sound n b s context h true ts x e = made_as n b s (tok kinds.Finally ∷ a_block context [] ∷ []) (λ v. trees.finally v.1.0) ts (TakesFinalizer context n h ts) (λ v r t low. record {
   marks = t.marks;
   well = t.sane.1.0;
@@ -332,14 +448,24 @@ finalizer_by_sound n b s context trees.no_catch false ts x e = absurd cc
 finalizer_by_sound n b s context (trees.catch m ss) false ts x e =
     subst (λ (x : Finalizer × List Token). TakesFinalizer context n (trees.catch m ss) ts x.0 x.1) (ok_is (trees.no_finally, ts) x e) (record { marks = refl; well = tt; handled = refl; height = omega arith })
 
-pub finalizer_sound : (n : ℕ) (b : Below) → SoundBelow n b → (context : Context) (h : Handler) (ts : List Token) (x : Finalizer × List Token) → finalizer_at b context h ts ≡ Ok x → TakesFinalizer context n h ts x.0 x.1
+pub finalizer_sound : (n : ℕ) (b : Below)
+    → SoundBelow n b
+    → (context : Context) (h : Handler) (ts : List Token) (x : Finalizer × List Token)
+    → finalizer_at b context h ts ≡ Ok x
+    → TakesFinalizer context n h ts x.0 x.1
 unfolding finalizer_at
 finalizer_sound n b s context h ts x e = finalizer_by_sound n b s context h (is_kind kinds.Finally (head_of ts)) ts x e
 
 abbrev pub try_items : Context → List Item
 try_items context = tok kinds.Try ∷ a_block context [] ∷ []
 
-try_takes : (n : ℕ) (context : Context) (ts : List Token) (vs : Values (try_items context)) (us : List Token) → TakesAll n (try_items context) ts vs us → (h : Handler) (ws : List Token) → TakesHandler context n us h ws → (f : Finalizer) (r : List Token) → TakesFinalizer context n h ws f r → TakesStatement context (suc n) ts (trees.try vs.1.0 h f) r
+try_takes : (n : ℕ) (context : Context) (ts : List Token) (vs : Values (try_items context)) (us : List Token)
+    → TakesAll n (try_items context) ts vs us
+    → (h : Handler) (ws : List Token)
+    → TakesHandler context n us h ws
+    → (f : Finalizer) (r : List Token)
+    → TakesFinalizer context n h ws f r
+    → TakesStatement context (suc n) ts (trees.try vs.1.0 h f) r
 try_takes n context ts vs us t h ws u f r v = record {
   marks = joins (token (fixed kinds.Try) ∷ flats.in_braces (flat_statements vs.1.0)) (flat_handler h ++ (flat_finalizer f ++ [])) ts us r (and_nothing (token (fixed kinds.Try) ∷ flats.in_braces (flat_statements vs.1.0)) ts us t.marks)
       (joins (flat_handler h) (flat_finalizer f ++ []) us ws r u.marks (before_nothing (flat_finalizer f) ws r v.marks));
@@ -349,7 +475,11 @@ try_takes n context ts vs us t h ws u f r v = record {
   height = let p = (all_low n (try_items context) vs t.height).1.0 in omega (arith, p, u.height, v.height);
 }
 
-try_sound : (n : ℕ) (b : Below) → SoundBelow n b → (context : Context) (ts : List Token) (x : Statement × List Token) → try_at b context ts ≡ Ok x → TakesStatement context (suc n) ts x.0 x.1
+try_sound : (n : ℕ) (b : Below)
+    → SoundBelow n b
+    → (context : Context) (ts : List Token) (x : Statement × List Token)
+    → try_at b context ts ≡ Ok x
+    → TakesStatement context (suc n) ts x.0 x.1
 unfolding try_at
 try_sound n b s context ts x e =
     let p = bind_ok (seq b (try_items context) ts) (λ x. handler_at b context x.1 >>= λ h. finalizer_at b context h.0 h.1 >>= λ f. Ok (trees.try x.0.1.0 h.0 f.0, f.1)) x e in
@@ -360,7 +490,11 @@ try_sound n b s context ts x e =
 
 -- ---- any statement
 
-block_sound : (n : ℕ) (b : Below) → SoundBelow n b → (context : Context) (ts : List Token) (x : Statement × List Token) → made b (in_braces context [] ∷ []) (λ v. trees.block v.0) ts ≡ Ok x → TakesStatement context (suc n) ts x.0 x.1
+block_sound : (n : ℕ) (b : Below)
+    → SoundBelow n b
+    → (context : Context) (ts : List Token) (x : Statement × List Token)
+    → made b (in_braces context [] ∷ []) (λ v. trees.block v.0) ts ≡ Ok x
+    → TakesStatement context (suc n) ts x.0 x.1
 block_sound n b s context ts = made_as n b s (in_braces context [] ∷ []) (λ v. trees.block v.0) ts (TakesStatement context (suc n) ts) (λ v r t low. record {
   marks = and_nothing (flats.in_braces (flat_statements v.0)) ts r t.marks;
   well = t.sane.0;
@@ -369,7 +503,13 @@ block_sound n b s context ts = made_as n b s (in_braces context [] ∷ []) (λ v
   height = let p = low.0 in omega (arith, p);
 })
 
-expression_sound : (n : ℕ) (b : Below) → SoundBelow n b → (context : Context) (ts : List Token) → first (head_of ts) ≡ classes.an_expression → (x : Statement × List Token) → made b (ended ∷ []) (λ v. trees.expression v.0) ts ≡ Ok x → TakesStatement context (suc n) ts x.0 x.1
+expression_sound : (n : ℕ) (b : Below)
+    → SoundBelow n b
+    → (context : Context) (ts : List Token)
+    → first (head_of ts) ≡ classes.an_expression
+    → (x : Statement × List Token)
+    → made b (ended ∷ []) (λ v. trees.expression v.0) ts ≡ Ok x
+    → TakesStatement context (suc n) ts x.0 x.1
 expression_sound n b s context ts h = made_as n b s (ended ∷ []) (λ v. trees.expression v.0) ts (TakesStatement context (suc n) ts) (λ v r t low.
     let m = and_nothing (flat v.0 ++ (semicolon (after_expression (edge v.0)) ∷ [])) ts r t.marks in
     let p = parts (flat v.0) (semicolon (after_expression (edge v.0)) ∷ []) ts r m in
@@ -382,7 +522,13 @@ expression_sound n b s context ts h = made_as n b s (ended ∷ []) (λ v. trees.
       height = let p = low.0 in omega (arith, p);
     })
 
-statement_by_sound : (n : ℕ) (b : Below) → SoundBelow n b → (context : Context) (ts : List Token) (f : First) → first (head_of ts) ≡ f → (x : Statement × List Token) → statement_by b context f ts ≡ Ok x → TakesStatement context (suc n) ts x.0 x.1
+statement_by_sound : (n : ℕ) (b : Below)
+    → SoundBelow n b
+    → (context : Context) (ts : List Token) (f : First)
+    → first (head_of ts) ≡ f
+    → (x : Statement × List Token)
+    → statement_by b context f ts ≡ Ok x
+    → TakesStatement context (suc n) ts x.0 x.1
 statement_by_sound n b s context ts classes.a_block h x e = block_sound n b s context ts x e
 statement_by_sound n b s context ts (classes.a_lexical constant) h x e = absurd cc
 statement_by_sound n b s context ts classes.a_semicolon h x e =
@@ -407,13 +553,23 @@ statement_by_sound n b s context ts classes.a_function h x e = absurd cc
 statement_by_sound n b s context ts classes.an_expression h x e = expression_sound n b s context ts h x e
 
 -- the field statement of what reads one more below
-pub statement_sound : (n : ℕ) (b : Below) → SoundBelow n b → (context : Context) (ts : List Token) (x : Statement × List Token) → statement b context ts ≡ Ok x → TakesStatement context (suc n) ts x.0 x.1
+pub statement_sound : (n : ℕ) (b : Below)
+    → SoundBelow n b
+    → (context : Context) (ts : List Token) (x : Statement × List Token)
+    → statement b context ts ≡ Ok x
+    → TakesStatement context (suc n) ts x.0 x.1
 unfolding statement
 statement_sound n b s context ts x e = statement_by_sound n b s context ts (first (head_of ts)) refl x e
 
 -- ---- declarations
 
-lexical_sound : (n : ℕ) (b : Below) → SoundBelow n b → (context : Context) (constant : Bool) (taken : List Identifier) (ts : List Token) → first (head_of ts) ≡ classes.a_lexical constant → (x : Statement × List Token) → lexical_at b constant taken ts ≡ Ok x → TakesItem context taken (suc n) ts x.0 x.1
+lexical_sound : (n : ℕ) (b : Below)
+    → SoundBelow n b
+    → (context : Context) (constant : Bool) (taken : List Identifier) (ts : List Token)
+    → first (head_of ts) ≡ classes.a_lexical constant
+    → (x : Statement × List Token)
+    → lexical_at b constant taken ts ≡ Ok x
+    → TakesItem context taken (suc n) ts x.0 x.1
 unfolding lexical_at
 lexical_sound n b s context constant taken ts h x e =
     let p = bind_ok (declarators_at b constant taken (tail_of ts)) (λ ds. semicolon_at (end_of_declarators ds.0) ds.1 >>= λ s. Ok (trees.lexical constant ds.0, s.1)) x e in
@@ -429,7 +585,13 @@ lexical_sound n b s context constant taken ts h x e =
       height = omega (arith, t.height);
     })
 
-declaration_sound : (n : ℕ) (b : Below) → SoundBelow n b → (context : Context) (taken : List Identifier) (ts : List Token) → first (head_of ts) ≡ classes.a_function → (x : Statement × List Token) → declaration_at b taken ts ≡ Ok x → TakesItem context taken (suc n) ts x.0 x.1
+declaration_sound : (n : ℕ) (b : Below)
+    → SoundBelow n b
+    → (context : Context) (taken : List Identifier) (ts : List Token)
+    → first (head_of ts) ≡ classes.a_function
+    → (x : Statement × List Token)
+    → declaration_at b taken ts ≡ Ok x
+    → TakesItem context taken (suc n) ts x.0 x.1
 unfolding declaration_at
 declaration_sound n b s context taken ts h x e =
     let p = bind_ok (fresh_name taken (tail_of ts)) (λ n. code_at b n.1 >>= λ f. Ok (trees.declared_function n.0 f.0.parameters f.0.body, f.1)) x e in
@@ -452,7 +614,9 @@ declares_none taken (trees.lexical constant ds) h = absurd cc
 declares_none taken (trees.declared_function n ps body) h = absurd cc
 declares_none taken _ h = tt
 
-as_item : (context : Context) (taken : List Identifier) (n : ℕ) (ts : List Token) (s : Statement) (r : List Token) → TakesStatement context n ts s r → TakesItem context taken n ts s r
+as_item : (context : Context) (taken : List Identifier) (n : ℕ) (ts : List Token) (s : Statement) (r : List Token)
+    → TakesStatement context n ts s r
+    → TakesItem context taken n ts s r
 as_item context taken n ts s r t = record {
   marks = t.marks;
   well = t.well;
@@ -461,26 +625,44 @@ as_item context taken n ts s r t = record {
   height = t.height;
 }
 
-item_by_sound : (n : ℕ) (b : Below) → SoundBelow n b → (context : Context) (taken : List Identifier) (ts : List Token) (f : First) → first (head_of ts) ≡ f → (x : Statement × List Token) → item_by b context taken f ts ≡ Ok x → TakesItem context taken (suc n) ts x.0 x.1
+item_by_sound : (n : ℕ) (b : Below)
+    → SoundBelow n b
+    → (context : Context) (taken : List Identifier) (ts : List Token) (f : First)
+    → first (head_of ts) ≡ f
+    → (x : Statement × List Token)
+    → item_by b context taken f ts ≡ Ok x
+    → TakesItem context taken (suc n) ts x.0 x.1
 item_by_sound n b s context taken ts (classes.a_lexical constant) h x e = lexical_sound n b s context constant taken ts h x e
 item_by_sound n b s context taken ts classes.a_function h x e = declaration_sound n b s context taken ts h x e
 item_by_sound n b s context taken ts _ h x e = as_item context taken (suc n) ts x.0 x.1 (statement_sound n b s context ts x e)
 
 -- the field item of what reads one more below
-pub list_item_sound : (n : ℕ) (b : Below) → SoundBelow n b → (context : Context) (taken : List Identifier) (ts : List Token) (x : Statement × List Token) → item b context taken ts ≡ Ok x → TakesItem context taken (suc n) ts x.0 x.1
+pub list_item_sound : (n : ℕ) (b : Below)
+    → SoundBelow n b
+    → (context : Context) (taken : List Identifier) (ts : List Token) (x : Statement × List Token)
+    → item b context taken ts ≡ Ok x
+    → TakesItem context taken (suc n) ts x.0 x.1
 unfolding item
 list_item_sound n b s context taken ts x e = item_by_sound n b s context taken ts (first (head_of ts)) refl x e
 
 -- ---- blocks and functions, which count one beside their statements
 
 -- the field block of what reads one more below
-pub counted_block_sound : (n : ℕ) (b : Below) → SoundBelow n b → (context : Context) (taken : List Identifier) (ts : List Token) (x : Statements × List Token) → braces b context taken ts ≡ Ok x → TakesBlock context taken (suc n) ts x.0 x.1 × (suc (height_of_statements x.0) ≤ suc n)
+pub counted_block_sound : (n : ℕ) (b : Below)
+    → SoundBelow n b
+    → (context : Context) (taken : List Identifier) (ts : List Token) (x : Statements × List Token)
+    → braces b context taken ts ≡ Ok x
+    → TakesBlock context taken (suc n) ts x.0 x.1 × (suc (height_of_statements x.0) ≤ suc n)
 counted_block_sound n b s context taken ts x e =
     let t = braces_sound n b s context taken ts x e in
     (record { marks = t.marks; well = t.well; fresh = t.fresh; height = omega (arith, t.height) }, omega (arith, t.height))
 
 -- the field function of what reads one more below
-pub counted_function_sound : (n : ℕ) (b : Below) → SoundBelow n b → (ts : List Token) (x : Code × List Token) → code_at b ts ≡ Ok x → TakesCode (suc n) ts x.0 x.1 × (suc (height_of_statements x.0.body) ≤ suc n)
+pub counted_function_sound : (n : ℕ) (b : Below)
+    → SoundBelow n b
+    → (ts : List Token) (x : Code × List Token)
+    → code_at b ts ≡ Ok x
+    → TakesCode (suc n) ts x.0 x.1 × (suc (height_of_statements x.0.body) ≤ suc n)
 counted_function_sound n b s ts x e =
     let t = code_sound n b s ts x e in
     (record { marks = t.marks; differ = t.differ; well = t.well; height = omega (arith, t.height) }, omega (arith, t.height))

@@ -5,7 +5,9 @@ use Rattle.command_line.proofs.drill.put_text.Given as goal
 -- what stands before the rest is taken, and no write failed
 abbrev pub invariant-loop-rest : goal.invariant-loop-rest
 invariant-loop-rest g l = record {
-  taken : (done : List ℕ) × (l.text ≡ done ++ l.rest) × (g.O.Sink.content l.out ≡ gains (g.O.Sink.content l.fn.out) done);
+  taken : (done : List ℕ)
+      × (l.text ≡ done ++ l.rest)
+      × (g.O.Sink.content l.out ≡ gains (g.O.Sink.content l.fn.out) done);
   quiet : g.O.Sink.faults l.out ≡ g.O.Sink.faults l.fn.out;
 }
 

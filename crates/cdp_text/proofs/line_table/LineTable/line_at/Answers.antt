@@ -6,7 +6,8 @@ begins : (c : goal.In-Ok) → IsLineOf c.args.u.now c.args.self.now c.args.offse
 begins c =
     searched_line c.args.u.now c.args.self.now c.deref.result.now c.args.offset (Ok c.in-Ok.line) c.requires.of_text (c.deref.ensures.value ∙ c.self.view_is) c.requires.within c.in-Ok.ensures.position
 
-holds : (c : goal.In-Err) → (0 < c.in-Err.next) × IsLineOf c.args.u.now c.args.self.now c.args.offset (c.in-Err.next - 1)
+holds : (c : goal.In-Err)
+    → (0 < c.in-Err.next) × IsLineOf c.args.u.now c.args.self.now c.args.offset (c.in-Err.next - 1)
 holds c =
     searched_line c.args.u.now c.args.self.now c.deref.result.now c.args.offset (Err c.in-Err.next) c.requires.of_text (c.deref.ensures.value ∙ c.self.view_is) c.requires.within c.in-Err.ensures.position
 
