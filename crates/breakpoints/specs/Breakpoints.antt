@@ -9,6 +9,7 @@ use Rattle.breakpoints.specs.declared.fault.AddFault.TheVariants as faults
 use Rattle.breakpoints.specs.Ids.{place_id}
 use Rattle.breakpoints.specs.Resolving.{resolved_at}
 use Rattle.breakpoints.specs.Hits.{hits_in, stands_at}
+use Rattle.breakpoints.specs.declared.breakpoints.TheConstants.{MOST}
 
 -- the breakpoints in the order in which they were set, and whether they stop the program
 pub record State : Type 0 where
@@ -17,7 +18,7 @@ pub record State : Type 0 where
 
 -- as many as may be
 abbrev pub most : ℕ
-most = 1000
+most = MOST
 
 -- no breakpoint is set; those that come will stop the program
 abbrev pub none_set : State

@@ -90,7 +90,7 @@ impl Breakpoints {
             return Err(AddFault::Exists { id });
         }
         if self.list.len() >= MOST {
-            return Err(AddFault::Full { count: 1000 });
+            return Err(AddFault::Full { count: MOST as u64 });
         }
         self.index.add_all(places.as_slice())?;
         self.list.push(Breakpoint {

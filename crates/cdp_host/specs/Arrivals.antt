@@ -1,9 +1,10 @@
 -- Where a step leaves a program, in the words of the rules by which it is stopped.
-use Rattle.std.specs.Prelude.{◌^◌, ◌<◌, ◌-◌, List, length, Bool, false, nat_eq, slice_get, if◌then◌else◌, Option, Some, None}
+use Rattle.std.specs.Prelude.{◌^◌, ◌<◌, ◌-◌, List, length, Bool, false, Option, Some, None}
 use Rattle.std.specs.Option.{option_map}
 use Rattle.cdp_text.specs.declared.position.Place.{Place}
 use Rattle.cdp_text.specs.Position.{position}
 use Rattle.js_tree.specs.declared.script.Script.{Script}
+use Rattle.js_tree.specs.Scripts.{script_numbered}
 use Rattle.js_semantics.specs.Terms.{Term}
 use Rattle.js_semantics.specs.declared.form.Source.{Source}
 use Rattle.js_semantics.specs.declared.form.Source.TheVariants.{Script as script_source, Kept as kept_source}
@@ -17,7 +18,7 @@ use Rattle.stepping.specs.declared.arrival.Arrival.{Arrival}
 
 -- the script that a source is, if it is one; scripts are counted from 1
 abbrev pub script_in : List Script → Source → Option Script
-script_in scripts (script_source number) = if nat_eq number 0 then None else slice_get scripts (number - 1)
+script_in scripts (script_source number) = script_numbered scripts number
 script_in scripts (kept_source a) = None
 
 -- the place of a mark in a script

@@ -5,6 +5,7 @@ use Rattle.std.specs.Str.{is_utf8}
 use Rattle.cdp_text.specs.Decimal.{decimal_value}
 use Rattle.cdp_text.specs.Parts.{behind, Halves, halves}
 use Rattle.cdp_journal.specs.Escapes.{escaped, unescaped}
+use Rattle.cdp_journal.specs.declared.line.TheConstants.{MOST_TOLD}
 
 -- what a line asks for
 pub data Line : Type 0 where
@@ -32,7 +33,7 @@ line_text Shut = codes "shut"
 
 -- the greatest number of bytes of a text that is told
 abbrev pub most_told : ℕ
-most_told = 1048576
+most_told = MOST_TOLD
 
 -- the numbers of a line are in range, and the text that is told isn't too long
 abbrev pub IsInForm : Line → Type 0

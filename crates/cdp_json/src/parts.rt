@@ -32,6 +32,14 @@ pub fn member(alloc: Global, key: &[u8], value: Json) -> Result<Member, AllocErr
     Ok(Member::new(key, value))
 }
 
+/// A member whose value is a text; both it and the key are ASCII.
+pub fn ascii_member(alloc: Global, key: &[u8], value: &[u8]) -> Result<Member, AllocError>
+    ensures { IfOk result (λ m. member_view m ≡ (key.now, json.text value.now)) }
+{
+    let value = ascii_text(alloc, value)?;
+    member(alloc, key, value)
+}
+
 /// An object of one member.
 pub fn object_of_one(alloc: Global, only: Member) -> Result<Json, AllocError>
     ensures { IfOk result (λ j. json_view j ≡ parts.object_of (member_view only ∷ [])) }

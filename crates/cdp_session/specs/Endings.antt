@@ -9,7 +9,7 @@ use Rattle.cdp_json.specs.Messages.{event_text}
 use Rattle.cdp_json.specs.Parts.{Pair, object_of}
 use Rattle.remote_objects.specs.CallFrames.{url_of}
 use Rattle.remote_objects.specs.Making.{Made}
-use Rattle.remote_objects.specs.Values.{numbered}
+use Rattle.js_tree.specs.Scripts.{script_numbered}
 use Rattle.cdp_session.specs.Consoles.{value_made}
 use Rattle.cdp_session.specs.Pauses.{sight_of}
 use Rattle.cdp_session.specs.Scripts.{script_id}
@@ -22,7 +22,7 @@ use Rattle.cdp_session.specs.declared.ending.Ending.TheVariants as endings
 
 -- the URL of the script that a place is in; that of no script is empty
 abbrev pub url_at : List Script → Place → List ℕ
-url_at scripts place = url_of (numbered scripts place.script)
+url_at scripts place = url_of (script_numbered scripts place.script)
 
 -- where the throw stands, the exception as it is described, its number among those of the session, and the URL of its script
 abbrev pub throw_pairs : Place → Json → ℕ → List ℕ → List Pair

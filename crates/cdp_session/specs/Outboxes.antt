@@ -1,13 +1,14 @@
 -- The texts that wait for a client, and how many may.
 use Rattle.std.specs.Prelude.{◌≡◌, ℕ, ◌+◌, List, [], ◌∷◌, length, Bool, true, ◌&&◌, nat_le}
+use Rattle.cdp_session.specs.declared.outbox.TheConstants.{MOST_BYTES, MOST_TEXTS}
 
 -- the greatest number of texts that wait for a client
 abbrev pub most_texts : ℕ
-most_texts = 65536
+most_texts = MOST_TEXTS
 
 -- the greatest number of their bytes
 abbrev pub most_bytes : ℕ
-most_bytes = 67108864
+most_bytes = MOST_BYTES
 
 -- the bytes of texts
 abbrev pub bytes_of : List (List ℕ) → ℕ

@@ -14,13 +14,14 @@ ghost use Rattle.cdp_session.specs.Evaluations.{is_memory};
 ghost use Rattle.cdp_session.specs.Sessions.{no_workspace};
 ghost use Rattle.cdp_session.specs.Situations.{seen};
 
-use crate::evaluating::{innermost, open, script_scope};
+use crate::evaluating::{innermost, open};
 use crate::program::Program;
 use crate::situation::Situation;
 use breakpoints::Breakpoints;
 use call_frames::CallFrame;
 use cdp_text::position::Place;
 use cdp_text::units::Units;
+use js_heap::built_in::script_scope;
 use js_heap::value::{Addr, Value};
 use js_operations::seen::Seen;
 use js_parser::parse::parse_expression;

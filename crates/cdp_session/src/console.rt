@@ -7,14 +7,14 @@ ghost use Rattle.cdp_session.specs.Pauses.{described_by};
 ghost use Rattle.cdp_session.specs.Sessions.{with_handles};
 ghost use Rattle.cdp_session.specs.Situations.{seen};
 
-use crate::members::{named, numbered};
+use crate::members::numbered;
 use crate::pausing::describer;
 use crate::program::Program;
 use crate::session::Session;
 use crate::situation::Situation;
 use crate::sources::EvaluatedTexts;
 use cdp_json::event_text;
-use cdp_json::parts::member;
+use cdp_json::parts::{ascii_member, member};
 use cdp_json::value::{Json, list, object};
 use js_heap::value::Value;
 use js_world::heap::BaseHeap;
@@ -72,7 +72,7 @@ fn print_params(alloc: Global, values: Vec<Json>, moment: u64) -> Result<Json, A
     let args = member(alloc, b"args", list(values))?;
     let context = numbered(alloc, b"executionContextId", 1)?;
     let timestamp = numbered(alloc, b"timestamp", moment)?;
-    let kind = named(alloc, b"type", b"log")?;
+    let kind = ascii_member(alloc, b"type", b"log")?;
     Ok(object(vec![in alloc; args, context, timestamp, kind]?))
 }
 

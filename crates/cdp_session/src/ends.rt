@@ -1,16 +1,14 @@
 //! How a session is told of the end of the run (Chrome DevTools Protocol 1.3, `Runtime.exceptionThrown` and
 //! `Runtime.executionContextDestroyed`).
 
-ghost use Rattle.std.specs.Prelude.{◌≡◌, ◌<◌, ◌≤◌, ◌^◌, map, option_copied, string_bytes, IfOk, OnOk};
+ghost use Rattle.std.specs.Prelude.{◌≡◌, ◌<◌, ◌≤◌, ◌^◌, map, string_bytes, IfOk, OnOk};
 ghost use Rattle.cdp_json.specs.Views.{json_view, member_view};
-ghost use Rattle.remote_objects.specs.CallFrames as listing;
-ghost use Rattle.remote_objects.specs.Values as scripts_of;
 ghost use Rattle.cdp_session.specs.Endings as ends;
 ghost use Rattle.cdp_session.specs.Sessions.{with_exception, with_handles};
 ghost use Rattle.cdp_session.specs.Situations.{seen};
 
 use crate::console::value_made;
-use crate::members::{named, numbered};
+use crate::members::numbered;
 use crate::pausing::describer;
 use crate::program::Program;
 use crate::scripts::script_id;
@@ -18,34 +16,16 @@ use crate::session::Session;
 use crate::situation::Situation;
 use crate::sources::EvaluatedTexts;
 use cdp_json::event_text;
-use cdp_json::parts::{copied_text, member, object_of_one};
+use cdp_json::parts::{ascii_member, copied_text, member, object_of_one};
 use cdp_json::value::{Json, Member, object};
 use cdp_text::position::Place;
 use js_heap::value::Value;
 use js_tree::script::Script;
+use js_tree::scripts::script_numbered;
+use remote_objects::url_of;
 use std::alloc::{AllocError, Global};
 
 // ---- where a throw stands
-
-/// The script of a number; scripts are counted from 1.
-fn script_numbered(scripts: &[Script], number: u32) -> Option<&Script>
-    ensures { option_copied result ≡ scripts_of.numbered scripts.now number }
-{
-    if number == 0 {
-        return None;
-    }
-    scripts.get(number as usize - 1)
-}
-
-/// The URL of a script; that of none is empty.
-fn url_of(script: Option<&Script>) -> &[u16]
-    ensures { result.now ≡ listing.url_of (option_copied script.entry) }
-{
-    match script {
-        None => &[],
-        Some(script) => script.url.as_slice(),
-    }
-}
 
 /// The URL of the script that a place is in; that of no script is empty.
 fn url_at(scripts: &[Script], place: Place) -> &[u16]
@@ -73,7 +53,7 @@ fn throw_members(
     let number = numbered(alloc, b"exceptionId", id)?;
     let line = numbered(alloc, b"lineNumber", u64::from(place.pos.line))?;
     let script = member(alloc, b"scriptId", script_id(alloc, place.script)?)?;
-    let shown = named(alloc, b"text", b"Uncaught")?;
+    let shown = ascii_member(alloc, b"text", b"Uncaught")?;
     let url = member(alloc, b"url", copied_text(alloc, url)?)?;
     Ok(vec![in alloc; column, thrown, number, line, script, shown, url]?)
 }

@@ -35,7 +35,9 @@ use cdp_json::params::Evaluation as Asked;
 use cdp_json::refusal::{Refusal, ScratchLimit};
 use cdp_json::value::Json;
 use cdp_text::units::Units;
+use js_heap::built_in::script_scope;
 use js_heap::change::Counted;
+use js_heap::limits::{MOST_SCRATCH_CELLS, MOST_SCRATCH_UNITS};
 use js_heap::value::{Addr, Value};
 use js_parser::parse::parse_expression;
 use js_rows::table::Table;
@@ -46,30 +48,17 @@ use pure_eval::{Evaluated, Opened, Workspace};
 use remote_objects::frame_id;
 use std::alloc::{AllocError, Global};
 
-/// As many cells as a session's evaluations may hold.
-const MOST_CELLS: u64 = 65_536;
-
-/// As many units as the texts in these cells may have together.
-const MOST_UNITS: u64 = 1_048_576;
-
-/// The scope of the scripts.
-pub(crate) fn script_scope() -> Addr
-    ensures { result ≡ script_scope }
-{
-    Addr::Base(1)
-}
-
 /// The refusal for a limit of a session's cells that an evaluation would pass.
 fn limit_of(what: Counted) -> Refusal
     ensures { result ≡ evaluations.limit_of what }
 {
     match what {
         Counted::Cells => Refusal::ScratchFull {
-            count: MOST_CELLS,
+            count: u64::from(MOST_SCRATCH_CELLS),
             what: ScratchLimit::Cells,
         },
         Counted::Units => Refusal::ScratchFull {
-            count: MOST_UNITS,
+            count: u64::from(MOST_SCRATCH_UNITS),
             what: ScratchLimit::Units,
         },
     }

@@ -4,9 +4,9 @@ ghost use Rattle.std.specs.Prelude.{◌≡◌, ◌≤◌, ◌^◌, ◌++◌, ◌
 ghost use Rattle.cdp_json.specs.Views.{json_view, member_view};
 ghost use Rattle.cdp_session.specs.Evaluations as evaluations;
 
-use crate::members::{named, numbered};
+use crate::members::numbered;
 use cdp_json::copied;
-use cdp_json::parts::{member, object_of_one};
+use cdp_json::parts::{ascii_member, member, object_of_one};
 use cdp_json::value::{Json, Member, object};
 use std::alloc::{AllocError, Global};
 
@@ -47,7 +47,7 @@ fn details(
     let column = numbered(alloc, b"columnNumber", 0)?;
     let number = numbered(alloc, b"exceptionId", id)?;
     let line = numbered(alloc, b"lineNumber", 0)?;
-    let text = named(alloc, b"text", shown)?;
+    let text = ascii_member(alloc, b"text", shown)?;
     let members = detail_members(alloc, column, exception, number, line, text)?;
     Ok(object(members))
 }
@@ -76,14 +76,14 @@ pub(crate) fn thrown_result(alloc: Global, id: u64, described: Json) -> Result<J
 pub(crate) fn effect_object(alloc: Global) -> Result<Json, AllocError>
     ensures { IfOk result (λ j. json_view j ≡ evaluations.effect_object) }
 {
-    let class = named(alloc, b"className", b"EvalError")?;
-    let shown = named(
+    let class = ascii_member(alloc, b"className", b"EvalError")?;
+    let shown = ascii_member(
         alloc,
         b"description",
         b"EvalError: Possible side-effect in debug-evaluate",
     )?;
-    let subtype = named(alloc, b"subtype", b"error")?;
-    let kind = named(alloc, b"type", b"object")?;
+    let subtype = ascii_member(alloc, b"subtype", b"error")?;
+    let kind = ascii_member(alloc, b"type", b"object")?;
     Ok(object(vec![in alloc; class, shown, subtype, kind]?))
 }
 
@@ -94,7 +94,7 @@ pub(crate) fn syntax_result(alloc: Global, id: u64) -> Result<Json, AllocError>
 {
     let shown = b"Uncaught SyntaxError: Unexpected token";
     let says = details(alloc, None, id, shown)?;
-    let kind = named(alloc, b"type", b"undefined")?;
+    let kind = ascii_member(alloc, b"type", b"undefined")?;
     let described = object_of_one(alloc, kind)?;
     details_result(alloc, says, described)
 }

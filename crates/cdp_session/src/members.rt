@@ -1,10 +1,10 @@
-//! Members of objects whose values are numbers or texts.
+//! Members of objects whose values are numbers.
 
 ghost use Rattle.std.specs.Prelude.{◌≡◌, ◌≤◌, ◌^◌, pos, IfOk};
 ghost use Rattle.cdp_json.specs.Json as json;
 ghost use Rattle.cdp_json.specs.Views.{member_view};
 
-use cdp_json::parts::{ascii_text, member};
+use cdp_json::parts::member;
 use cdp_json::value::{Member, number};
 use std::alloc::{AllocError, Global};
 
@@ -14,12 +14,4 @@ pub(crate) fn numbered(alloc: Global, key: &[u8], value: u64) -> Result<Member, 
     ensures { IfOk result (λ m. member_view m ≡ (key.now, json.number (pos value))) }
 {
     member(alloc, key, number(value as i64))
-}
-
-/// A member whose value is a text of ASCII.
-pub(crate) fn named(alloc: Global, key: &[u8], value: &[u8]) -> Result<Member, AllocError>
-    ensures { IfOk result (λ m. member_view m ≡ (key.now, json.text value.now)) }
-{
-    let value = ascii_text(alloc, value)?;
-    member(alloc, key, value)
 }

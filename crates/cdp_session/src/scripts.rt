@@ -6,7 +6,7 @@ ghost use Rattle.cdp_json.specs.Json as json;
 ghost use Rattle.cdp_json.specs.Views.{json_view, member_view};
 ghost use Rattle.cdp_session.specs.Scripts as parsed;
 
-use crate::members::{named, numbered};
+use crate::members::numbered;
 use cdp_json::event_text;
 use cdp_json::parts::{ascii_text, copied_text, member};
 use cdp_json::value::{Json, Member, object};

@@ -6,6 +6,7 @@ use Rattle.cdp_text.specs.Decimal.{decimal_value}
 use Rattle.cdp_text.specs.Parts.{behind}
 use Rattle.std.specs.declared.string.String.{String}
 use Rattle.std.specs.declared.alloc.Global.{Global}
+use Rattle.command_line.specs.declared.words.TheConstants.{MOST_DRILLED}
 
 -- a program's scripts by the names of their files, with the name of its input, if it has one
 pub record Sources : Type 0 where
@@ -82,7 +83,7 @@ replay_words (word ∷ words) =
 
 -- the greatest number of a drill
 abbrev pub most_drilled : ℕ
-most_drilled = 10000
+most_drilled = MOST_DRILLED
 
 -- a drill of this number, from 1 to the greatest
 abbrev pub drill_numbered : ℕ → Option Command

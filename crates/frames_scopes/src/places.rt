@@ -4,7 +4,8 @@ ghost use Rattle.std.specs.Prelude.{◌≡◌, ◌^◌, ◌<◌, ◌≤◌, leng
 ghost use Rattle.std.specs.List.{Contains};
 ghost use Rattle.cdp_text.specs.Position.{line_starts};
 ghost use Rattle.js_semantics.specs.Frames.{offset_of};
-ghost use Rattle.frames_scopes.specs.Places.{numbered, pos_in, shown_place, starts_of};
+ghost use Rattle.frames_scopes.specs.Places.{pos_in, shown_place, starts_of};
+ghost use Rattle.js_tree.specs.Scripts.{script_numbered};
 
 use cdp_text::line_table::LineTable;
 use cdp_text::position::{Place, Pos};
@@ -41,7 +42,7 @@ fn numbered<'m>(
     number: u32,
 ) -> Option<(&'m Script, &'m LineTable)>
     requires { lines.now ≡ map starts_of scripts.now }
-    ensures script { option_map (λ found. found.0.now) result ≡ numbered scripts.now number }
+    ensures script { option_map (λ found. found.0.now) result ≡ script_numbered scripts.now number }
     ensures lines { IfSome result (λ found. found.1.now ≡ line_starts found.0.now.source) }
     ensures among { IfSome result (λ found. Contains scripts.now found.0.now) }
 {

@@ -8,6 +8,7 @@ use Rattle.js_heap.specs.declared.cell.Cell.{Cell}
 use Rattle.js_heap.specs.declared.change.Change.{Change}
 use Rattle.js_heap.specs.declared.change.Counted.{Counted}
 use Rattle.js_heap.specs.declared.change.Counted.TheVariants as counted
+use Rattle.js_heap.specs.declared.limits.TheConstants.{MOST_CELLS, MOST_UNITS, MOST_SCRATCH_CELLS, MOST_SCRATCH_UNITS}
 use Rattle.js_heap.specs.Cells.{weight, changed}
 
 -- How much may still be made: the limit less what is counted. What isn't counted, as the built-in cells and
@@ -25,11 +26,11 @@ pub record World : Type 0 where
 
 -- the limits of a run's cells
 abbrev pub base_room : Room
-base_room = record { cells = 1048576; units = 67108864 }
+base_room = record { cells = MOST_CELLS; units = MOST_UNITS }
 
 -- the limits of a session's cells
 abbrev pub scratch_room : Room
-scratch_room = record { cells = 65536; units = 1048576 }
+scratch_room = record { cells = MOST_SCRATCH_CELLS; units = MOST_SCRATCH_UNITS }
 
 -- what a call on a world answers; a refusal has the world as it stays
 pub data Tried (A : Type 0) : Type 0 where

@@ -1,7 +1,7 @@
 //! The built-in functions, the classes of errors, and where a function's code is.
 
 ghost use Rattle.std.specs.Prelude.{◌≡◌};
-ghost use Rattle.js_heap.specs.BuiltIns.{built_in_at};
+ghost use Rattle.js_heap.specs.BuiltIns.{built_in_at, script_scope};
 
 use crate::value::Addr;
 
@@ -78,4 +78,11 @@ pub fn built_in_at(f: BuiltIn) -> Addr
         BuiltIn::StringSlice => Addr::Base(22),
         BuiltIn::StringCharCodeAt => Addr::Base(23),
     }
+}
+
+/// Where the scope of the scripts' top-level names is.
+pub fn script_scope() -> Addr
+    ensures { result ≡ script_scope }
+{
+    Addr::Base(1)
 }

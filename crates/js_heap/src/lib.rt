@@ -18,6 +18,7 @@ pub mod change;
 pub mod computed;
 pub mod keys;
 pub mod laws;
+pub mod limits;
 pub mod properties;
 pub mod reading;
 pub mod value;

@@ -22,7 +22,7 @@ use crate::start::{Prepared, prepare};
 use cdp_text::units::Units;
 use js_code::table::NodeTable;
 use js_compile::scripts::ScriptCode;
-use js_heap::value::Addr;
+use js_heap::built_in::script_scope;
 use js_operations::context::Context;
 use js_rows::table::Table;
 use js_steps::run::{Asks, Ran, Why, run};
@@ -67,13 +67,6 @@ impl Model for Machine {
 pub struct Started {
     pub machine: Machine,
     pub heap: BaseHeap,
-}
-
-/// The scope of the scripts, around all that they do.
-pub fn script_scope() -> Addr
-    ensures { result ≡ script_scope }
-{
-    Addr::Base(1)
 }
 
 /// How a step ends the run.

@@ -16,7 +16,7 @@ use Rattle.js_numbered.proofs.NodeSpanLemmas.{span_found}
 use Rattle.js_numbered.proofs.NumberedPlaceLaws.{placed_same}
 use Rattle.js_parser.specs.Answers.{OkOrMemory}
 use Rattle.js_parser.specs.Expressions.{expression_of, function_of, UnlessMemory}
-use Rattle.js_parser.specs.NodeTexts.{units_in, node_units, node_text, lacks_memory}
+use Rattle.js_parser.specs.NodeTexts.{node_units, node_text, lacks_memory}
 use Rattle.js_parser.specs.Sources.{IsSource, IsTreeOf, tokens_of}
 use Rattle.js_parser.specs.Spans.{AreSpansIn}
 use Rattle.js_parser.proofs.ExpressionLemmas.{expression_some, expression_none, function_is}

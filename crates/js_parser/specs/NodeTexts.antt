@@ -1,6 +1,6 @@
 -- The text of a node of the tree of a text, as a function of the text.
-use Rattle.std.specs.Prelude.{ℕ, ◌-◌, List, [], take, drop, Bool, true, false, Option, Some, None}
-use Rattle.js_tree.specs.declared.node.Span.{Span}
+use Rattle.std.specs.Prelude.{ℕ, List, [], Bool, true, false, Option, Some, None}
+use Rattle.js_tree.specs.Spans.{units_in}
 use Rattle.js_tree.specs.Trees.{Expression}
 use Rattle.js_syntax.specs.declared.fault.ParseFault.{ParseFault}
 use Rattle.js_syntax.specs.declared.fault.ParseFault.TheVariants as faults
@@ -8,10 +8,6 @@ use Rattle.js_numbered.specs.NumberedPlaces.{numbered_places}
 use Rattle.js_numbered.specs.NodeSpans.{node_span}
 use Rattle.js_parser.specs.Expressions.{expression_of}
 use Rattle.js_parser.specs.Sources.{tokens_of}
-
--- the units of a span
-abbrev pub units_in : Span → List ℕ → List ℕ
-units_in s units = take (s.end - s.start) (drop s.start units)
 
 -- the units of the node of this number in a source with this tree; of no tree none
 abbrev pub node_units : Option Expression → List ℕ → ℕ → List ℕ

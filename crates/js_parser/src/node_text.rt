@@ -6,20 +6,9 @@ ghost use Rattle.js_parser.specs.NodeTexts as texts;
 use crate::parse::parse_expression;
 use cdp_text::units::Units;
 use js_syntax::fault::ParseFault;
-use js_tree::node::{NodeId, Span};
+use js_tree::node::NodeId;
+use js_tree::span::units_in;
 use std::alloc::{AllocError, Global};
-
-/// The units of a span.
-fn units_in(span: Span, units: &[u16]) -> &[u16]
-    ensures { result.now ≡ texts.units_in span units.now }
-{
-    let end = span.end.min(units.len());
-    if span.start < end {
-        &units[span.start..end]
-    } else {
-        &[]
-    }
-}
 
 /// Whether memory ran out.
 fn lacks_memory(fault: ParseFault) -> bool

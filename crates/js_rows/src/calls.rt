@@ -32,6 +32,7 @@ use js_operations::frame::Frame;
 use js_operations::functions::new_scope;
 use js_operations::shown::logged;
 use js_semantics::form::{Mark, Source};
+use js_semantics::limits::MOST_FRAMES;
 use js_steps::reduced::Reduced;
 use js_steps::task::Redex;
 use js_world::names::Names;
@@ -224,7 +225,7 @@ fn called_this(is_arrow: bool, made: Value, given: Value) -> Value
     if is_arrow { made } else { given }
 }
 
-/// Calls a function of a source whose code is there; the limit of 1,000 frames comes before that of the world.
+/// Calls a function of a source whose code is there; the limit of [`MOST_FRAMES`] frames comes before that of the world.
 fn call_entry<W: World>(
     alloc: Global,
     table: &NodeTable,
@@ -238,7 +239,7 @@ fn call_entry<W: World>(
 ) -> Reduced
     ensures { ActsAlways names.now table.now (λ s. entered_within s (entry_code names.now table.now place code.now) entry.source entry.function (name_text names.now entry.name) entry.outer entry.receiver arguments.now) (W.world names.now world.old) context.old result (W.world names.now world.new) context.new }
 {
-    if context.frame_count() < 1000 {
+    if context.frame_count() < MOST_FRAMES {
         enter(
             alloc, table, names, context, world, place, code, entry, arguments,
         )

@@ -19,6 +19,7 @@ use Rattle.js_semantics.specs.Functions.{Program}
 use Rattle.js_semantics.specs.Makers.{Made}
 use Rattle.js_semantics.specs.Sources.{expression_source}
 use Rattle.js_semantics.specs.Literals.{source_literals}
+use Rattle.js_semantics.specs.declared.limits.TheConstants.{MOST_STEPS}
 use Rattle.js_semantics.specs.Run.{ended, threw, by_effect, by_full, Run, running, over, run_of, steps_in, literals, with_literals}
 
 -- ---- the world of an evaluation
@@ -104,7 +105,7 @@ make_arguments w (a ∷ rest) = after_try (make_argument w a) (λ x v. after_try
 
 -- how many steps an evaluation may take
 abbrev pub budget : ℕ
-budget = 100000
+budget = MOST_STEPS
 
 -- the answer of an evaluation, with the world after it
 pub data Answer : Type 0 where

@@ -16,6 +16,7 @@ use Rattle.js_heap.specs.World.{read_cell}
 use Rattle.js_semantics.specs.Terms.{Source, script_source, kept_source, Mark, start, FunctionForm, Form, function, method, frame, Term, done, standing, part, Terms, end, more, one, settle}
 use Rattle.js_heap.specs.Values.{same_address}
 use Rattle.js_semantics.specs.State.{State, Action, go, make, write, set_here, push_frame, give, fail, this_of}
+use Rattle.js_semantics.specs.declared.limits.TheConstants.{MOST_FRAMES}
 use Rattle.js_semantics.specs.BuiltIns.{built_in_call}
 pub use Rattle.js_heap.specs.Arguments.{parameters_from}
 
@@ -143,7 +144,7 @@ entered c source a name outer receiver args =
 
 -- the limit of 1,000 frames comes before the world's
 abbrev pub frame_limit : ℕ
-frame_limit = 1000
+frame_limit = MOST_FRAMES
 
 -- a call of a function whose code stands in a source, with the `this` that it was made with and the one that is given
 abbrev pub call_code : State

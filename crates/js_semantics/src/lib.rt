@@ -17,3 +17,4 @@
 
 pub mod form;
 pub mod laws;
+pub mod limits;

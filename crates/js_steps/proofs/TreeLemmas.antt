@@ -3,7 +3,6 @@ use Rattle.std.proofs.Common.{◌≡◌, ℕ, Bool, false, List, Option, None, S
 use Rattle.js_semantics.specs.Terms.{Term, done, part, is_done}
 use Rattle.js_code.specs.declared.node.Node.{Node}
 use Rattle.js_code.specs.declared.table.NodeTable.{NodeTable}
-use Rattle.js_code.specs.Ops.{is_literal}
 use Rattle.js_code.specs.Forms.{form_of}
 use Rattle.js_code.specs.Trees.{constant_at, kids_between, terms, node_term, tree_within, tree}
 use Rattle.js_steps.specs.Parts.{IsOpen}

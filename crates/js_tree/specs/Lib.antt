@@ -3,3 +3,4 @@ pub mod Views
 pub mod Height
 pub mod Spans
 pub mod Kept
+pub mod Scripts

@@ -12,5 +12,6 @@ pub mod integer;
 pub mod names;
 pub mod node;
 pub mod script;
+pub mod scripts;
 pub mod span;
 pub mod tree;

@@ -1,7 +1,7 @@
 //! The spans of nodes in their sources.
 
 ghost use Rattle.std.specs.Prelude.{◌≡◌, length};
-ghost use Rattle.js_tree.specs.Spans.{IsWithin, span_of};
+ghost use Rattle.js_tree.specs.Spans.{IsWithin, span_of, units_in};
 ghost use Rattle.js_tree.specs.Kept.{source_of, spans_of};
 
 use crate::node::{NodeId, Span};
@@ -23,5 +23,17 @@ pub fn span_in(code: &Kept, node: NodeId) -> Span
     match code {
         Kept::Expression(expression) => expression.spans.of(node),
         Kept::Function(function) => function.spans.of(node),
+    }
+}
+
+/// The units of a span, as far as there are so many.
+pub fn units_in(span: Span, units: &[u16]) -> &[u16]
+    ensures { result.now ≡ units_in span units.now }
+{
+    let end = span.end.min(units.len());
+    if span.start < end {
+        &units[span.start..end]
+    } else {
+        &[]
     }
 }

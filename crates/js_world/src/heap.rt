@@ -15,6 +15,7 @@ use crate::weight::{taken, weight};
 use crate::world::{Refused, World};
 use cdp_text::units::Units;
 use js_heap::change::Counted;
+use js_heap::limits::{MOST_CELLS, MOST_UNITS};
 use js_heap::value::{Addr, Value};
 use std::alloc::{AllocError, Global};
 use std::marker::Model;
@@ -138,8 +139,8 @@ impl BaseHeap {
         Ok(BaseHeap {
             cells,
             ends: names.len(),
-            cells_left: 1_048_576,
-            units_left: 67_108_864,
+            cells_left: MOST_CELLS,
+            units_left: MOST_UNITS,
         })
     }
 
@@ -285,10 +286,10 @@ impl World for BaseHeap {
     }
 
     fn cells(&self) -> u64 {
-        1_048_576u64.saturating_sub(u64::from(self.cells_left))
+        u64::from(MOST_CELLS).saturating_sub(u64::from(self.cells_left))
     }
 
     fn units(&self) -> u64 {
-        67_108_864u64.saturating_sub(u64::from(self.units_left))
+        u64::from(MOST_UNITS).saturating_sub(u64::from(self.units_left))
     }
 }

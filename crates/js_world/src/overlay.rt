@@ -16,6 +16,7 @@ use crate::stored::Stored;
 use crate::weight::{taken, weight};
 use crate::world::{Refused, World};
 use cdp_text::units::Units;
+use js_heap::limits::{MOST_SCRATCH_CELLS, MOST_SCRATCH_UNITS};
 use js_heap::value::{Addr, Value};
 use std::alloc::Global;
 use std::marker::Model;
@@ -73,8 +74,8 @@ impl Scratch {
             ends: 0,
             earlier: 0,
             earlier_ends: 0,
-            cells_left: 65_536,
-            units_left: 1_048_576,
+            cells_left: MOST_SCRATCH_CELLS,
+            units_left: MOST_SCRATCH_UNITS,
         }
     }
 
@@ -345,10 +346,10 @@ impl<'a> World for Overlay<'a> {
     }
 
     fn cells(&self) -> u64 {
-        65_536u64.saturating_sub(u64::from(self.cells_left))
+        u64::from(MOST_SCRATCH_CELLS).saturating_sub(u64::from(self.cells_left))
     }
 
     fn units(&self) -> u64 {
-        1_048_576u64.saturating_sub(u64::from(self.units_left))
+        u64::from(MOST_SCRATCH_UNITS).saturating_sub(u64::from(self.units_left))
     }
 }

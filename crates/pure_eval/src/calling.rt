@@ -21,14 +21,16 @@ ghost use Rattle.pure_eval.specs.Calling.{called, KeepsTo, HasCall, IsCallAdded,
 
 use crate::arguments::{Argument, make_arguments};
 use crate::evaluated::{Evaluated, finish_of};
-use crate::reducing::{MOST_STEPS, run_on};
+use crate::reducing::run_on;
 use crate::session::refused_end;
 use js_code::node::CallEntry;
 use js_code::op::Op;
 use js_code::table::NodeTable;
+use js_heap::built_in::script_scope;
 use js_heap::value::{Addr, Value};
 use js_operations::context::Context;
 use js_semantics::form::Mark;
+use js_semantics::limits::MOST_STEPS;
 use js_steps::rows::Rows;
 use js_steps::settling::uncover;
 use js_steps::stack::Stack;
@@ -44,13 +46,6 @@ use std::alloc::{AllocError, Global};
 enum Callee {
     Reduced { value: Value, left: u64 },
     Ended(Evaluated),
-}
-
-/// The scope of the scripts.
-fn script_scope() -> Addr
-    ensures { result ≡ script_scope }
-{
-    Addr::Base(1)
 }
 
 /// The entry of a call that stands in no statement, behind a table's other calls; the answer is its number.

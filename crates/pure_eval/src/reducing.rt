@@ -15,6 +15,7 @@ use crate::evaluated::{Evaluated, end_at, end_of};
 use js_code::table::NodeTable;
 use js_heap::value::{Addr, Value};
 use js_operations::context::Context;
+use js_semantics::limits::MOST_STEPS;
 use js_steps::rows::Rows;
 use js_steps::run::{Asks, run};
 use js_steps::settling::uncover;
@@ -23,9 +24,6 @@ use js_steps::task::Point;
 use js_world::names::Names;
 use js_world::world::World;
 use std::alloc::Global;
-
-/// As many steps as an evaluation may take.
-pub(crate) const MOST_STEPS: u64 = 100_000;
 
 /// Nobody asks an evaluation to stop.
 #[derive(Clone, Copy, Debug)]

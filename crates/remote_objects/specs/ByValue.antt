@@ -14,6 +14,7 @@ use Rattle.remote_objects.specs.Sights.{Sight}
 use Rattle.remote_objects.specs.Values.{cell_pairs, value_pairs}
 use Rattle.remote_objects.specs.declared.by_value.ByValueFault.{ByValueFault}
 use Rattle.remote_objects.specs.declared.by_value.ByValueFault.TheVariants as faults
+use Rattle.remote_objects.specs.declared.by_value.TheConstants.{MOST_DEEP, MOST_MET}
 
 -- ---- what is given
 
@@ -125,11 +126,11 @@ value_given w n v = value_by w (object_given w n) v
 
 -- how deep a value may be
 abbrev pub most_deep : ℕ
-most_deep = 100
+most_deep = MOST_DEEP
 
 -- how many values may be met
 abbrev pub most_met : ℕ
-most_met = 100000
+most_met = MOST_MET
 
 -- what is given, where it is within both limits
 abbrev pub if_within : ℕ → ℕ → Given Json → Option Json

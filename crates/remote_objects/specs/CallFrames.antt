@@ -10,7 +10,7 @@ use Rattle.call_frames.specs.declared.kind.ListedKind.{ListedKind}
 use Rattle.call_frames.specs.declared.kind.ListedKind.TheVariants as kinds
 use Rattle.remote_objects.specs.Ids.{frame_id}
 use Rattle.remote_objects.specs.Sights.{Sight}
-use Rattle.remote_objects.specs.Values.{numbered}
+use Rattle.js_tree.specs.Scripts.{script_numbered}
 use Rattle.remote_objects.specs.Making.{Made, made_all}
 use Rattle.remote_objects.specs.Remote.{remote, remote_scope}
 
@@ -67,7 +67,7 @@ frame_object s stop depth f scopes receiver = object_of (
     ∷ (codes "location", location f.place)
     ∷ (codes "scopeChain", list_of scopes)
     ∷ (codes "this", receiver)
-    ∷ (codes "url", text (url_of (numbered s.scripts f.place.script))) ∷ [])
+    ∷ (codes "url", text (url_of (script_numbered s.scripts f.place.script))) ∷ [])
 
 -- its scopes from the innermost one outward, then its `this`
 abbrev pub receiver_made : Sight → ShownFrame → handles.State → Made Json

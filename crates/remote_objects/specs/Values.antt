@@ -1,9 +1,9 @@
 -- What a value is described as (Chrome DevTools Protocol 1.3, `Runtime.RemoteObject`), but for the id of its handle.
-use Rattle.std.specs.Prelude.{ℕ, ℤ, Bool, ◌-◌, List, [], ◌∷◌, ◌++◌, length, take, drop, codes, decimal, nat_eq, slice_get, if◌then◌else◌, Option, Some, None}
+use Rattle.std.specs.Prelude.{ℕ, ℤ, Bool, List, [], ◌∷◌, ◌++◌, length, codes, decimal, Option, Some, None}
 use Rattle.std.specs.Fmt.{signed_decimal}
 use Rattle.js_tree.specs.declared.script.Script.{Script}
-use Rattle.js_tree.specs.declared.node.Span.{Span}
-use Rattle.js_tree.specs.Spans.{span_of}
+use Rattle.js_tree.specs.Scripts.{script_numbered}
+use Rattle.js_tree.specs.Spans.{span_of, units_in}
 use Rattle.js_heap.specs.declared.built_in.Code.{Code}
 use Rattle.js_heap.specs.declared.built_in.Code.TheVariants as codes_of
 use Rattle.js_heap.specs.declared.cell.Cell.{Cell}
@@ -18,18 +18,10 @@ use Rattle.remote_objects.specs.Sights.{Sight}
 
 -- ---- functions
 
--- the units of a span
-abbrev pub units_in : Span → List ℕ → List ℕ
-units_in s units = take (s.end - s.start) (drop s.start units)
-
 -- the source of a node of a script; of no script it is empty
 abbrev pub node_source : Option Script → ℕ → List ℕ
 node_source None node = []
 node_source (Some s) node = units_in (span_of s.spans node) s.source
-
--- the script of a number; scripts are counted from 1
-abbrev pub numbered : List Script → ℕ → Option Script
-numbered scripts n = if nat_eq n 0 then None else slice_get scripts (n - 1)
 
 -- what is shown of a function without a source (ECMA-262, 20.2.3.5)
 abbrev pub native_text : List ℕ → List ℕ
@@ -37,7 +29,7 @@ native_text name = codes "function " ++ (name ++ codes "() { [native code] }")
 
 -- the source of a function: that of its node, in its script or in the text of the evaluation that made it
 abbrev pub function_text : Sight → Code → List ℕ → List ℕ
-function_text s (codes_of.Script n node) name = node_source (numbered s.scripts n) node
+function_text s (codes_of.Script n node) name = node_source (script_numbered s.scripts n) node
 function_text s (codes_of.Kept at node) name = s.node_text (units_at s.world at) node
 function_text s (codes_of.BuiltIn f) name = native_text name
 

@@ -1,7 +1,6 @@
 //! Active frames with handles on their scopes (Chrome DevTools Protocol 1.3, `Debugger.CallFrame` and `Debugger.Scope`).
 
 ghost use Rattle.std.specs.Prelude.{◌≡◌, ◌++◌, ◌∷◌, [], Some, map, option_copied, IfOk, OnOk};
-ghost use Rattle.cdp_json.specs.Json as json;
 ghost use Rattle.cdp_json.specs.Views.{json_view, member_view};
 ghost use Rattle.call_frames.specs.Views as shown;
 ghost use Rattle.remote_objects.specs.CallFrames as listing;
@@ -9,7 +8,6 @@ ghost use Rattle.remote_objects.specs.Views.{sight_of, frame_front, frame_back};
 
 use crate::describer::Describer;
 use crate::function_sources::FunctionSources;
-use crate::functions::numbered;
 use crate::ids::frame_id;
 use crate::members::put;
 use crate::remote::remote_scope;
@@ -18,6 +16,7 @@ use cdp_json::parts::{ascii_text, copied_text, location, member};
 use cdp_json::value::{Json, Member, list, object, text};
 use cdp_text::position::Place;
 use js_tree::script::Script;
+use js_tree::scripts::script_numbered;
 use js_world::world::World;
 use object_groups::Handles;
 use std::alloc::{AllocError, Global};
@@ -91,7 +90,7 @@ fn put_function_place(
 }
 
 /// The URL of a script; that of none is empty.
-fn url_of(script: Option<&Script>) -> &[u16]
+pub fn url_of(script: Option<&Script>) -> &[u16]
     ensures { result.now ≡ listing.url_of (option_copied script.entry) }
 {
     match script {
@@ -172,7 +171,7 @@ impl<'w, W: World, S: FunctionSources> Describer<'w, W, S> {
         ensures { IfOk result (λ j. json_view j ≡ listing.frame_object (sight_of S.node_text (W.world self.now.names.now self.now.world.now) self.now.scripts.now self.now.session) stop depth (shown.frame_of frame.now) (map json_view scopes.items) (json_view receiver)) }
     {
         let mut members = front_members(self.alloc, self.session, stop, depth, frame)?;
-        let url = url_of(numbered(self.scripts, frame.place.script));
+        let url = url_of(script_numbered(self.scripts, frame.place.script));
         put_back(self.alloc, &mut members, scopes, receiver, url)?;
         Ok(object(members))
     }

@@ -9,23 +9,13 @@ use crate::function_sources::FunctionSources;
 use cdp_text::units::Units;
 use js_heap::built_in::Code;
 use js_operations::seen::units_at;
-use js_tree::node::{NodeId, Span};
+use js_tree::node::NodeId;
 use js_tree::script::Script;
+use js_tree::scripts::script_numbered;
+use js_tree::span::units_in;
 use js_values::text::quoted;
 use js_world::world::World;
 use std::alloc::{AllocError, Global};
-
-/// The units of a span.
-fn units_in(span: Span, units: &[u16]) -> &[u16]
-    ensures { result.now ≡ values.units_in span units.now }
-{
-    let end = span.end.min(units.len());
-    if span.start < end {
-        &units[span.start..end]
-    } else {
-        &[]
-    }
-}
 
 /// The source of a node of a script; of no script it is empty.
 fn node_source(script: Option<&Script>, node: u32) -> &[u16]
@@ -35,16 +25,6 @@ fn node_source(script: Option<&Script>, node: u32) -> &[u16]
         None => &[],
         Some(script) => units_in(script.spans.of(NodeId(node)), script.source.as_slice()),
     }
-}
-
-/// The script of a number; scripts are counted from 1.
-pub(crate) fn numbered(scripts: &[Script], number: u32) -> Option<&Script>
-    ensures { option_copied result ≡ values.numbered scripts.now number }
-{
-    if number == 0 {
-        return None;
-    }
-    scripts.get(number as usize - 1)
 }
 
 /// What is shown of a function without a source (ECMA-262, 20.2.3.5).
@@ -61,7 +41,7 @@ impl<'w, W: World, S: FunctionSources> Describer<'w, W, S> {
     {
         match code {
             Code::Script { number, node } => {
-                let source = node_source(numbered(self.scripts, number), node);
+                let source = node_source(script_numbered(self.scripts, number), node);
                 Units::from_slice(self.alloc, source)
             }
             Code::Kept { at, node } => {

@@ -29,6 +29,6 @@ mod values;
 pub use by_value::ByValueFault;
 pub use describer::Describer;
 pub use detail::Detail;
-pub use frames::backtrace;
+pub use frames::{backtrace, url_of};
 pub use function_sources::FunctionSources;
 pub use ids::{frame_id, read_object_id};

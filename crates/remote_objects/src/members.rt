@@ -1,24 +1,16 @@
 //! Members of objects.
 
-ghost use Rattle.std.specs.Prelude.{◌≡◌, ◌∷◌, ◌++◌, [], pos, map, codes, IfOk, OnOk};
+ghost use Rattle.std.specs.Prelude.{◌≡◌, ◌∷◌, ◌++◌, [], map, codes, IfOk, OnOk};
 ghost use Rattle.std.specs.Fmt.{signed_decimal};
 ghost use Rattle.cdp_json.specs.Json as json;
 ghost use Rattle.cdp_json.specs.Views.{json_view, member_view};
 ghost use Rattle.remote_objects.specs.Values as values;
 
-use cdp_json::parts::{ascii_text, copied_text, member};
+use cdp_json::parts::{ascii_member, copied_text, member};
 use cdp_json::value::{Json, Member, boolean, null, number, text};
 use cdp_text::units::{Units, ascii};
 use js_values::operators::number_text;
 use std::alloc::{AllocError, Global};
-
-/// A member whose value is a text of ASCII.
-pub(crate) fn ascii_member(alloc: Global, key: &[u8], value: &[u8]) -> Result<Member, AllocError>
-    ensures { IfOk result (λ m. member_view m ≡ (key.now, json.text value.now)) }
-{
-    let value = ascii_text(alloc, value)?;
-    member(alloc, key, value)
-}
 
 /// A member whose value is a truth value.
 pub(crate) fn truth_member(alloc: Global, key: &[u8], value: bool) -> Result<Member, AllocError>

@@ -10,9 +10,9 @@ ghost use Rattle.remote_objects.specs.Views.{listed_view};
 
 use crate::describer::Describer;
 use crate::function_sources::FunctionSources;
-use crate::members::{array_text, ascii_member, put, truth_member};
+use crate::members::{array_text, put, truth_member};
 use crate::slots::index_name;
-use cdp_json::parts::{ascii_text, member};
+use cdp_json::parts::{ascii_member, ascii_text, member};
 use cdp_json::value::{Json, Member, list, object, text};
 use cdp_text::units::{Units, ascii};
 use js_heap::cell::Property;

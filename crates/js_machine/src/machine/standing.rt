@@ -9,11 +9,12 @@ ghost use Rattle.js_frames.specs.Sources.{spans_in};
 ghost use Rattle.js_machine.specs.Machines.{state_of, term_of};
 ghost use Rattle.js_machine.specs.Standing.{holds_until_end, source_of, until_end};
 
-use crate::machine::{Machine, script_scope};
+use crate::machine::Machine;
 use js_frames::arrivals::{arrival, is_at_debugger};
 use js_frames::frames::{active_frame, depth};
 use js_frames::standing::Thrown;
 use js_frames::throws::thrown;
+use js_heap::built_in::script_scope;
 use js_operations::frame::Frame;
 use js_semantics::form::{Mark, Source};
 use js_tree::script::Script;

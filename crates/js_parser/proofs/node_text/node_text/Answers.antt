@@ -3,7 +3,7 @@ use Rattle.std.proofs.lemmas.Result.{IfOk-weaker}
 use Rattle.js_tree.specs.declared.node.Span.{Span}
 use Rattle.js_tree.specs.declared.script.Expression.{Expression}
 use Rattle.js_tree.specs.Views.{expression_view}
-use Rattle.js_parser.specs.NodeTexts.{units_in}
+use Rattle.js_tree.specs.Spans.{units_in}
 use Rattle.js_parser.proofs.NodeTextLemmas.{text_found, text_refused}
 use Rattle.js_parser.proofs.node_text.node_text.Goals as goal
 
