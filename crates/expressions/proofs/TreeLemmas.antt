@@ -20,44 +20,6 @@ use Rattle.js_tree.proofs.ViewLemmas.{view_if_then, view_if_else, view_this, vie
 use Rattle.js_semantics.specs.Literals.{expression_literals, statement_literals, declared_literals}
 use Rattle.expressions.specs.Items.{alternate_literals}
 
--- ---- lists
-
-pub expressions_listed : (es : Exprs) → expressions_view es ≡ expressions (map expression_view es.items.items)
-unfolding expression_view property_view key_view statement_view block_view catch_view declarator_view declarators_view expressions_view properties_view statements_view
-expressions_listed es = fold_out-Exprs Expression Property Key Statement Statements Handler trees.Declarator trees.Declarators Expressions Properties Statements expression_step property_step key_step statement_step block_step catch_step declarator_step declarators_step expressions_step properties_step statements_step es
-
-pub properties_listed : (ps : PropertyDefinitions) → properties_view ps ≡ properties (map property_view ps.items.items)
-unfolding expression_view property_view key_view statement_view block_view catch_view declarator_view declarators_view expressions_view properties_view statements_view
-properties_listed ps = fold_out-PropertyDefinitions Expression Property Key Statement Statements Handler trees.Declarator trees.Declarators Expressions Properties Statements expression_step property_step key_step statement_step block_step catch_step declarator_step declarators_step expressions_step properties_step statements_step ps
-
-pub statements_listed : (ss : Stmts) → statements_view ss ≡ statements (map statement_view ss.items.items)
-unfolding expression_view property_view key_view statement_view block_view catch_view declarator_view declarators_view expressions_view properties_view statements_view
-statements_listed ss = fold_out-Stmts Expression Property Key Statement Statements Handler trees.Declarator trees.Declarators Expressions Properties Statements expression_step property_step key_step statement_step block_step catch_step declarator_step declarators_step expressions_step properties_step statements_step ss
-
-pub declarators_listed : (ds : Declarators)
-    → declarators_view ds ≡ declarators (map declarator_view (out-Declarators ds).items.items)
-unfolding expression_view property_view key_view statement_view block_view catch_view declarator_view declarators_view expressions_view properties_view statements_view
-declarators_listed ds = fold_out-Declarators Expression Property Key Statement Statements Handler trees.Declarator trees.Declarators Expressions Properties Statements expression_step property_step key_step statement_step block_step catch_step declarator_step declarators_step expressions_step properties_step statements_step ds
-
--- ---- parts
-
-pub block_of : (b : Block) → block_view b ≡ statements_view b.body
-unfolding expression_view property_view key_view statement_view block_view catch_view declarator_view declarators_view expressions_view properties_view statements_view
-block_of b = fold_out-Block Expression Property Key Statement Statements Handler trees.Declarator trees.Declarators Expressions Properties Statements expression_step property_step key_step statement_step block_step catch_step declarator_step declarators_step expressions_step properties_step statements_step b
-
-pub catch_of : (h : Catch) → catch_view h ≡ trees.catch h.parameter (block_view h.block)
-unfolding expression_view property_view key_view statement_view block_view catch_view declarator_view declarators_view expressions_view properties_view statements_view
-catch_of h = fold_out-Catch Expression Property Key Statement Statements Handler trees.Declarator trees.Declarators Expressions Properties Statements expression_step property_step key_step statement_step block_step catch_step declarator_step declarators_step expressions_step properties_step statements_step h
-
-declarator_by : (n : List ℕ) (o : Option Expr)
-    → declarator_view (record { name = n; initializer = o }) ≡ trees.declarator n (optional_view o)
-unfolding expression_view property_view key_view statement_view block_view catch_view declarator_view declarators_view expressions_view properties_view statements_view
-declarator_by n None = fold_out-Declarator Expression Property Key Statement Statements Handler trees.Declarator trees.Declarators Expressions Properties Statements expression_step property_step key_step statement_step block_step catch_step declarator_step declarators_step expressions_step properties_step statements_step (record { name = n; initializer = None })
-declarator_by n (Some e) = fold_out-Declarator Expression Property Key Statement Statements Handler trees.Declarator trees.Declarators Expressions Properties Statements expression_step property_step key_step statement_step block_step catch_step declarator_step declarators_step expressions_step properties_step statements_step (record { name = n; initializer = Some e })
-
-pub declarator_of : (d : Declarator) → declarator_view d ≡ trees.declarator d.name (optional_view d.initializer)
-declarator_of d = declarator_by d.name d.initializer
-
 pub if_literals : (node : NodeId) (test : Expr) (consequent : Box Stmt) (alternate : Option (Box Stmt))
     → statement_literals (statement_view (tree.If node test consequent alternate))
     ≡ expression_literals (expression_view test) ++ statement_literals (statement_view consequent.value) ++ alternate_literals alternate

@@ -32,11 +32,7 @@ use Rattle.js_tree.specs.Views.{parameters_view}
 use Rattle.js_language.specs.Tokens.{identifier_name, numeric_literal, string_literal}
 use Rattle.js_language.specs.Flat.{a, an_identifier, unary_kind, update_kind, binary_kind, assign_kind, flat_parameters, flat_arrow_parameters, flat_optional_name, flat_catch_parameter, flat_boolean, let_or_const}
 use Rattle.js_language.specs.Places.{Place, in_turn, plain, a_symbol, may_stand, node_of, in_braces, in_parentheses, with_commas, assign_if_some, optional_places, handler_places, finalizer_places, expression_places, property_places, key_places, statement_places, block_places, catch_places, declarator_places, declarators_places, expressions_places, properties_places, statements_places, expression_pieces, property_pieces, key_pieces, statement_pieces, block_pieces, catch_pieces, declarator_pieces, declarators_pieces, expressions_pieces, properties_pieces, statements_pieces}
-
--- one level of each type, with the trees themselves in its places
-abbrev Layer : (Type 0 → Type 0 → Type 0 → Type 0 → Type 0 → Type 0 → Type 0 → Type 0 → Type 0 → Type 0 → Type 0 → Type 0)
-    → Type 0
-Layer F = F Expr PropertyDefinition PropertyName Stmt Block Catch Declarator Declarators Exprs PropertyDefinitions Stmts
+use Rattle.js_tree.proofs.ViewLemmas.{Layer}
 
 -- the places of a tree are made of the places of its parts
 pub expression_turn : (x : Layer Expr-F)

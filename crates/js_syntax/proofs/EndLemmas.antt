@@ -6,24 +6,12 @@ use Rattle.js_tree.specs.declared.tree.Expr.{Expr}
 use Rattle.js_tree.specs.declared.tree.Exprs.{Exprs}
 use Rattle.js_tree.specs.declared.tree.Declarator.{Declarator}
 use Rattle.js_tree.specs.declared.tree.Declarators.{Declarators, out-Declarators}
-use Rattle.js_tree.specs.declared.tree.Expr.TheFolds.{fold_out-Declarators}
+use Rattle.js_tree.proofs.ViewLemmas.{declarator_of}
 use Rattle.js_language.specs.Tokens.{End, after_expression, after_word, plain}
 use Rattle.js_tree.specs.Trees as trees
 use Rattle.js_tree.specs.Trees.{Expression, Expressions, Property, Properties, Key, Statement, Statements, Handler}
 use Rattle.js_language.specs.Flat.{edge, edge_of_last, end_of_declarators}
 use Rattle.js_tree.specs.Views.{expressions, declarators, optional_view, expression_view, property_view, key_view, statement_view, block_view, catch_view, declarator_view, declarators_view, expressions_view, properties_view, statements_view, expression_step, property_step, key_step, statement_step, block_step, catch_step, declarator_step, declarators_step, expressions_step, properties_step, statements_step}
-use Rattle.js_tree.proofs.ViewLemmas.{view_expressions, view_declarator}
-
-pub of_expressions : (es : Exprs) → expressions_view es ≡ expressions (map expression_view es.items.items)
-of_expressions es = view_expressions es.items
-
-pub of_declarators : (ds : Declarators)
-    → declarators_view ds ≡ declarators (map declarator_view (out-Declarators ds).items.items)
-unfolding expression_view property_view key_view statement_view block_view catch_view declarator_view declarators_view expressions_view properties_view statements_view
-of_declarators ds = fold_out-Declarators Expression Property Key Statement Statements Handler trees.Declarator trees.Declarators Expressions Properties Statements expression_step property_step key_step statement_step block_step catch_step declarator_step declarators_step expressions_step properties_step statements_step ds
-
-pub of_declarator : (d : Declarator) → declarator_view d ≡ trees.declarator d.name (optional_view d.initializer)
-of_declarator d = view_declarator d.name d.initializer
 
 last_at : (xs : List Expr) (i : ℕ) (x : Expr)
     → suc i ≡ length xs
@@ -88,7 +76,7 @@ no_end (y ∷ ys) e = let p = slice_get-get_or (y ∷ ys) (length (y ∷ ys) - 1
 pub one_present : (d : Declarator) (e : Expr)
     → d.initializer ≡ Some e
     → end_of_one (declarator_view d) ≡ after_expression (edge (expression_view e))
-one_present d e h = rw (of_declarator d, h) refl
+one_present d e h = rw (declarator_of d, h) refl
 
 pub one_omitted : (d : Declarator) → d.initializer ≡ None → end_of_one (declarator_view d) ≡ after_word
-one_omitted d h = rw (of_declarator d, h) refl
+one_omitted d h = rw (declarator_of d, h) refl

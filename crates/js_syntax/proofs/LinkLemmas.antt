@@ -1,6 +1,7 @@
 -- Members and calls, and operations, go on one at a time.
 use Rattle.std.proofs.Common.{◌≡◌, ℕ, zero, suc, ◌-◌, ◌<◌, ◌≤◌, true, false, List, length, Some, Ok, Err, refl, ap, ◌∙◌, arith}
 use Rattle.std.specs.Prelude.{nat_le}
+use Rattle.std.proofs.lemmas.Bool.{le-leb}
 use Rattle.js_operators.specs.declared.operator.BinaryOperator.{BinaryOperator}
 use Rattle.js_tree.specs.Trees as trees
 use Rattle.js_tree.specs.Trees.{Expression}
@@ -25,9 +26,6 @@ goes_on b n go e code.Arguments ts = refl
 high : (m n : ℕ) → n < m → nat_le m n ≡ false
 high m n h = grind arith
 
-low : (m n : ℕ) → m ≤ n → nat_le m n ≡ true
-low m n h = grind arith
-
 -- too high for a node above
 pub links_deep : (b : Below) (n turns : ℕ) (e : Expression) (l : Link) (ts : List Token)
     → link_view (Some l) ≡ classes.link (head_of ts)
@@ -47,7 +45,7 @@ pub links_more : (b : Below) (n turns : ℕ) (e t : Expression) (l : Link) (ts r
     → links b n turns e ts ≡ links b n (turns - 1) t r
 unfolding links
 links_more b n zero e t l ts r is h o k = absurd (omega arith)
-links_more b n (suc turns) e t l ts r is h o k = rw (← is) (goes_on b n (λ f r. links b n turns f r) e l ts ∙ rw (low (height e) n h, o) (ap (λ k. links b n k t r) (omega arith)))
+links_more b n (suc turns) e t l ts r is h o k = rw (← is) (goes_on b n (λ f r. links b n turns f r) e l ts ∙ rw (le-leb (height e) n h, o) (ap (λ k. links b n k t r) (omega arith)))
 
 -- an operand too high for an operation
 pub chain_deep : (b : Below) (n m turns : ℕ) (e : Expression) (o : BinaryOperator) (ts : List Token)
@@ -68,4 +66,4 @@ pub chain_more : (b : Below) (n m turns : ℕ) (e f : Expression) (o : BinaryOpe
     → chain b n m turns e ts ≡ chain b n m (turns - 1) (trees.binary o e f) r
 unfolding chain
 chain_more b n m zero e f o ts r is h a k = absurd (omega arith)
-chain_more b n m (suc turns) e f o ts r is h a k = rw (← is) (rw (low (height e) n h, a) (ap (λ k. chain b n m k (trees.binary o e f) r) (omega arith)))
+chain_more b n m (suc turns) e f o ts r is h a k = rw (← is) (rw (le-leb (height e) n h, a) (ap (λ k. chain b n m k (trees.binary o e f) r) (omega arith)))

@@ -17,6 +17,7 @@ use Rattle.js_syntax.proofs.KindLemmas.{next_is, next_again}
 use Rattle.js_syntax.specs.Placed.{Placed}
 use Rattle.js_syntax.proofs.PlacedLemmas.{same_spans}
 use Rattle.std.proofs.lemmas.Bool.{and_parts}
+use Rattle.js_syntax.proofs.ShorterLemmas.{read_is, rest_is}
 
 pub next_shorter : (s : Symbol) (ts : List Token) → IsNext s (head_of ts) → length (tail_of ts) < length ts
 next_shorter s [] h = absurd h
@@ -44,18 +45,12 @@ pub tested : (spans : List Span) (k : TokenKind) (ts left : List Token)
     → Placed true spans spans (stands (fixed k) ∷ []) ts left
 tested spans k ts left h is = symbol spans (fixed k) ts left (next_is k (head_of ts) h) is
 
-abbrev read_as : {A : Type 0} → A × List Token → Read A
-read_as x = Ok x
-
 -- what a choice gave
 chosen : {A : Type 0} (b : Bool) (x y : A × List Token) (f : Fault)
-    → cond b (read_as x) (Err f) ≡ read_as y
+    → cond b (read_is x) (Err f) ≡ read_is y
     → (b ≡ true) × (x ≡ y)
 chosen true x y f e = (refl, cc)
 chosen false x y f e = absurd cc
-
-left_of : {A : Type 0} (x y : A × List Token) → read_as x ≡ read_as y → x.1 ≡ y.1
-left_of x y e = let p : x ≡ y = cc in ap (λ z. z.1) p
 
 -- a token of this kind, which was expected
 pub expected : (spans : List Span) (k : TokenKind) (ts left : List Token)
@@ -186,10 +181,10 @@ put_in spans k ts left e is = rw is (record {
 
 semicolon_by : (spans : List Span) (a b : Bool) (ts left : List Token)
     → is_kind kinds.Semicolon (head_of ts) ≡ a
-    → cond a (read_as {A = Unit {0}} (tt, tail_of ts)) (cond b (read_as {A = Unit {0}} (tt, ts)) (Err (stuck (length ts)))) ≡ Ok (tt, left)
+    → cond a (read_is {A = Unit {0}} (tt, tail_of ts)) (cond b (read_is {A = Unit {0}} (tt, ts)) (Err (stuck (length ts)))) ≡ Ok (tt, left)
     → Placed false spans spans (stands_maybe kinds.Semicolon ∷ []) ts left
-semicolon_by spans true b ts left h e = put_in spans kinds.Semicolon ts left h (sym (left_of {A = Unit {0}} (tt, tail_of ts) (tt, left) e))
-semicolon_by spans false true ts left h e = rw (← left_of {A = Unit {0}} (tt, ts) (tt, left) e) (left_out spans kinds.Semicolon ts h)
+semicolon_by spans true b ts left h e = put_in spans kinds.Semicolon ts left h (sym (rest_is {A = Unit {0}} (tt, tail_of ts) (tt, left) e))
+semicolon_by spans false true ts left h e = rw (← rest_is {A = Unit {0}} (tt, ts) (tt, left) e) (left_out spans kinds.Semicolon ts h)
 semicolon_by spans false false ts left h e = absurd cc
 
 -- the semicolon of a statement, present or absent

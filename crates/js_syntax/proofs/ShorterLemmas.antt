@@ -34,10 +34,10 @@ pub item_shorter : (n : ℕ) (context : Context) (taken : List Identifier) (ts :
     → length r < length ts
 item_shorter n context taken ts s r e = shorter ((below n).item context taken) ts s r ((short n).item context taken) e
 
-abbrev read_is : {A : Type 0} → A × List Token → Read A
+abbrev pub read_is : {A : Type 0} → A × List Token → Read A
 read_is x = Ok x
 
-rest_is : {A : Type 0} (x y : A × List Token) → read_is x ≡ read_is y → x.1 ≡ y.1
+pub rest_is : {A : Type 0} (x y : A × List Token) → read_is x ≡ read_is y → x.1 ≡ y.1
 rest_is x y e = let p : x ≡ y = cc in ap (λ z. z.1) p
 
 initializer_no_longer : (n : ℕ) (constant : Bool) (m : Identifier) (a : Bool) (ts : List Token) (x : Declarator × List Token)

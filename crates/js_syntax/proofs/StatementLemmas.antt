@@ -9,7 +9,7 @@ use Rattle.js_tree.specs.Trees.{Identifier, Statement}
 use Rattle.js_language.specs.Tokens.{Token, head_of, tail_of}
 use Rattle.js_language.specs.Well.{Context}
 use Rattle.js_tree.specs.Views.{handler_view, catch_view, block_view}
-use Rattle.js_tree.proofs.ViewLemmas.{view_catch}
+use Rattle.js_tree.proofs.ViewLemmas.{catch_of}
 use Rattle.js_syntax.specs.declared.fault.ParseError.{ParseError}
 use Rattle.js_syntax.specs.Giving.{Gives}
 use Rattle.js_language.specs.Kinds.{is_kind}
@@ -29,9 +29,6 @@ pub names_kept : {X : Type 0} (n : ℕ) (context : Context) (taken : List Identi
 names_kept n context taken ts (Ok x) look g = takes_nothing n context taken ts (look x).0 (look x).1 g
 names_kept n context taken ts (Err e) look g = tt
 
-of_catch : (c : Catch) → catch_view c ≡ trees.catch c.parameter (block_view c.block)
-of_catch c = view_catch c.parameter c.block
-
 -- nothing stands for a finally behind a catch
 pub no_finalizer : (b : Below) (context : Context) (h : Option Catch) (ts : List Token)
     → is_some h ≡ true
@@ -39,4 +36,4 @@ pub no_finalizer : (b : Below) (context : Context) (h : Option Catch) (ts : List
     → finalizer_at b context (handler_view h) ts ≡ Ok (trees.no_finally, ts)
 unfolding finalizer_at
 no_finalizer b context None ts s k = absurd cc
-no_finalizer b context (Some c) ts s k = rw (k, of_catch c) refl
+no_finalizer b context (Some c) ts s k = rw (k, catch_of c) refl

@@ -15,12 +15,12 @@ use Rattle.js_tree.specs.declared.tree.Stmt.{Stmt}
 use Rattle.js_tree.specs.declared.tree.Block.{Block}
 use Rattle.js_tree.specs.declared.tree.Catch.{Catch}
 use Rattle.js_tree.specs.declared.tree.Declarator.{Declarator}
-use Rattle.js_tree.specs.declared.tree.Declarators.{Declarators}
+use Rattle.js_tree.specs.declared.tree.Declarators.{Declarators, out-Declarators}
 use Rattle.js_tree.specs.declared.tree.Exprs.{Exprs}
 use Rattle.js_tree.specs.declared.tree.PropertyDefinitions.{PropertyDefinitions}
 use Rattle.js_tree.specs.declared.tree.Stmts.{Stmts}
 use Rattle.js_tree.specs.declared.tree.Expr.TheOpen.{Expr-F, PropertyDefinition-F, PropertyName-F, Stmt-F, Block-F, Catch-F, Declarator-F, Declarators-F, Exprs-F, PropertyDefinitions-F, Stmts-F}
-use Rattle.js_tree.specs.declared.tree.Expr.TheFolds.{fold-roll-Expr, fold-roll-PropertyDefinition, fold-roll-PropertyName, fold-roll-Stmt, fold-roll-Block, fold-roll-Catch, fold-roll-Declarator, fold-roll-Declarators, fold-roll-Exprs, fold-roll-PropertyDefinitions, fold-roll-Stmts, map-Expr, map-PropertyDefinition, map-PropertyName, map-Stmt, map-Block, map-Catch, map-Declarator, map-Declarators, map-Exprs, map-PropertyDefinitions, map-Stmts}
+use Rattle.js_tree.specs.declared.tree.Expr.TheFolds.{fold_out-Declarators, fold-roll-Expr, fold-roll-PropertyDefinition, fold-roll-PropertyName, fold-roll-Stmt, fold-roll-Block, fold-roll-Catch, fold-roll-Declarator, fold-roll-Declarators, fold-roll-Exprs, fold-roll-PropertyDefinitions, fold-roll-Stmts, map-Expr, map-PropertyDefinition, map-PropertyName, map-Stmt, map-Block, map-Catch, map-Declarator, map-Declarators, map-Exprs, map-PropertyDefinitions, map-Stmts}
 use Rattle.js_tree.specs.declared.tree.Expr.TheVariants.{rolls-This, rolls-Name, rolls-Number, rolls-String, rolls-Boolean, rolls-Null, rolls-Array, rolls-Object, rolls-Function, rolls-Arrow, rolls-ArrowBlock, rolls-Parenthesized, rolls-Member, rolls-Index, rolls-Call, rolls-Postfix, rolls-Prefix, rolls-Unary, rolls-Binary, rolls-Conditional, rolls-Assign, rolls-Comma}
 use Rattle.js_tree.specs.declared.tree.Stmt.TheVariants.{rolls-Lexical, rolls-Empty, rolls-Expression, rolls-DoWhile, rolls-While, rolls-For, rolls-ForLexical, rolls-ForOf, rolls-Continue, rolls-Break, rolls-Return, rolls-Throw, rolls-Try, rolls-Debugger, rolls-FunctionDeclaration, rolls-Block, rolls-If}
 use Rattle.js_tree.specs.declared.tree.PropertyName.TheVariants.{rolls-Word, rolls-StringLiteral, rolls-NumericLiteral, rolls-Computed}
@@ -31,7 +31,7 @@ use Rattle.js_tree.specs.Trees.{Expression, Expressions, Property, Properties, K
 use Rattle.js_tree.specs.Views.{parameters_view, optional_view, handler_view, finalizer_view, expressions, statements, properties, declarators, expression_view, property_view, key_view, statement_view, block_view, catch_view, declarator_view, declarators_view, expressions_view, properties_view, statements_view, expression_step, property_step, key_step, statement_step, block_step, catch_step, declarator_step, declarators_step, expressions_step, properties_step, statements_step}
 
 -- one level of each type, with the trees themselves in its places
-abbrev Layer : (Type 0 → Type 0 → Type 0 → Type 0 → Type 0 → Type 0 → Type 0 → Type 0 → Type 0 → Type 0 → Type 0 → Type 0)
+abbrev pub Layer : (Type 0 → Type 0 → Type 0 → Type 0 → Type 0 → Type 0 → Type 0 → Type 0 → Type 0 → Type 0 → Type 0 → Type 0)
     → Type 0
 Layer F = F Expr PropertyDefinition PropertyName Stmt Block Catch Declarator Declarators Exprs PropertyDefinitions Stmts
 
@@ -309,3 +309,28 @@ view_properties items = properties_roll (record { items = items })
 pub view_declarators : (items : Vec Declarator)
     → declarators_view (views.roll-Declarators (record { items = items })) ≡ declarators (map declarator_view items.items)
 view_declarators items = declarators_roll (record { items = items })
+
+-- ---- lists and parts as they stand in a tree
+
+pub expressions_listed : (es : Exprs) → expressions_view es ≡ expressions (map expression_view es.items.items)
+expressions_listed es = view_expressions es.items
+
+pub properties_listed : (ps : PropertyDefinitions) → properties_view ps ≡ properties (map property_view ps.items.items)
+properties_listed ps = view_properties ps.items
+
+pub statements_listed : (ss : Stmts) → statements_view ss ≡ statements (map statement_view ss.items.items)
+statements_listed ss = view_statements ss.items
+
+pub declarators_listed : (ds : Declarators)
+    → declarators_view ds ≡ declarators (map declarator_view (out-Declarators ds).items.items)
+unfolding expression_view property_view key_view statement_view block_view catch_view declarator_view declarators_view expressions_view properties_view statements_view
+declarators_listed ds = fold_out-Declarators Expression Property Key Statement Statements Handler trees.Declarator trees.Declarators Expressions Properties Statements expression_step property_step key_step statement_step block_step catch_step declarator_step declarators_step expressions_step properties_step statements_step ds
+
+pub block_of : (b : Block) → block_view b ≡ statements_view b.body
+block_of b = view_block b.node b.body
+
+pub catch_of : (c : Catch) → catch_view c ≡ trees.catch c.parameter (block_view c.block)
+catch_of c = view_catch c.parameter c.block
+
+pub declarator_of : (d : Declarator) → declarator_view d ≡ trees.declarator d.name (optional_view d.initializer)
+declarator_of d = view_declarator d.name d.initializer

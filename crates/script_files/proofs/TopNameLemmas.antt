@@ -13,32 +13,14 @@ use Rattle.js_tree.specs.declared.tree.Expr.TheViews as views
 use Rattle.js_tree.specs.Trees as trees
 use Rattle.js_tree.specs.Trees.{Expression, Expressions, Property, Properties, Key, Statement, Statements, Handler}
 use Rattle.js_tree.specs.Views.{optional_view, statements, declarators, expression_view, property_view, key_view, statement_view, block_view, catch_view, declarator_view, declarators_view, expressions_view, properties_view, statements_view, expression_step, property_step, key_step, statement_step, block_step, catch_step, declarator_step, declarators_step, expressions_step, properties_step, statements_step}
-use Rattle.js_tree.proofs.ViewLemmas.{view_if_then, view_if_else, view_lexical_declaration, view_function_declaration}
+use Rattle.js_tree.proofs.ViewLemmas.{declarator_of, declarators_listed, statements_listed, view_if_then, view_if_else, view_lexical_declaration, view_function_declaration}
 use Rattle.js_language.specs.Well.{declared_by, declared_names, names_of_declarators}
 
 -- ---- lists as trees
 
-pub body_view : (ss : Stmts) → statements_view ss ≡ statements (map statement_view ss.items.items)
-unfolding expression_view property_view key_view statement_view block_view catch_view declarator_view declarators_view expressions_view properties_view statements_view
-body_view ss = fold_out-Stmts Expression Property Key Statement Statements Handler trees.Declarator trees.Declarators Expressions Properties Statements expression_step property_step key_step statement_step block_step catch_step declarator_step declarators_step expressions_step properties_step statements_step ss
+pub ruleset bodies = (statements_listed)
 
-pub list_view : (ds : Declarators)
-    → declarators_view ds ≡ declarators (map declarator_view (out-Declarators ds).items.items)
-unfolding expression_view property_view key_view statement_view block_view catch_view declarator_view declarators_view expressions_view properties_view statements_view
-list_view ds = fold_out-Declarators Expression Property Key Statement Statements Handler trees.Declarator trees.Declarators Expressions Properties Statements expression_step property_step key_step statement_step block_step catch_step declarator_step declarators_step expressions_step properties_step statements_step ds
-
-declarator_by : (n : List ℕ) (e : Option Expr)
-    → declarator_view (record { name = n; initializer = e }) ≡ trees.declarator n (optional_view e)
-unfolding expression_view property_view key_view statement_view block_view catch_view declarator_view declarators_view expressions_view properties_view statements_view
-declarator_by n None = fold_out-Declarator Expression Property Key Statement Statements Handler trees.Declarator trees.Declarators Expressions Properties Statements expression_step property_step key_step statement_step block_step catch_step declarator_step declarators_step expressions_step properties_step statements_step (record { name = n; initializer = None })
-declarator_by n (Some e) = fold_out-Declarator Expression Property Key Statement Statements Handler trees.Declarator trees.Declarators Expressions Properties Statements expression_step property_step key_step statement_step block_step catch_step declarator_step declarators_step expressions_step properties_step statements_step (record { name = n; initializer = Some e })
-
-declarator_of : (d : Declarator) → declarator_view d ≡ trees.declarator d.name (optional_view d.initializer)
-declarator_of d = declarator_by d.name d.initializer
-
-pub ruleset bodies = (body_view)
-
-pub ruleset lists = (list_view)
+pub ruleset lists = (declarators_listed)
 
 -- ---- one more
 

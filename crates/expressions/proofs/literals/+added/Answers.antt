@@ -6,7 +6,8 @@ use Rattle.js_semantics.specs.Literals as literals
 use Rattle.js_semantics.specs.Literals.{source_literals}
 use Rattle.expressions.specs.Items.{literals_of, alternate_literals}
 use Rattle.expressions.proofs.AddLemmas.{none_more, both, assigned, both_more, last_more, then_more}
-use Rattle.expressions.proofs.TreeLemmas.{declared_of, if_literals, if_declared, expressions_listed, properties_listed, declarators_listed, statements_listed, block_of, catch_of, declarator_of}
+use Rattle.js_tree.proofs.ViewLemmas.{expressions_listed, properties_listed, declarators_listed, statements_listed, block_of, catch_of, declarator_of}
+use Rattle.expressions.proofs.TreeLemmas.{declared_of, if_literals, if_declared}
 use Rattle.expressions.proofs.literals.+added.Goals as goal
 
 pub add_expression-returns-in-This : goal.add_expression-returns-in-This
