@@ -26,7 +26,8 @@ use Rattle.cdp_host.specs.declared.losses.SessionLost.{SessionLost}
 use Rattle.cdp_host.specs.declared.telling.Answered.{Answered}
 use Rattle.cdp_host.specs.declared.telling.Answered.TheVariants.{Kept, Overran, Failed}
 use Rattle.cdp_host.proofs.HistoryLemmas.{stands-call}
-use Rattle.cdp_host.proofs.PlacedLemmas.{fell-more, fit-more, fit-put, put-back}
+use Rattle.cdp_host.proofs.PlacedLemmas.{fell-more, put-back}
+use Rattle.isolation.proofs.RoomLemmas.{put-fits, append-fits}
 
 -- ---- who is attached
 
@@ -90,9 +91,9 @@ nothing-fits = refl
 pub answer-fit : (scripts : List Script) (w : Answered) (answer : Answer) (s : ℕ) (seats news : List (Seat Session))
     → AnswersIn w answer s seats news
     → AllFit (protocol scripts) seats → AllFit (protocol scripts) news
-answer-fit scripts (Kept asks) answer s seats news is fit = subst (AllFit (protocol scripts)) (sym is.0) (fit-put (protocol scripts) s (Attached answer.session) seats is.2 fit)
-answer-fit scripts Overran answer s seats news is fit = subst (AllFit (protocol scripts)) (sym is.0) (fit-put (protocol scripts) s Left seats tt fit)
-answer-fit scripts Failed answer s seats news is fit = subst (AllFit (protocol scripts)) (sym is) (fit-put (protocol scripts) s Left seats tt fit)
+answer-fit scripts (Kept asks) answer s seats news is fit = subst (AllFit (protocol scripts)) (sym is.0) (put-fits (protocol scripts) s (Attached answer.session) seats is.2 fit)
+answer-fit scripts Overran answer s seats news is fit = subst (AllFit (protocol scripts)) (sym is.0) (put-fits (protocol scripts) s Left seats tt fit)
+answer-fit scripts Failed answer s seats news is fit = subst (AllFit (protocol scripts)) (sym is) (put-fits (protocol scripts) s Left seats tt fit)
 
 -- and behind a take
 pub take-fit : (scripts : List Script) (s : ℕ) (seats news : List (Seat Session)) → is_attached (seat_of s seats) ≡ true
@@ -101,7 +102,7 @@ pub take-fit : (scripts : List Script) (s : ℕ) (seats news : List (Seat Sessio
     → AllFit (protocol scripts) news
 take-fit scripts s seats news held are fit =
     let it = whose (seat_of s seats) held in
-    subst (AllFit (protocol scripts)) (sym (are it.0 it.1)) (fit-put (protocol scripts) s (Attached (emptied it.0)) seats nothing-fits fit)
+    subst (AllFit (protocol scripts)) (sym (are it.0 it.1)) (put-fits (protocol scripts) s (Attached (emptied it.0)) seats nothing-fits fit)
 
 -- and with one session more
 pub attach-fit : (scripts : List Script) (x : Session) (n : ℕ) (w : Workspace) (seats news : List (Seat Session))
@@ -109,7 +110,7 @@ pub attach-fit : (scripts : List Script) (x : Session) (n : ℕ) (w : Workspace)
     → news ≡ seats ++ Attached x ∷ []
     → AllFit (protocol scripts) seats → AllFit (protocol scripts) news
 attach-fit scripts x n w seats news is are fit =
-    subst (AllFit (protocol scripts)) (sym are) (fit-more (protocol scripts) (Attached x) seats (ap (λ y. fits y.outbox) is ∙ nothing-fits) fit)
+    subst (AllFit (protocol scripts)) (sym are) (append-fits (protocol scripts) (Attached x) seats (ap (λ y. fits y.outbox) is ∙ nothing-fits) fit)
 
 -- ---- seats that were lent
 

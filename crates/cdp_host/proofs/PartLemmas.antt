@@ -17,7 +17,6 @@ use Rattle.js_semantics.specs.Run as runs
 use Rattle.js_semantics.specs.Run.{Run, running, over, steps_in}
 use Rattle.js_semantics.proofs.FollowLemmas.{run_of-state}
 use Rattle.js_world.specs.Heaps.{Heap, heap_world}
-use Rattle.js_code.specs.Trees as trees
 use Rattle.js_steps.specs.declared.run.Why.{Why}
 use Rattle.js_steps.specs.declared.run.Why.TheVariants as whys
 use Rattle.js_steps.specs.declared.stepped.Finish.{Finish}
@@ -27,7 +26,7 @@ use Rattle.js_steps.specs.Stepping.{finish_of}
 use Rattle.js_frames.specs.Sources.{spans_in}
 use Rattle.js_machine.specs.declared.end.End.{End}
 use Rattle.js_machine.specs.declared.end.End.TheVariants as ends
-use Rattle.js_machine.specs.Machines.{Machine, HasSameCode, program_of, term_of, state_of, run_by, run_at, IsKept, finish_at, end_of_run}
+use Rattle.js_machine.specs.Machines.{Machine, program_of, term_of, state_of, run_by, run_at, IsKept, finish_at, end_of_run}
 use Rattle.js_machine.specs.Standing.{until_end, holds_until_end}
 use Rattle.stepping.specs.declared.arrival.Arrival.{Arrival}
 use Rattle.stepping.specs.declared.cause.Cause.TheVariants as causes
@@ -231,10 +230,6 @@ pub unfinished-thrown : (m : Machine) (h : Heap) (taken : List (List ℕ))
 unfinished-thrown m h taken kept goes none = not_thrown m h taken m.ended refl kept goes none
 
 -- ---- steps
-
--- a machine with the same code runs the same program
-pub same-program : (m n : Machine) → HasSameCode m n → program_of n ≡ program_of m
-same-program m n same = ap (λ t. trees.program_of n.names t) same.table ∙ ap (λ names. trees.program_of names m.table) same.names
 
 -- the question whether a session may name a stop, as it is put behind a step
 abbrev pub asked : List Script → List (Seat Session) → Term → List Frame → Bool

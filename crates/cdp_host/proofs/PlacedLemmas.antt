@@ -1,15 +1,13 @@
 -- One seat among others: where it stands, and what a change of it keeps.
 use Rattle.std.proofs.Common.{◌≡◌, ℕ, zero, suc, ◌-◌, ◌<◌, ◌≤◌, List, [], ◌∷◌, ◌++◌, length, take, slice_index_or, slice_set, Bool, false, ◌||◌, refl, ap, sym, ◌∙◌, arith}
 use Rattle.std.proofs.lemmas.Bool.{or_parts}
-use Rattle.isolation.specs.Protocols.{Protocol}
-use Rattle.isolation.specs.Runs.{AllFit}
 use Rattle.isolation.specs.Seats.{put, put_in, seat_in, seat_of, some}
 use Rattle.isolation.specs.Standing.{fell}
-use Rattle.isolation.specs.Texts.{Fits}
 use Rattle.isolation.specs.declared.seat.Seat.{Seat}
 use Rattle.isolation.specs.declared.seat.Seat.TheVariants.{Left}
 use Rattle.cdp_session.specs.Sessions.{Session}
 use Rattle.cdp_host.specs.Watching.{IsPlace}
+use Rattle.isolation.proofs.TextLemmas.{put-length}
 
 -- ---- where it stands
 
@@ -67,17 +65,6 @@ put-same s seat seats is = ap (λ x. put s x seats) (sym is) ∙ put-self s seat
 
 -- ---- how many there are
 
-length-put-in : {X : Type 0}
-    → (i : ℕ) (new : Seat X) (seats : List (Seat X))
-    → length (put_in i new seats) ≡ length seats
-length-put-in i new [] = refl
-length-put-in zero new (seat ∷ seats) = refl
-length-put-in (suc i) new (seat ∷ seats) = ap suc (length-put-in i new seats)
-
-pub length-put : {X : Type 0} → (s : ℕ) (new : Seat X) (seats : List (Seat X)) → length (put s new seats) ≡ length seats
-length-put zero new seats = refl
-length-put (suc i) new seats = length-put-in i new seats
-
 -- as many as were lent are given back
 pub given-back : {A : Type 0} → (n : ℕ) (news rest : List A) → n ≡ length news → take n (news ++ rest) ≡ news
 given-back zero [] rest is = refl
@@ -90,35 +77,9 @@ pub put-back : {X : Type 0}
     → n ≡ length seats
     → news ≡ put s new seats
     → take n (news ++ rest) ≡ put s new seats
-put-back n s new seats news rest full is = given-back n news rest (full ∙ sym (length-put s new seats) ∙ sym (ap length is)) ∙ is
+put-back n s new seats news rest full is = given-back n news rest (full ∙ sym (put-length s new seats) ∙ sym (ap length is)) ∙ is
 
 -- ---- what fits
-
-fit-put-in : {C T Q X : Type 0}
-    → (P : Protocol C T Q X) (i : ℕ) (new : Seat X) (seats : List (Seat X))
-    → Fits P new
-    → AllFit P seats
-    → AllFit P (put_in i new seats)
-fit-put-in P i new [] fit all = tt
-fit-put-in P zero new (seat ∷ seats) fit all = (fit, all.1)
-fit-put-in P (suc i) new (seat ∷ seats) fit all = (all.0, fit-put-in P i new seats fit all.1)
-
--- the texts that wait for each session fit, where those of the new one do
-pub fit-put : {C T Q X : Type 0}
-    → (P : Protocol C T Q X) (s : ℕ) (new : Seat X) (seats : List (Seat X))
-    → Fits P new
-    → AllFit P seats
-    → AllFit P (put s new seats)
-fit-put P zero new seats fit all = all
-fit-put P (suc i) new seats fit all = fit-put-in P i new seats fit all
-
-pub fit-more : {C T Q X : Type 0}
-    → (P : Protocol C T Q X) (new : Seat X) (seats : List (Seat X))
-    → Fits P new
-    → AllFit P seats
-    → AllFit P (seats ++ new ∷ [])
-fit-more P new [] fit all = (fit, tt)
-fit-more P new (seat ∷ seats) fit all = (all.0, fit-more P new seats fit all.1)
 
 -- ---- who fell
 

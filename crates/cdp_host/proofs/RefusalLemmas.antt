@@ -1,13 +1,13 @@
 -- A command that is refused changes only the texts that wait for its session.
-use Rattle.std.proofs.Common.{◌≡◌, ℕ, zero, suc, List, [], ◌∷◌, Bool, true, false, ◌||◌, refl, ap, sym, ◌∙◌, Option}
+use Rattle.std.proofs.Common.{◌≡◌, ℕ, List, [], ◌∷◌, Bool, true, false, refl, ap, sym, ◌∙◌, Option}
 use Rattle.isolation.specs.Histories.{Entry, with_seat}
 use Rattle.isolation.specs.Meanings.{is_enabled_seat, is_paused}
-use Rattle.isolation.specs.Seats.{put, put_in, seat_in, seat_of, some}
+use Rattle.isolation.specs.Seats.{put, seat_of, some}
 use Rattle.isolation.specs.Standing.{StandsAs}
 use Rattle.isolation.specs.Stops.{IsPausedWell}
 use Rattle.isolation.specs.declared.seat.Seat.{Seat}
 use Rattle.isolation.specs.declared.seat.Seat.TheVariants.{Attached}
-use Rattle.isolation.proofs.StopLemmas.{paused-well}
+use Rattle.isolation.proofs.StopLemmas.{paused-well, some-put}
 use Rattle.js_tree.specs.declared.script.Script.{Script}
 use Rattle.js_semantics.specs.Run.{Run}
 use Rattle.cdp_json.specs.Messages.{refusal_text}
@@ -25,22 +25,6 @@ use Rattle.cdp_host.proofs.ProtocolLemmas.{enabled-kept}
 use Rattle.cdp_host.proofs.RunLemmas.{all-there}
 
 -- ---- one seat among others
-
-some_put_in : {X : Type 0}
-    → (test : Seat X → Bool) (i : ℕ) (new : Seat X) (seats : List (Seat X))
-    → test new ≡ test (seat_in i seats)
-    → some test (put_in i new seats) ≡ some test seats
-some_put_in test i new [] same = refl
-some_put_in test zero new (seat ∷ seats) same = ap (λ b. b || some test seats) same
-some_put_in test (suc i) new (seat ∷ seats) same = ap (λ b. test seat || b) (some_put_in test i new seats same)
-
--- a seat that is as the old one leaves some so, or none
-some-put : {X : Type 0}
-    → (test : Seat X → Bool) (s : ℕ) (new : Seat X) (seats : List (Seat X))
-    → test new ≡ test (seat_of s seats)
-    → some test (put s new seats) ≡ some test seats
-some-put test zero new seats same = refl
-some-put test (suc i) new seats same = some_put_in test i new seats same
 
 -- ---- a host that stands for a history
 

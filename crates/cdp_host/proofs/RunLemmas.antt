@@ -36,6 +36,7 @@ use Rattle.cdp_host.specs.declared.losses.SessionLost.{SessionLost}
 use Rattle.cdp_host.proofs.AdvanceLemmas.{free-beside, free-shut, ready-parts}
 use Rattle.cdp_host.proofs.HistoryLemmas.{stands-behind, stands-broken}
 use Rattle.cdp_host.proofs.PartLemmas.{run-printed}
+use Rattle.isolation.proofs.RoomLemmas.{reported-fits}
 
 -- ---- a stretch, as a host keeps it
 
@@ -166,11 +167,6 @@ gone-fit P [] none = tt
 gone-fit P (seat ∷ seats) none =
     let parts = or_parts (is_attached seat) (some is_attached seats) none in
     (gone-fits P seat parts.0, gone-fit P seats parts.1)
-
-reported-fits : {C T Q X : Type 0} → (P : Protocol C T Q X) (seat : Seat X) → Fits P seat → Fits P (reported seat)
-reported-fits P (Attached x) fit = fit
-reported-fits P (Lost loss is_reported is_told) fit = tt
-reported-fits P Left fit = tt
 
 -- a report sends nothing
 pub reported-fit : {C T Q X : Type 0}

@@ -5,13 +5,11 @@ use Rattle.js_heap.specs.declared.value.Addr.{Addr}
 use Rattle.js_heap.specs.declared.value.Value.{Value}
 use Rattle.js_numbered.specs.Numbered.{numbered_made}
 use Rattle.js_numbered.proofs.NumberedLaws.{numbered_same}
-use Rattle.js_parser.specs.Expressions.{expression_of, UnlessMemory}
+use Rattle.js_parser.specs.Expressions.{expression_of}
 use Rattle.js_semantics.specs.Evaluation.{Answer, evaluate, evaluate_expression as definition, next_kept}
 use Rattle.js_semantics.specs.Literals.{source_literals}
 use Rattle.js_semantics.specs.Makers.{Made as Source}
 use Rattle.js_semantics.specs.Sources.{expression_source}
-use Rattle.js_syntax.specs.declared.fault.ParseFault.{ParseFault}
-use Rattle.js_syntax.specs.declared.fault.ParseFault.TheVariants as parse_faults
 use Rattle.js_tree.specs.Views.{expression_view}
 use Rattle.js_tree.specs.declared.script.Expression.{Expression}
 use Rattle.breakpoints.specs.Breakpoints.{id_of}
@@ -21,21 +19,12 @@ use Rattle.pure_eval.specs.Preparing.{IsPrepared}
 use Rattle.pure_eval.specs.Workspaces.{Opened, Workspace, opened, EvaluatesTo}
 use Rattle.pure_eval.specs.declared.evaluated.Evaluated.{Evaluated}
 use Rattle.pure_eval.specs.declared.prepared.Prepared.{Prepared}
-use Rattle.cdp_session.specs.Conditions.{IsParsed, IsParsedTo, comes_true, expression_holds, holds, is_met, lacks_memory, top_scope, top_this, tree_holds}
+use Rattle.cdp_session.specs.Conditions.{IsParsed, IsParsedTo, comes_true, expression_holds, holds, is_met, top_scope, top_this, tree_holds}
 use Rattle.cdp_session.specs.Evaluations.{is_memory}
 use Rattle.cdp_session.specs.Situations.{Standing}
 use Rattle.cdp_session.proofs.EvaluationLemmas.{evaluated-from, stays}
 
 -- ---- texts
-
--- a text that the parser refuses, and not for want of memory
-pub refused-for : (P : Type 0) (f : ParseFault) → UnlessMemory P f → lacks_memory f ≡ false → P
-refused-for P parse_faults.Memory says some = absurd cc
-refused-for P (parse_faults.Token at) says some = says
-refused-for P (parse_faults.Syntax at) says some = says
-refused-for P (parse_faults.TooMany at) says some = says
-refused-for P (parse_faults.TooLong units) says some = says
-refused-for P parse_faults.TooDeep says some = says
 
 -- a condition holds where the expression to which it was parsed does
 parsed_holds : (s : Standing) (w : Workspace) (text : List ℕ) (e : Expression)

@@ -1,5 +1,5 @@
 -- What each end of a drill says of its script, its journal and its summary.
-use Rattle.std.proofs.Common.{◌≡◌, ℕ, List, [], ◌∷◌, false, Option, Some, None, refl, sym, subst, inl, append-nil}
+use Rattle.std.proofs.Common.{◌≡◌, ℕ, List, [], ◌∷◌, false, Option, Some, None, refl, sym, subst, inl}
 use Rattle.std.proofs.lemmas.Option.{same_Some}
 use Rattle.cdp_edge.specs.Outside.{gains, GainsLess, GainsPrefix}
 use Rattle.cdp_journal.specs.Drills.{drill_journal}
@@ -10,6 +10,7 @@ use Rattle.command_line.specs.Replays.{IsReplay, WritesReplay}
 use Rattle.command_line.specs.declared.outcome.Outcome.{Outcome}
 use Rattle.command_line.specs.declared.outcome.Outcome.TheVariants as ends
 use Rattle.script_runs.proofs.PrintingLemmas.{less-part}
+use Rattle.script_runs.proofs.PrintingLemmas.{whole-part as gained}
 
 -- ---- the replay in memory
 
@@ -80,9 +81,6 @@ wrote-part n script output text old new is replay sum less = record {
   replay = replay;
   part = subst (λ (t : List ℕ). GainsPrefix old new t) sum (less-part old new text less);
 }
-
-gained : (old new : Option (List ℕ)) (bytes : List ℕ) → new ≡ gains old bytes → GainsPrefix old new bytes
-gained old new bytes is = (bytes, [], sym (append-nil bytes), is)
 
 -- what is written whole is written in part
 pub whole-part : (n : ℕ) (old new : Option (List ℕ)) → DrillsWhole n old new → DrillsInPart n old new

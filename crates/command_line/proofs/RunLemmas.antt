@@ -6,7 +6,7 @@ use Rattle.cdp_edge.specs.Blame.{Faults}
 use Rattle.js_tree.specs.declared.script.Script.{Script}
 use Rattle.script_files.specs.declared.fault.Refusal.{Refusal}
 use Rattle.script_files.specs.Input.{HoldsInput, HoldsNoText}
-use Rattle.script_files.proofs.ScriptLemmas.{none_refused}
+use Rattle.script_files.proofs.ScriptLemmas.{none_refused, some_same}
 use Rattle.command_line.specs.Files.{HoldsLines, HoldsSources, IsRefusedIn}
 use Rattle.command_line.specs.RunCauses.{RunsToEnd, RunsToThrow, RunsShort, RunsInPart, BecauseSources, BecauseRun}
 use Rattle.command_line.specs.Status.{GivenRun, status_of}
@@ -31,15 +31,12 @@ told_map (Some files) P Q f p = f files p
 
 -- files that are taken aren't refused
 
-pub same_bytes : (o : Option (List ℕ)) (x y : List ℕ) → o ≡ Some x → o ≡ Some y → x ≡ y
-same_bytes o x y p q = cc
-
 text_stands : (files : List Named) (name : List ℕ) (lines : List (List ℕ)) (r : Refusal)
     → HoldsInput files name lines
     → HoldsNoText files name r
     → ⊥
 text_stands files name lines r h n =
-    let same : h.bytes ≡ n.bytes = same_bytes (content_of name files) h.bytes n.bytes h.there n.there in
+    let same : h.bytes ≡ n.bytes = some_same (content_of name files) h.bytes n.bytes h.there n.there in
     let text : is_utf8 n.bytes ≡ true = ap is_utf8 (sym same) ∙ h.utf8 in
     let isnt : is_utf8 n.bytes ≡ false = n.utf8 in
     absurd cc

@@ -1,21 +1,11 @@
 -- What the trees in lists and behind parts are, and the literals of statements with `else`.
-use Rattle.std.proofs.Common.{◌≡◌, ℕ, List, [], ◌++◌, Option, Some, None, map, sym, ap, ◌∙◌, append-nil}
+use Rattle.std.proofs.Common.{◌≡◌, ℕ, List, [], ◌++◌, Option, Some, None, sym, ap, ◌∙◌, append-nil}
 use Rattle.std.specs.Global.{Box}
 use Rattle.js_tree.specs.declared.node.NodeId.{NodeId}
 use Rattle.js_tree.specs.declared.tree.Expr.{Expr}
 use Rattle.js_tree.specs.declared.tree.Stmt.{Stmt}
-use Rattle.js_tree.specs.declared.tree.Block.{Block}
-use Rattle.js_tree.specs.declared.tree.Catch.{Catch}
-use Rattle.js_tree.specs.declared.tree.Declarator.{Declarator}
-use Rattle.js_tree.specs.declared.tree.Declarators.{Declarators, out-Declarators}
-use Rattle.js_tree.specs.declared.tree.Exprs.{Exprs}
-use Rattle.js_tree.specs.declared.tree.PropertyDefinitions.{PropertyDefinitions}
-use Rattle.js_tree.specs.declared.tree.Stmts.{Stmts}
-use Rattle.js_tree.specs.declared.tree.Expr.TheFolds.{fold_out-Block, fold_out-Catch, fold_out-Declarator, fold_out-Declarators, fold_out-Exprs, fold_out-PropertyDefinitions, fold_out-Stmts}
 use Rattle.js_tree.specs.declared.tree.Expr.TheViews as tree
-use Rattle.js_tree.specs.Trees as trees
-use Rattle.js_tree.specs.Trees.{Expression, Expressions, Property, Properties, Key, Statement, Statements, Handler}
-use Rattle.js_tree.specs.Views.{expressions, statements, properties, declarators, optional_view, expression_view, property_view, key_view, statement_view, block_view, catch_view, declarator_view, declarators_view, expressions_view, properties_view, statements_view, expression_step, property_step, key_step, statement_step, block_step, catch_step, declarator_step, declarators_step, expressions_step, properties_step, statements_step}
+use Rattle.js_tree.specs.Views.{expression_view, statement_view}
 use Rattle.js_tree.proofs.ViewLemmas.{view_if_then, view_if_else, view_this, view_name, view_number, view_string, view_boolean, view_null, view_array, view_object, view_function, view_arrow, view_arrow_block, view_parenthesized, view_member, view_index, view_call, view_postfix, view_prefix, view_unary, view_binary, view_conditional, view_assign, view_comma}
 use Rattle.js_semantics.specs.Literals.{expression_literals, statement_literals, declared_literals}
 use Rattle.expressions.specs.Items.{alternate_literals}

@@ -7,13 +7,14 @@ use Rattle.js_tree.specs.declared.script.Script.{Script}
 use Rattle.js_semantics.specs.declared.form.Mark.{Mark}
 use Rattle.js_semantics.specs.Terms.{Term}
 use Rattle.js_semantics.specs.State.{Frame, State, spot_of}
-use Rattle.js_semantics.specs.Frames.{Active, active, at, shown_frames, scopes_at, with_scopes, reversed_onto, frames, frame_at}
+use Rattle.js_semantics.specs.Frames.{active, at, shown_frames, scopes_at, reversed_onto, frames, frame_at}
 use Rattle.js_frames.specs.Sources.{spans_in}
 use Rattle.std.specs.Iterator.{YieldsFirstBy}
 use Rattle.frames_scopes.specs.declared.frames.FrameView.{FrameView}
 use Rattle.frames_scopes.specs.FrameViews.{frame_shown}
 use Rattle.call_frames.specs.Frames.{ShownFrame}
 use Rattle.frames_scopes.specs.Frames.{arrived, here_at, shown_frame, listed_frames, walk}
+use Rattle.js_semantics.proofs.DepthLaws.{shown-length, scopes-length}
 
 -- ---- lists
 
@@ -61,19 +62,8 @@ listed-none scripts w m (g ∷ fs) (suc d) e = map-none (shown_frame scripts w) 
 
 -- ---- how many there are
 
-shown-length : (a : Active) (fs : List Frame) → length (shown_frames a fs) ≡ length fs
-shown-length a [] = refl
-shown-length a (f ∷ []) = refl
-shown-length a (f ∷ g ∷ fs) = ap suc (shown-length a (g ∷ fs))
-
-with-length : (fs : List Frame) (scopes : List Addr) → length (with_scopes fs scopes) ≡ length fs
-with-length [] [] = refl
-with-length [] (a ∷ scopes) = refl
-with-length (f ∷ fs) [] = refl
-with-length (f ∷ fs) (a ∷ scopes) = ap suc (with-length fs scopes)
-
 frames-length : (root : Addr) (t : Term) (s : State) → length (frames root t s) ≡ length s.frames
-frames-length root t s = with-length (shown_frames (active t) s.frames) (reversed_onto (scopes_at root t) []) ∙ shown-length (active t) s.frames
+frames-length root t s = scopes-length (shown_frames (active t) s.frames) (reversed_onto (scopes_at root t) []) ∙ shown-length (active t) s.frames
 
 map-length : {A B : Type 0} (g : A → B) (xs : List A) → length (map g xs) ≡ length xs
 map-length g [] = refl

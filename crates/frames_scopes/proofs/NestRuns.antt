@@ -1,5 +1,5 @@
 -- In each configuration of a run, each frame's chain of scopes is whole.
-use Rattle.std.proofs.Common.{◌≡◌, ℕ, zero, suc, List, [], ◌∷◌, refl, subst, Some}
+use Rattle.std.proofs.Common.{◌≡◌, ℕ, zero, suc, List, [], ◌∷◌, subst, Some}
 use Rattle.std.specs.Prelude.{slice_get}
 use Rattle.js_tree.specs.declared.script.Script.{Script}
 use Rattle.js_heap.specs.declared.value.Addr.{Addr}
@@ -19,8 +19,10 @@ use Rattle.js_semantics.specs.Sound.{SoundTerm, SoundTerms, SoundForm, SoundFram
 use Rattle.js_semantics.proofs.SourceLemmas.{scripts-sound}
 use Rattle.frames_scopes.specs.Chains.{IsNested, HasWholeChains, RunHasWholeChains}
 use Rattle.frames_scopes.proofs.NestLemmas.{first-nested}
-use Rattle.frames_scopes.proofs.NestSteps.{inner-sound, steps-nested}
+use Rattle.frames_scopes.proofs.NestSteps.{steps-nested}
 use Rattle.frames_scopes.proofs.ChainLemmas.{whole-chain}
+use Rattle.js_semantics.proofs.SoundSteps.{inner-sound}
+use Rattle.js_semantics.proofs.StartLemmas.{start-scope}
 
 -- ---- the innermost scopes of frames are live
 
@@ -115,12 +117,6 @@ start-nested : (ts : Terms) (input : List (List ℕ)) (t : Term)
 start-nested ts input (done v) = first-nested (literals_of ts)
 start-nested ts input (standing v place) = first-nested (literals_of ts)
 start-nested ts input (part f now later) = first-nested (literals_of ts)
-
-start-scope : (ts : Terms) (input : List (List ℕ)) (t : Term)
-    → SoundScope (state_of (run_of t (first_state ts input))).world (Some script_scope)
-start-scope ts input (done v) = refl
-start-scope ts input (standing v place) = refl
-start-scope ts input (part f now later) = refl
 
 plain-nested : (k : ℕ) (ss : List Script) (input : List (List ℕ))
     → IsNested (state_of (plain k (terms_of_scripts ss) input)).world

@@ -1,5 +1,5 @@
 -- Every step, and every run, keeps the scope around each scope older than it.
-use Rattle.std.proofs.Common.{◌≡◌, ℕ, zero, suc, Bool, true, false, [], ◌∷◌, ◌++◌, None, Some, if◌then◌else◌}
+use Rattle.std.proofs.Common.{◌≡◌, ℕ, zero, suc, Bool, true, false, [], ◌∷◌, ◌++◌, Some, if◌then◌else◌}
 use Rattle.js_heap.specs.declared.value.Addr.{Addr}
 use Rattle.js_heap.specs.declared.value.Value.{Value}
 use Rattle.js_heap.specs.declared.value.Value.TheVariants as values
@@ -7,23 +7,21 @@ use Rattle.js_heap.specs.declared.change.Counted.{Counted}
 use Rattle.js_heap.specs.BuiltIns.{heap_full_error}
 use Rattle.js_heap.specs.Cells.{kind_of}
 use Rattle.js_heap.specs.World.{World, Tried, fine, effect, full, read_cell, make_cell, write_cell, is_evaluation}
-use Rattle.js_heap.specs.Worlds.{Keeps, AfterFine, Leads, SoundValue, SoundScope, SoundValues}
+use Rattle.js_heap.specs.Worlds.{Keeps, AfterFine, Leads, SoundScope, Later}
 use Rattle.js_heap.proofs.KeepLemmas.{making-keeps, writing-keeps}
-use Rattle.js_heap.proofs.SoundLemmas.{sound-value, sound-scope, making-leads}
+use Rattle.js_heap.proofs.SoundLemmas.{sound-scope, making-leads}
 use Rattle.js_semantics.specs.declared.form.Form.{Form}
-use Rattle.js_semantics.specs.declared.form.Form.TheVariants.{Scoped as scoped, Frame as frame, Loop as loop}
 use Rattle.js_semantics.specs.Terms.{Term, done, standing, part, Terms, end, more}
 use Rattle.js_semantics.specs.State.{State, Move, goes, travels, has_effect, is_full, inside, Action, go, raise, leave, make, write, print, take_line, set_here, push_frame, pop_frame, with_world, with_here, rest_of, first_line, other_lines, after, raised_at, perform}
 use Rattle.js_semantics.specs.Functions.{Program}
 use Rattle.js_semantics.specs.Rows.{row, taken}
 use Rattle.js_semantics.specs.Next.{Walked, all_values, moved, with_value, scope_in, around, next, walk}
 use Rattle.js_semantics.specs.Run.{Run, running, over, run_of, run_after, step_in, steps_in, state_of}
-use Rattle.js_semantics.specs.Laws.{Follows, MoveFollows}
-use Rattle.js_semantics.specs.Sound.{SoundCompletion, SoundForm, SoundTerm, SoundTerms, SoundState, Later, SoundAction, SoundMove, SoundRun}
+use Rattle.js_semantics.specs.Sound.{SoundForm, SoundTerm, SoundTerms, SoundState, SoundAction, SoundRun}
 use Rattle.js_semantics.proofs.SoundTerms.{sound-form, sound-terms}
 use Rattle.js_semantics.proofs.SoundRows.{row-sound, taken-sound}
-use Rattle.js_semantics.proofs.FollowLemmas.{WalkFollows, next-follows, walk-follows, step-follows}
-use Rattle.js_semantics.proofs.SoundSteps.{next-sound, step-sound}
+use Rattle.js_semantics.proofs.FollowLemmas.{WalkFollows, walk-follows, step-follows}
+use Rattle.js_semantics.proofs.SoundSteps.{step-sound, SoundWalked, later_of, walk-sound, inner-sound}
 use Rattle.frames_scopes.specs.Chains.{IsNested, MoveNested}
 use Rattle.frames_scopes.proofs.NestLemmas.{making-nested, writing-nested}
 
@@ -84,72 +82,9 @@ perform-nested (pop_frame k) s h a = perform-nested k (record s { frames = rest_
 
 -- ---- the parts of a form
 
-abbrev SoundMoves : Program → Move Terms → Type 0
-SoundMoves p (goes ts s told) = SoundState p s × SoundTerms s.world ts
-SoundMoves p (travels c s) = SoundState p s × SoundCompletion s.world c
-SoundMoves p (has_effect s) = SoundState p s
-SoundMoves p (is_full what s) = SoundState p s
-
-abbrev SoundWalked : Program → State → Walked → Type 0
-SoundWalked p s (all_values vs) = SoundValues s.world vs
-SoundWalked p s (moved m) = SoundMoves p m
-
 abbrev WalkNested : Walked → Type 0
 WalkNested (all_values vs) = Unit {0}
 WalkNested (moved m) = MoveNested m
-
-later_of : (s t : State) → Follows s t → Later s.world t.world
-later_of s t h = let k = h.cells in k.kinds
-
-value-in : (p : Program) (s : State) (v : Value) (m : Move Terms)
-    → SoundValue s.world v
-    → MoveFollows s m
-    → SoundMoves p m
-    → SoundMoves p (inside (λ ts. more (done v) ts) m)
-value-in p s v (goes ts t told) h f k = (k.0, (sound-value s.world t.world (later_of s t f) v h, k.1))
-value-in p s v (travels c t) h f k = k
-value-in p s v (has_effect t) h f k = k
-value-in p s v (is_full what t) h f k = k
-
-with_value-sound : (p : Program) (s : State) (v : Value) (x : Walked)
-    → SoundValue s.world v
-    → WalkFollows s x
-    → SoundWalked p s x
-    → SoundWalked p s (with_value v x)
-with_value-sound p s v (all_values vs) h f k = (h, k)
-with_value-sound p s v (moved m) h f k = value-in p s v m h f k
-
-inside-sound : (p : Program) (s : State) (ts : Terms) (m : Move Term)
-    → SoundTerms s.world ts
-    → MoveFollows s m
-    → SoundMove p m
-    → SoundMoves p (inside (λ t. more t ts) m)
-inside-sound p s ts (goes x t told) h f k = (k.0, (k.1, sound-terms s.world t.world (later_of s t f) ts h))
-inside-sound p s ts (travels c t) h f k = k
-inside-sound p s ts (has_effect t) h f k = k
-inside-sound p s ts (is_full what t) h f k = k
-
-walk-sound : (p : Program) (scope : Addr) (ts : Terms) (s : State)
-    → SoundState p s
-    → SoundScope s.world (Some scope)
-    → SoundTerms s.world ts
-    → SoundWalked p s (walk p scope ts s)
-walk-sound p scope end s h o k = tt
-walk-sound p scope (more (done v) ts) s h o k = with_value-sound p s v (walk p scope ts s) k.0 (walk-follows p scope ts s) (walk-sound p scope ts s h o k.1)
-walk-sound p scope (more (standing v place) ts) s h o k = (h, k.0)
-walk-sound p scope (more (part f now later) ts) s h o k =
-    inside-sound p s ts (next p scope (part f now later) s) k.1 (next-follows p scope (part f now later) s) (next-sound p scope (part f now later) s h o k.0)
-
--- the scope in which a form's parts are is live
-pub inner-sound : (w : World) (f : Form) (scope : Addr)
-    → SoundForm w f
-    → SoundScope w (Some scope)
-    → SoundScope w (Some (scope_in f scope))
-inner-sound w (scoped a) scope h o = h
-inner-sound w (frame node a) scope h o = h
-inner-sound w (loop stage (Some a)) scope h o = h
-inner-sound w (loop stage None) scope h o = o
-inner-sound w f scope h o = o
 
 -- ---- steps
 

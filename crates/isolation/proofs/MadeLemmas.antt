@@ -151,7 +151,7 @@ longest-exact P moment most m =
 
 -- ---- a step of which nobody is told
 
-quiet-stops : {C T Q X : Type 0}
+pub quiet-stops : {C T Q X : Type 0}
     → (P : Protocol C T Q X) (number moment : ℕ) (t : T) (seat : Seat X)
     → names_seat P t seat ≡ false
     → stops_for P number moment t seat ≡ false

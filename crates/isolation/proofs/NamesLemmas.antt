@@ -15,6 +15,8 @@ use Rattle.isolation.proofs.FallenLemmas.{without-none}
 use Rattle.isolation.proofs.SeatLemmas.{each-at, without-at}
 use Rattle.isolation.proofs.StepLemmas.{after-suc, ready-parts}
 use Rattle.isolation.proofs.StopLemmas.{plain-more, steps-program}
+use Rattle.isolation.proofs.PassLemmas.{unnamed-fallen}
+use Rattle.isolation.proofs.MadeLemmas.{quiet-stops}
 
 -- ---- one seat of many
 
@@ -183,28 +185,13 @@ first-kept P (suc j) moment m begun = first-kept P j moment (step P moment [] m)
 
 -- ---- the last step
 
-unnamed_stop : {C T Q X : Type 0}
-    → (P : Protocol C T Q X) (number moment : ℕ) (t : T) (seat : Seat X)
-    → names_seat P t seat ≡ false
-    → stops_for P number moment t seat ≡ false
-unnamed_stop P number moment t (Attached x) none = and_right (survives P number moment t x) (P.names t x) none
-unnamed_stop P number moment t (Lost loss is_reported is_told) none = refl
-unnamed_stop P number moment t Left none = refl
-
-fallen_stop : {C T Q X : Type 0}
-    → (P : Protocol C T Q X) (number moment : ℕ) (t : T) (seat : Seat X)
-    → stops_for P number moment t (fallen seat) ≡ false
-fallen_stop P number moment t (Attached x) = refl
-fallen_stop P number moment t (Lost loss is_reported is_told) = refl
-fallen_stop P number moment t Left = refl
-
 -- one that names nothing stops nothing, be it lost for want of memory or not
 listed_stop : {C T Q X : Type 0}
     → (P : Protocol C T Q X) (number moment : ℕ) (t : T) (listed : Bool) (seat : Seat X)
     → names_seat P t seat ≡ false
     → stops_for P number moment t (if listed then fallen seat else seat) ≡ false
-listed_stop P number moment t true seat none = fallen_stop P number moment t seat
-listed_stop P number moment t false seat none = unnamed_stop P number moment t seat none
+listed_stop P number moment t true seat none = unnamed-fallen P number moment t seat
+listed_stop P number moment t false seat none = quiet-stops P number moment t seat none
 
 -- one that names the step is attached behind it where it survives it
 own_stop : {C T Q X : Type 0} → (P : Protocol C T Q X) (number moment : ℕ) (t : T) (x : X) (fits named : Bool)

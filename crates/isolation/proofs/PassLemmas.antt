@@ -74,7 +74,7 @@ behind-fallen P stops number moment t (Attached x) = refl
 behind-fallen P stops number moment t (Lost loss is_reported is_told) = refl
 behind-fallen P stops number moment t Left = refl
 
-unnamed-fallen : {C T Q X : Type 0} → (P : Protocol C T Q X) (number moment : ℕ) (t : T) (seat : Seat X)
+pub unnamed-fallen : {C T Q X : Type 0} → (P : Protocol C T Q X) (number moment : ℕ) (t : T) (seat : Seat X)
     → stops_for P number moment t (fallen seat) ≡ false
 unnamed-fallen P number moment t (Attached x) = refl
 unnamed-fallen P number moment t (Lost loss is_reported is_told) = refl

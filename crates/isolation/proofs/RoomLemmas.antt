@@ -29,20 +29,20 @@ each-fits : {C T Q X : Type 0} → (P : Protocol C T Q X) (f : Seat X → Seat X
 each-fits P f [] keeps all = tt
 each-fits P f (seat ∷ seats) keeps all = (keeps seat all.0, each-fits P f seats keeps all.1)
 
-put-in-fits : {C T Q X : Type 0} → (P : Protocol C T Q X) (i : ℕ) (new : Seat X) (seats : List (Seat X)) → Fits P new
+pub put-in-fits : {C T Q X : Type 0} → (P : Protocol C T Q X) (i : ℕ) (new : Seat X) (seats : List (Seat X)) → Fits P new
     → AllFit P seats
     → AllFit P (put_in i new seats)
 put-in-fits P i new [] fits all = tt
 put-in-fits P zero new (seat ∷ seats) fits all = (fits, all.1)
 put-in-fits P (suc i) new (seat ∷ seats) fits all = (all.0, put-in-fits P i new seats fits all.1)
 
-put-fits : {C T Q X : Type 0} → (P : Protocol C T Q X) (s : ℕ) (new : Seat X) (seats : List (Seat X)) → Fits P new
+pub put-fits : {C T Q X : Type 0} → (P : Protocol C T Q X) (s : ℕ) (new : Seat X) (seats : List (Seat X)) → Fits P new
     → AllFit P seats
     → AllFit P (put s new seats)
 put-fits P zero new seats fits all = all
 put-fits P (suc i) new seats fits all = put-in-fits P i new seats fits all
 
-append-fits : {C T Q X : Type 0} → (P : Protocol C T Q X) (new : Seat X) (seats : List (Seat X)) → Fits P new
+pub append-fits : {C T Q X : Type 0} → (P : Protocol C T Q X) (new : Seat X) (seats : List (Seat X)) → Fits P new
     → AllFit P seats
     → AllFit P (seats ++ new ∷ [])
 append-fits P new [] fits all = (fits, tt)
@@ -81,7 +81,7 @@ resumed-fits P (Attached x) fits = kept-fits P (P.resumed x)
 resumed-fits P (Lost loss is_reported is_told) fits = tt
 resumed-fits P Left fits = tt
 
-reported-fits : {C T Q X : Type 0} → (P : Protocol C T Q X) (seat : Seat X) → Fits P seat → Fits P (reported seat)
+pub reported-fits : {C T Q X : Type 0} → (P : Protocol C T Q X) (seat : Seat X) → Fits P seat → Fits P (reported seat)
 reported-fits P (Attached x) fits = fits
 reported-fits P (Lost loss is_reported is_told) fits = tt
 reported-fits P Left fits = tt

@@ -207,14 +207,14 @@ tell-well P s text m (Attached x) well =
 tell-well P s text m (Lost loss is_reported is_told) well = well
 tell-well P s text m Left well = well
 
-some-put-in : {X : Type 0} → (test : Seat X → Bool) (i : ℕ) (new : Seat X) (seats : List (Seat X))
+pub some-put-in : {X : Type 0} → (test : Seat X → Bool) (i : ℕ) (new : Seat X) (seats : List (Seat X))
     → test new ≡ test (seat_in i seats)
     → some test (put_in i new seats) ≡ some test seats
 some-put-in test i new [] same = refl
 some-put-in test zero new (seat ∷ seats) same = ap (λ b. b || some test seats) same
 some-put-in test (suc i) new (seat ∷ seats) same = ap (λ b. test seat || b) (some-put-in test i new seats same)
 
-some-put : {X : Type 0} → (test : Seat X → Bool) (s : ℕ) (new : Seat X) (seats : List (Seat X))
+pub some-put : {X : Type 0} → (test : Seat X → Bool) (s : ℕ) (new : Seat X) (seats : List (Seat X))
     → test new ≡ test (seat_of s seats)
     → some test (put s new seats) ≡ some test seats
 some-put test zero new seats same = refl

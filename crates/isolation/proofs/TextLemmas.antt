@@ -393,13 +393,13 @@ pub each-length : {X : Type 0} → (f : Seat X → Seat X) (seats : List (Seat X
 each-length f [] = refl
 each-length f (seat ∷ seats) = ap (λ n. suc n) (each-length f seats)
 
-put-in-length : {X : Type 0} → (i : ℕ) (new : Seat X) (seats : List (Seat X))
+pub put-in-length : {X : Type 0} → (i : ℕ) (new : Seat X) (seats : List (Seat X))
     → length (put_in i new seats) ≡ length seats
 put-in-length i new [] = refl
 put-in-length zero new (seat ∷ seats) = refl
 put-in-length (suc i) new (seat ∷ seats) = ap (λ n. suc n) (put-in-length i new seats)
 
-put-length : {X : Type 0} → (s : ℕ) (new : Seat X) (seats : List (Seat X)) → length (put s new seats) ≡ length seats
+pub put-length : {X : Type 0} → (s : ℕ) (new : Seat X) (seats : List (Seat X)) → length (put s new seats) ≡ length seats
 put-length zero new seats = refl
 put-length (suc i) new seats = put-in-length i new seats
 

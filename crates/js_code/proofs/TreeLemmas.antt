@@ -44,7 +44,7 @@ kids-end t at mid h =
 
 -- ---- trees
 
-terms_same : (a b : ℕ → Term) (i : ℕ) (ks : List ℕ)
+pub terms_same : (a b : ℕ → Term) (i : ℕ) (ks : List ℕ)
     → ((k : ℕ) → k < i → a k ≡ b k)
     → EachBelow i ks
     → terms a ks ≡ terms b ks

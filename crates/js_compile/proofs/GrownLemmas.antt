@@ -36,7 +36,7 @@ begins_twice xs ys zs b c = record { rest = b.rest ++ c.rest; is = c.is ∙ ap (
 pub begins_length : {X : Type 0} (xs ys : List X) → Begins xs ys → length xs ≤ length ys
 begins_length xs ys b = omega (arith, ap length b.is, length-append xs b.rest)
 
-front : {X : Type 0} (xs ys : List X) (i : ℕ) → i < length xs → slice_get (xs ++ ys) i ≡ slice_get xs i
+pub front : {X : Type 0} (xs ys : List X) (i : ℕ) → i < length xs → slice_get (xs ++ ys) i ≡ slice_get xs i
 front [] ys i h = absurd (omega arith)
 front (x ∷ xs) ys zero h = refl
 front (x ∷ xs) ys (suc i) h = front xs ys i (omega arith)
@@ -64,7 +64,7 @@ pub begins_at : {X : Type 0} (xs ys : List X) (i : ℕ) (x : X)
     → slice_get ys i ≡ Some x
 begins_at xs ys i x b e = ap (λ zs. slice_get zs i) b.is ∙ front xs b.rest i (slice_get_within xs i x e) ∙ e
 
-begins_between : (xs ys : List ℕ) (from to : ℕ)
+pub begins_between : (xs ys : List ℕ) (from to : ℕ)
     → Begins xs ys
     → from ≤ to
     → to ≤ length xs

@@ -10,12 +10,12 @@ use Rattle.js_syntax.specs.Classes.{start}
 use Rattle.js_syntax.specs.Productions.{items_at}
 use Rattle.js_syntax.specs.Parsing.{below, ended_by, whole, parse_script, parse_expression, parse_function, function_code_by}
 use Rattle.js_grammar.proofs.Claims.{SoundBelow}
-use Rattle.js_grammar.proofs.TokenLemmas.{got}
 use Rattle.js_grammar.proofs.Sound.Part.{seq_sound, items_at_sound}
 use Rattle.js_grammar.proofs.Sound.Operator.{unary_sound, operation_sound}
 use Rattle.js_grammar.proofs.Sound.Primary.{call_sound}
 use Rattle.js_grammar.proofs.Sound.Expression.{assignment_sound, expression_sound, function_code_sound}
 use Rattle.js_grammar.proofs.Sound.Statement.{statement_sound, list_item_sound, counted_block_sound, counted_function_sound}
+use Rattle.js_syntax.proofs.ShorterLemmas.{read_is}
 
 pub sound_below : (n : ℕ) → SoundBelow n (below n)
 unfolding below
@@ -46,8 +46,8 @@ sound_below (suc n) =
 
 -- ---- whole sources
 
-ended_ok : {A : Type 0} (s : A) (ts : List Token) (t : A) → ended_by s ts ≡ Ok t → got (s, ts) ≡ Ok (t, [])
-ended_ok {A = A} s [] t h = let k : s ≡ t = cc in ap (λ (t : A). got (t, [])) k
+ended_ok : {A : Type 0} (s : A) (ts : List Token) (t : A) → ended_by s ts ≡ Ok t → read_is (s, ts) ≡ Ok (t, [])
+ended_ok {A = A} s [] t h = let k : s ≡ t = cc in ap (λ (t : A). read_is (t, [])) k
 ended_ok s (u ∷ ts) t h = absurd cc
 
 pub whole_ok : {A : Type 0} (r : Read A) (t : A) → whole r ≡ Ok t → r ≡ Ok (t, [])

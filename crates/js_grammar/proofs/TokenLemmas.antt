@@ -9,16 +9,14 @@ use Rattle.js_language.specs.Kinds.{is_kind}
 use Rattle.js_syntax.specs.Reading.{Fault, stuck, Read, expect, expect_near, text_of, name_at, fresh_name, is_word_next, word_at, semicolon_at}
 use Rattle.js_syntax.proofs.KindLemmas.{next_is, next_again}
 use Rattle.js_syntax.proofs.PlacedTokenLemmas.{name_next, word_next}
+use Rattle.js_syntax.proofs.ShorterLemmas.{read_is}
 
 -- ---- tools
-
-abbrev pub got : {A : Type 0} → A × List Token → Read A
-got x = Ok x
 
 abbrev pub faulty : {A : Type 0} → Fault → Read A
 faulty e = Err e
 
-pub ok_is : {A : Type 0} (x y : A × List Token) → got x ≡ got y → x ≡ y
+pub ok_is : {A : Type 0} (x y : A × List Token) → read_is x ≡ read_is y → x ≡ y
 ok_is x y e = cc
 
 pub cond_ok : {A : Type 0} (b : Bool) (p q : Read A) (y : A × List Token)

@@ -100,7 +100,7 @@ lt_true m n h = grind arith
 has-true : (ps : List Property) (key : List ℕ) → key_place ps key < length ps → has_key ps key ≡ true
 has-true ps key h = has-place ps key ∙ lt_true (key_place ps key) (length ps) h
 
-put_if : (b : Bool) (ps : List Property) (key : List ℕ) (v : Value)
+pub put_if : (b : Bool) (ps : List Property) (key : List ℕ) (v : Value)
     → b ≡ true
     → (if b then with_value ps key v else placed ps (assigned key v)) ≡ with_value ps key v
 put_if true ps key v e = refl

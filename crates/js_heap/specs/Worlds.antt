@@ -103,6 +103,10 @@ KindStays None after = Unit {0}
 KindStays (Some c) None = ⊥
 KindStays (Some c) (Some d) = kind_of d ≡ kind_of c
 
+-- every live cell of a world is live in a later one, with its kind
+abbrev pub Later : World → World → Type 0
+Later w v = (a : Addr) → KindStays (read_cell w a) (read_cell v a)
+
 -- in an evaluation, the program's cells and those of earlier evaluations stay as they are
 abbrev pub OthersStay : Option ℕ → World → World → Type 0
 OthersStay None w v = Unit {0}

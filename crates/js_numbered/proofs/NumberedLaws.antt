@@ -17,8 +17,7 @@ use Rattle.js_tree.specs.declared.tree.Expr.TheOpen as layers
 use Rattle.js_tree.specs.declared.tree.Expr.TheOpen.{Expr-F, Stmt-F, PropertyName-F, PropertyDefinition-F}
 use Rattle.js_tree.specs.declared.tree.Expr.TheFolds.{map-Expr, map-PropertyDefinition, map-PropertyName, map-Stmt, map-Block, map-Catch, map-Declarator, map-Declarators, map-Exprs, map-PropertyDefinitions, map-Stmts}
 use Rattle.js_tree.specs.declared.tree.Expr.TheViews as views
-use Rattle.js_tree.specs.Trees as trees
-use Rattle.js_tree.specs.Trees.{Expression, Expressions, Key, Property, Properties, Statement, Statements, Handler}
+use Rattle.js_tree.specs.Trees.{Expression}
 use Rattle.js_tree.specs.Views.{parameters_view, expressions, statements, properties, declarators, optional, handler, finalizer, expression_step, property_step, key_step, statement_step, block_step, catch_step, declarator_step, declarators_step, expressions_step, properties_step, statements_step, expression_view, property_view, key_view, statement_view, block_view, catch_view, declarator_view, declarators_view, expressions_view, properties_view, statements_view}
 use Rattle.js_tree.proofs.ViewLemmas.{expression_roll, property_roll, key_roll, statement_roll, block_roll, catch_roll, declarator_roll, declarators_roll, expressions_roll, properties_roll, statements_roll}
 use Rattle.js_language.specs.Tokens.{identifier_name, numeric_literal, string_literal}
@@ -29,7 +28,7 @@ use Rattle.js_semantics.specs.Makers.{Made, CatchMade, items_of}
 use Rattle.js_semantics.specs.Sources.{expression_layer, property_layer, key_layer, statement_layer, block_layer, catch_layer, declarator_layer, declarators_layer, expressions_layer, properties_layer, statements_layer, expression_source, property_source, key_source, statement_source, block_source, catch_source, declarator_source, declarators_source, expressions_source, properties_source, statements_source}
 use Rattle.js_semantics.proofs.TreeFolds.{Former, Mapper, Level, Claims, Known, known_trees, Grows, every-expression}
 use Rattle.js_semantics.proofs.SourceFolds as sources
-use Rattle.js_semantics.proofs.SourceFolds.{made_parts}
+use Rattle.js_semantics.proofs.SourceFolds.{made_parts, clean_parts}
 use Rattle.js_numbered.specs.Numbering.{Counted, Numbering}
 use Rattle.js_numbered.specs.Numbered.{block_node, expression_numbered, expressions_numbered, optional_numbered, key_numbered, property_numbered, properties_numbered, declarator_numbered, declarators_numbered, statement_numbered, handler_numbered, statements_numbered, numbered_made}
 use Rattle.js_numbered.proofs.CountLemmas.{Fits, give_fits, both_fits, of_part_fits, end_fits, carried, numbers_in, turn_fits, commas_fit, form_fits, lone_fits, quiet_fits, quiet_end, braces_fit, parentheses_fit, range_counts}
@@ -52,13 +51,6 @@ fits = record {
 }
 
 -- ---- one level of each type
-
--- the clean trees of the parts, and their places
-abbrev pub CleanLayer : Former → Type 0
-CleanLayer F = F Expression Property Key Statement Statements Handler trees.Declarator trees.Declarators Expressions Properties Statements
-
-abbrev pub clean_parts : (F : Former) → Mapper F → Level F → CleanLayer F
-clean_parts F change = change Expr PropertyDefinition PropertyName Stmt Block Catch Declarator Declarators Exprs PropertyDefinitions Stmts Expression Property Key Statement Statements Handler trees.Declarator trees.Declarators Expressions Properties Statements expression_view property_view key_view statement_view block_view catch_view declarator_view declarators_view expressions_view properties_view statements_view
 
 abbrev pub PlaceLayer : Former → Type 0
 PlaceLayer F = F (List Place) (List Place) (List Place) (List Place) (List Place) (List Place) (List Place) (List Place) (List Place) (List Place) (List Place)

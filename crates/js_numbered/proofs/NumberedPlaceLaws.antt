@@ -23,8 +23,9 @@ use Rattle.js_semantics.proofs.TreeFolds.{Former, Mapper, Level, Claims, Known, 
 use Rattle.js_numbered.specs.Numbering.{Counted}
 use Rattle.js_numbered.specs.NumberedPlaces.{in_row, node_placed, braced, comma_separated, expression_placed, expressions_placed, key_placed, property_placed, properties_placed, declarator_placed, declarators_placed, statement_placed, handler_placed, statements_placed, numbered_places}
 use Rattle.js_numbered.proofs.CountLemmas.{range_counts}
-use Rattle.js_numbered.proofs.NumberedLaws.{clean_parts, place_parts}
+use Rattle.js_numbered.proofs.NumberedLaws.{place_parts}
 use Rattle.js_numbered.proofs.PlacingLemmas.{Stand, AllStand, tokens-stand, may-stand, nothing-stands, before-stands, row-stands, node-stands, braces-stand, parentheses-stand, commas-stand, carried}
+use Rattle.js_semantics.proofs.SourceFolds.{clean_parts}
 
 -- ---- what is claimed of a tree of each type
 

@@ -38,7 +38,7 @@ text_none : (source : List ℕ) (node : ℕ) → expression_of source ≡ None �
 unfolding node_text
 text_none source node none = ap (λ (t : Option Expression). node_units t source node) (sym none)
 
-unless_lacking : (P : Type 0) (f : ParseFault) → UnlessMemory P f → lacks_memory f ≡ false → P
+pub unless_lacking : (P : Type 0) (f : ParseFault) → UnlessMemory P f → lacks_memory f ≡ false → P
 unless_lacking P faults.Memory says some = absurd cc
 unless_lacking P (faults.Token at) says some = says
 unless_lacking P (faults.Syntax at) says some = says

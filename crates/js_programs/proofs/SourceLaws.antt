@@ -39,29 +39,25 @@ use Rattle.js_semantics.specs.Sources.{expression_source, statements_source, exp
 use Rattle.js_programs.specs.Sources.{own_form, declarator_term, initialized}
 use Rattle.js_semantics.specs.declared.form.Form.TheVariants as forms
 use Rattle.js_terms.specs.Views.{listed}
-
--- one level of each type, with the trees themselves in its places
-abbrev Level : (Type 0 → Type 0 → Type 0 → Type 0 → Type 0 → Type 0 → Type 0 → Type 0 → Type 0 → Type 0 → Type 0 → Type 0)
-    → Type 0
-Level F = F Expr PropertyDefinition PropertyName Stmt Block Catch Declarator Declarators Exprs PropertyDefinitions Stmts
+use Rattle.js_tree.proofs.ViewLemmas.{Layer}
 
 -- what is made of a tree is made of what is made of its parts
-pub expression_turn : (x : Level Expr-F)
+pub expression_turn : (x : Layer Expr-F)
     → expression_source (views.roll-Expr x) ≡ expression_layer (map-Expr Expr PropertyDefinition PropertyName Stmt Block Catch Declarator Declarators Exprs PropertyDefinitions Stmts Made PropertyMade PropertyKey Item Items CatchMade DeclaratorMade (List DeclaratorMade) (List Made) (List PropertyMade) Items expression_source property_source key_source statement_source block_source catch_source declarator_source declarators_source expressions_source properties_source statements_source x)
 unfolding expression_source property_source key_source statement_source block_source catch_source declarator_source declarators_source expressions_source properties_source statements_source
 expression_turn x = fold-roll-Expr Made PropertyMade PropertyKey Item Items CatchMade DeclaratorMade (List DeclaratorMade) (List Made) (List PropertyMade) Items expression_layer property_layer key_layer statement_layer block_layer catch_layer declarator_layer declarators_layer expressions_layer properties_layer statements_layer x
 
-pub property_turn : (x : Level PropertyDefinition-F)
+pub property_turn : (x : Layer PropertyDefinition-F)
     → property_source (views.roll-PropertyDefinition x) ≡ property_layer (map-PropertyDefinition Expr PropertyDefinition PropertyName Stmt Block Catch Declarator Declarators Exprs PropertyDefinitions Stmts Made PropertyMade PropertyKey Item Items CatchMade DeclaratorMade (List DeclaratorMade) (List Made) (List PropertyMade) Items expression_source property_source key_source statement_source block_source catch_source declarator_source declarators_source expressions_source properties_source statements_source x)
 unfolding expression_source property_source key_source statement_source block_source catch_source declarator_source declarators_source expressions_source properties_source statements_source
 property_turn x = fold-roll-PropertyDefinition Made PropertyMade PropertyKey Item Items CatchMade DeclaratorMade (List DeclaratorMade) (List Made) (List PropertyMade) Items expression_layer property_layer key_layer statement_layer block_layer catch_layer declarator_layer declarators_layer expressions_layer properties_layer statements_layer x
 
-pub key_turn : (x : Level PropertyName-F)
+pub key_turn : (x : Layer PropertyName-F)
     → key_source (views.roll-PropertyName x) ≡ key_layer (map-PropertyName Expr PropertyDefinition PropertyName Stmt Block Catch Declarator Declarators Exprs PropertyDefinitions Stmts Made PropertyMade PropertyKey Item Items CatchMade DeclaratorMade (List DeclaratorMade) (List Made) (List PropertyMade) Items expression_source property_source key_source statement_source block_source catch_source declarator_source declarators_source expressions_source properties_source statements_source x)
 unfolding expression_source property_source key_source statement_source block_source catch_source declarator_source declarators_source expressions_source properties_source statements_source
 key_turn x = fold-roll-PropertyName Made PropertyMade PropertyKey Item Items CatchMade DeclaratorMade (List DeclaratorMade) (List Made) (List PropertyMade) Items expression_layer property_layer key_layer statement_layer block_layer catch_layer declarator_layer declarators_layer expressions_layer properties_layer statements_layer x
 
-pub statement_turn : (x : Level Stmt-F)
+pub statement_turn : (x : Layer Stmt-F)
     → statement_source (views.roll-Stmt x) ≡ statement_layer (map-Stmt Expr PropertyDefinition PropertyName Stmt Block Catch Declarator Declarators Exprs PropertyDefinitions Stmts Made PropertyMade PropertyKey Item Items CatchMade DeclaratorMade (List DeclaratorMade) (List Made) (List PropertyMade) Items expression_source property_source key_source statement_source block_source catch_source declarator_source declarators_source expressions_source properties_source statements_source x)
 unfolding expression_source property_source key_source statement_source block_source catch_source declarator_source declarators_source expressions_source properties_source statements_source
 statement_turn x = fold-roll-Stmt Made PropertyMade PropertyKey Item Items CatchMade DeclaratorMade (List DeclaratorMade) (List Made) (List PropertyMade) Items expression_layer property_layer key_layer statement_layer block_layer catch_layer declarator_layer declarators_layer expressions_layer properties_layer statements_layer x

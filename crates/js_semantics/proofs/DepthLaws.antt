@@ -17,12 +17,12 @@ use Rattle.js_semantics.proofs.DepthLemmas.{settled-quiet, steps-agree, start-ag
 
 -- ---- lists of frames and scopes
 
-shown-length : (a : Active) (fs : List Frame) → length (shown_frames a fs) ≡ length fs
+pub shown-length : (a : Active) (fs : List Frame) → length (shown_frames a fs) ≡ length fs
 shown-length a [] = refl
 shown-length a (f ∷ []) = refl
 shown-length a (f ∷ g ∷ fs) = ap (λ n. suc n) (shown-length a (g ∷ fs))
 
-scopes-length : (fs : List Frame) (scopes : List Addr) → length (with_scopes fs scopes) ≡ length fs
+pub scopes-length : (fs : List Frame) (scopes : List Addr) → length (with_scopes fs scopes) ≡ length fs
 scopes-length [] scopes = refl
 scopes-length (f ∷ fs) [] = refl
 scopes-length (f ∷ fs) (a ∷ scopes) = ap (λ n. suc n) (scopes-length fs scopes)

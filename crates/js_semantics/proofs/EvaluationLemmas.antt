@@ -50,17 +50,17 @@ then_keeps w (fine a v) k h rest = fine_keeps w v (k a v) h (rest a v)
 then_keeps w effect k h rest = tt
 then_keeps w (full what) k h rest = tt
 
-source_kinds : (w : World) (us : List ℕ) (r : Room) (a : Addr)
+pub source_kinds : (w : World) (us : List ℕ) (r : Room) (a : Addr)
     → KindStays (read_cell w a) (read_cell (record w { scratch = w.scratch ++ cells.Text us ∷ []; room = r }) a)
 source_kinds w us r (Base i) = stays-same (slice_get w.base i)
 source_kinds w us r (Scratch i) = stays-append w.scratch (cells.Text us) i
 
-source_others : (o : Option ℕ) (w : World) (us : List ℕ) (r : Room)
+pub source_others : (o : Option ℕ) (w : World) (us : List ℕ) (r : Room)
     → OthersStay o w (record w { scratch = w.scratch ++ cells.Text us ∷ []; room = r })
 source_others None w us r = tt
 source_others (Some n) w us r = (refl, λ h. (omega (arith, length-append w.scratch (cells.Text us ∷ [])), take-append-le n w.scratch (cells.Text us ∷ []) h))
 
-keep-keeps : (w : World) (us : List ℕ) → AfterFine (keep_source w us) (λ a v. Keeps w v)
+pub keep-keeps : (w : World) (us : List ℕ) → AfterFine (keep_source w us) (λ a v. Keeps w v)
 keep-keeps w us =
     let r : Room = record { cells = w.room.cells; units = w.room.units - length us } in
     let v : World = record w { scratch = w.scratch ++ cells.Text us ∷ []; room = r } in

@@ -13,7 +13,7 @@ use Rattle.js_heap.specs.declared.change.Counted.TheVariants as counted
 use Rattle.js_heap.specs.Keys.{put_property}
 use Rattle.js_heap.specs.Cells.{kind_of, weight}
 use Rattle.js_heap.specs.World.{Room, World, Tried, fine, effect, full, read_cell, next_address, with_cell, room_less, make_cell}
-use Rattle.js_heap.specs.Worlds.{Leads, IsTextKind, IsObjectKind, Keeps, AfterFine, SoundValue, SoundScope, SoundValues, SoundProperties, SoundCell, IsSound}
+use Rattle.js_heap.specs.Worlds.{Leads, IsTextKind, IsObjectKind, Keeps, AfterFine, SoundValue, SoundScope, SoundValues, SoundProperties, SoundCell, IsSound, Later}
 use Rattle.js_heap.specs.BuiltIns.{script_scope}
 use Rattle.js_heap.proofs.MapLemmas.{get-last}
 use Rattle.js_heap.proofs.KeepLemmas.{made_kinds, making-keeps}
@@ -25,7 +25,7 @@ use Rattle.js_semantics.specs.Makers.{Context, Made}
 use Rattle.js_semantics.specs.Untouched.{IsUntouched}
 use Rattle.js_semantics.specs.Run.{ended, threw, by_effect, by_full, Run, running, over, run_of, steps_in, literals}
 use Rattle.js_semantics.specs.Evaluation.{ScratchSpace, copied_world, after_try, keep_source, make_literals, place_literals, Json, json_null, json_bool, json_number, json_string, json_array, json_object, Jsons, no_jsons, a_json, Members, no_members, a_member, object_value, make_json, make_jsons, make_members, Argument, given, made_of, make_argument, make_arguments, budget, Answer, answer_of, evaluation_state, answered, next_kept, kept_term, kept_tree, with_source, prepared, evaluated, evaluate, call_with_values, with_arguments, evaluate_call}
-use Rattle.js_semantics.specs.Sound.{SoundTerm, Later, SoundRun, SoundArguments, IsReady, SoundAnswer}
+use Rattle.js_semantics.specs.Sound.{SoundTerm, SoundRun, SoundArguments, IsReady, SoundAnswer}
 use Rattle.js_semantics.proofs.FollowLemmas.{run_of-state}
 use Rattle.js_semantics.proofs.SoundTerms.{later-same, later-trans, sound-term, sound-program, sound-built_ins, dones-sound}
 use Rattle.js_semantics.proofs.SoundValues.{leads-as}

@@ -16,7 +16,7 @@ use Rattle.js_heap.specs.declared.cell.ScopeKind.{ScopeKind}
 use Rattle.js_heap.specs.declared.cell.ScopeKind.TheVariants as scopes
 use Rattle.js_heap.specs.Cells.{kind_of, declared}
 use Rattle.js_heap.specs.World.{World, read_cell}
-use Rattle.js_heap.specs.Worlds.{Leads, IsObjectKind, IsScopeKind, SoundValue, SoundScope, SoundValues, SoundNames, SoundCell, IsSound}
+use Rattle.js_heap.specs.Worlds.{Leads, IsObjectKind, IsScopeKind, SoundValue, SoundScope, SoundValues, SoundNames, SoundCell, IsSound, Later}
 use Rattle.js_heap.specs.BuiltIns.{message_property}
 use Rattle.js_heap.proofs.SoundLemmas.{sound-value, sound_values, sound-scope, read-sound}
 use Rattle.js_semantics.specs.Terms.{Source, script_source, kept_source, Mark, FunctionForm, Form, function, method, Term, done, standing, part, Terms, end, more}
@@ -25,7 +25,7 @@ use Rattle.js_heap.specs.Operators.{not_a_text, not_safe}
 use Rattle.js_semantics.specs.State.{Frame, State, Action, make, give, this_of, top_this}
 use Rattle.js_semantics.specs.BuiltIns.{argument, wrong_type, line_value, error_of, text_or_fail, string_of, keys_of_cell, make_texts, new_array, keys_of, push_all, last_of, pop_last, joined_or_fail, joined_parts, join, place, part_between, slice_places, array_or_wrong, text_or_wrong, occurrence_of, unit_or_fail, unit_at, array_call, on_array_cell, on_array, string_call, on_string, built_in_call}
 use Rattle.js_semantics.specs.Functions.{Program, FunctionCode, first_code, code_if, code_here, function_in, function_in_all, same_source, function_at, function_cell, receiver_of, named_function, function_row, with_functions, new_scope, with_names, parameters_from, too_deep, not_a_function, called_this, frame_entered, entered, frame_limit, call_code, call_cell, call_value, call_row}
-use Rattle.js_semantics.specs.Sound.{SoundForm, SoundTerm, SoundTerms, SoundProgram, SoundFrames, SoundState, Later, SoundAction}
+use Rattle.js_semantics.specs.Sound.{SoundForm, SoundTerm, SoundTerms, SoundProgram, SoundFrames, SoundState, SoundAction}
 use Rattle.js_semantics.proofs.SoundTerms.{later-same, later-trans, sound-term, settle-sound}
 use Rattle.js_semantics.proofs.SoundValues.{SoundThen, give-sound, leads-as, make_text-sound, make_object-sound, fail-sound, with_result-sound}
 

@@ -15,7 +15,7 @@ use Rattle.js_heap.specs.declared.cell.ScopeKind.TheVariants as scopes
 use Rattle.js_heap.specs.Keys.{put_property}
 use Rattle.js_heap.specs.Cells.{kind_of}
 use Rattle.js_heap.specs.World.{World, read_cell}
-use Rattle.js_heap.specs.Worlds.{Leads, IsObjectKind, SoundValue, SoundScope, SoundIfSome, SoundValues, SoundProperties, SoundNames, SoundCell, IsSound}
+use Rattle.js_heap.specs.Worlds.{Leads, IsObjectKind, SoundValue, SoundScope, SoundIfSome, SoundValues, SoundProperties, SoundNames, SoundCell, IsSound, Later}
 use Rattle.js_heap.specs.BuiltIns.{script_scope}
 use Rattle.js_heap.proofs.SoundLemmas.{sound-value, sound_values, sound_if_some, sound-scope, read-sound, put_sound}
 use Rattle.js_semantics.specs.Terms.{Mark, Completion, throws, returns, breaks, continues, Reference, to_name, to_member, to_index, FunctionForm, Member, keyed, computed, Stage, first, doing, testing, body, updating, Form, script, enter, enter_debugger, enter_for, enter_for_of, block, scoped, frame, initialize, choose, both, either, loop, list_of, turn_of, body_of, break_, continue_, return_, throw_, catching, finishing, ending, this, read, typeof_name, unary, binary, comma, function, array, object, method, assign, compound, update, delete, call, call_of, Term, done, standing, part, Terms, end, more, one, joined, dones, at_test, at_update, settled, settle}
@@ -28,7 +28,7 @@ use Rattle.js_semantics.specs.References.{Found, found, value_of_found, read_res
 use Rattle.js_semantics.specs.BuiltIns.{argument, last_of, is_array}
 use Rattle.js_semantics.specs.Functions.{Program, function_cell, with_functions}
 use Rattle.js_semantics.specs.Rows.{only, script_row, enter_row, block_row, chosen, kept_or, otherwise, turn_or_end, copy_of, copied, loop_row, for_in, enter_for_row, enter_for_of_row, list_row, element_of, elements_of, body_part, turn_row, type_of_found, comma_row, compound_row, update_value, updated_by, update_row, assign_row, callee_this, callee_row, with_computed, properties_from, object_or_fail, object_row, ending_row, row, catch_row, taken}
-use Rattle.js_semantics.specs.Sound.{SoundCompletion, SoundKept, SoundForm, SoundTerm, SoundTerms, SoundState, HasBuiltIns, Later, SoundAction}
+use Rattle.js_semantics.specs.Sound.{SoundCompletion, SoundKept, SoundForm, SoundTerm, SoundTerms, SoundState, HasBuiltIns, SoundAction}
 use Rattle.js_semantics.proofs.SoundTerms.{later-trans, sound-term, sound-terms, joined-sound, dones-sound, at_test-sound, at_update-sound, at_body-sound, settled-sound, settle-sound}
 use Rattle.js_semantics.proofs.SoundValues.{SoundK, SoundResult, give-sound, leads-as, make_text-sound, make_object-sound, fail-sound, with_result-sound, binary-sound, unary-sound, update-sound, SoundFound, found-sound, value_of_found-sound, get-value, with_key-sound, read_result-sound, get-sound, put-sound, remove-sound}
 use Rattle.js_semantics.proofs.SoundCalls.{argument-sound, last_of-sound, is-scope, this_of-sound, function-sound, functions-sound, names-sound, new_scope-sound, call-sound, choose_action}

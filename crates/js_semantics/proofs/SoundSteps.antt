@@ -3,7 +3,7 @@ use Rattle.std.proofs.Common.{ℕ, zero, suc, None, Some}
 use Rattle.js_heap.specs.declared.value.Addr.{Addr}
 use Rattle.js_heap.specs.declared.value.Value.{Value}
 use Rattle.js_heap.specs.World.{World}
-use Rattle.js_heap.specs.Worlds.{SoundValue, SoundScope, SoundValues}
+use Rattle.js_heap.specs.Worlds.{SoundValue, SoundScope, SoundValues, Later}
 use Rattle.js_heap.proofs.SoundLemmas.{sound-value, sound-scope}
 use Rattle.js_semantics.specs.Terms.{Completion, throws, returns, breaks, continues, Form, scoped, frame, loop, Term, done, standing, part, Terms, end, more}
 use Rattle.js_semantics.specs.State.{State, Move, goes, travels, has_effect, is_full, inside}
@@ -12,25 +12,25 @@ use Rattle.js_semantics.specs.Rows.{row, taken}
 use Rattle.js_semantics.specs.Next.{Walked, all_values, moved, with_value, scope_in, around, next, walk}
 use Rattle.js_semantics.specs.Run.{Run, running, over, run_of, run_after, outermost, step_in, steps_in, state_of}
 use Rattle.js_semantics.specs.Laws.{Follows, MoveFollows}
-use Rattle.js_semantics.specs.Sound.{SoundCompletion, SoundForm, SoundTerm, SoundTerms, SoundState, Later, SoundMove, SoundFinish, SoundRun}
+use Rattle.js_semantics.specs.Sound.{SoundCompletion, SoundForm, SoundTerm, SoundTerms, SoundState, SoundMove, SoundFinish, SoundRun}
 use Rattle.js_semantics.proofs.SoundTerms.{sound-form, sound-terms, settled-sound, perform-sound}
 use Rattle.js_semantics.proofs.SoundRows.{row-sound, taken-sound}
 use Rattle.js_semantics.proofs.FollowLemmas.{WalkFollows, next-follows, walk-follows, step-follows}
 
-abbrev SoundMoves : Program → Move Terms → Type 0
+abbrev pub SoundMoves : Program → Move Terms → Type 0
 SoundMoves p (goes ts s told) = SoundState p s × SoundTerms s.world ts
 SoundMoves p (travels c s) = SoundState p s × SoundCompletion s.world c
 SoundMoves p (has_effect s) = SoundState p s
 SoundMoves p (is_full what s) = SoundState p s
 
-abbrev SoundWalked : Program → State → Walked → Type 0
+abbrev pub SoundWalked : Program → State → Walked → Type 0
 SoundWalked p s (all_values vs) = SoundValues s.world vs
 SoundWalked p s (moved m) = SoundMoves p m
 
-later_of : (s t : State) → Follows s t → Later s.world t.world
+pub later_of : (s t : State) → Follows s t → Later s.world t.world
 later_of s t h = let k = h.cells in k.kinds
 
-value-in : (p : Program) (s : State) (v : Value) (m : Move Terms)
+pub value-in : (p : Program) (s : State) (v : Value) (m : Move Terms)
     → SoundValue s.world v
     → MoveFollows s m
     → SoundMoves p m
@@ -40,7 +40,7 @@ value-in p s v (travels c t) h f k = k
 value-in p s v (has_effect t) h f k = k
 value-in p s v (is_full what t) h f k = k
 
-with_value-sound : (p : Program) (s : State) (v : Value) (x : Walked)
+pub with_value-sound : (p : Program) (s : State) (v : Value) (x : Walked)
     → SoundValue s.world v
     → WalkFollows s x
     → SoundWalked p s x
@@ -48,7 +48,7 @@ with_value-sound : (p : Program) (s : State) (v : Value) (x : Walked)
 with_value-sound p s v (all_values vs) h f k = (h, k)
 with_value-sound p s v (moved m) h f k = value-in p s v m h f k
 
-inside-sound : (p : Program) (s : State) (ts : Terms) (m : Move Term)
+pub inside-sound : (p : Program) (s : State) (ts : Terms) (m : Move Term)
     → SoundTerms s.world ts
     → MoveFollows s m
     → SoundMove p m
@@ -78,7 +78,7 @@ around-sound p scope f later s (moved (has_effect t)) h o n k g q = q
 around-sound p scope f later s (moved (is_full what t)) h o n k g q = q
 
 -- the scope in which a form's parts are is live
-inner-sound : (w : World) (f : Form) (scope : Addr)
+pub inner-sound : (w : World) (f : Form) (scope : Addr)
     → SoundForm w f
     → SoundScope w (Some scope)
     → SoundScope w (Some (scope_in f scope))
@@ -100,7 +100,7 @@ mutual
       around-sound p scope f later s (walk p (scope_in f scope) now s) h o k.0 k.2 (walk-follows p (scope_in f scope) now s)
       (walk-sound p (scope_in f scope) now s h (inner-sound s.world f scope k.0 o) k.1)
 
-  walk-sound : (p : Program) (scope : Addr) (ts : Terms) (s : State)
+  pub walk-sound : (p : Program) (scope : Addr) (ts : Terms) (s : State)
       → SoundState p s
       → SoundScope s.world (Some scope)
       → SoundTerms s.world ts

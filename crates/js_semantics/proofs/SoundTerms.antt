@@ -6,14 +6,14 @@ use Rattle.js_heap.specs.declared.value.Value.TheVariants as values
 use Rattle.js_heap.specs.declared.change.Counted.{Counted}
 use Rattle.js_heap.specs.Cells.{kind_of}
 use Rattle.js_heap.specs.World.{World, Tried, fine, effect, full, read_cell, make_cell, write_cell, is_evaluation}
-use Rattle.js_heap.specs.Worlds.{Leads, Keeps, AfterFine, SoundValue, SoundScope, SoundValues, IsSound}
+use Rattle.js_heap.specs.Worlds.{Leads, Keeps, AfterFine, SoundValue, SoundScope, SoundValues, IsSound, Later}
 use Rattle.js_heap.specs.BuiltIns.{function_value, heap_full_error, script_scope}
 use Rattle.js_heap.proofs.KeepLemmas.{stays-same, stays-trans, making-keeps, writing-keeps}
 use Rattle.js_heap.proofs.SoundLemmas.{sound-value, sound-scope, sound_if_some, sound_names, making-sound, writing-sound, making-leads}
 use Rattle.js_semantics.specs.Terms.{Completion, throws, returns, breaks, continues, first, doing, testing, body, updating, Form, scripts, script, sequence, enter_for, enter_for_of, block, scoped, frame, loop, list_of, turn_of, body_of, catching, finishing, ending, function, method, Term, done, standing, part, Terms, end, more, one, joined, dones, is_done, all_done, last_value, test_of, update_of, body_of_loop, at_test, at_update, behind_body, at_body, behind_first, finished, settled, settle}
 use Rattle.js_semantics.specs.State.{Frame, State, Move, goes, has_effect, is_full, Action, go, raise, leave, make, write, print, take_line, set_here, push_frame, pop_frame, with_world, with_here, moved_frames, rest_of, first_line, other_lines, after, raised_at, perform}
 use Rattle.js_semantics.specs.Functions.{Program}
-use Rattle.js_semantics.specs.Sound.{SoundCompletion, SoundKept, SoundForm, SoundTerm, SoundTerms, SoundProgram, SoundFrames, HasBuiltIns, SoundState, Later, SoundAction, SoundMove}
+use Rattle.js_semantics.specs.Sound.{SoundCompletion, SoundKept, SoundForm, SoundTerm, SoundTerms, SoundProgram, SoundFrames, HasBuiltIns, SoundState, SoundAction, SoundMove}
 
 pub later-same : (w : World) → Later w w
 later-same w a = stays-same (read_cell w a)

@@ -19,7 +19,7 @@ use Rattle.js_heap.specs.declared.cell.Property.{Property}
 use Rattle.js_heap.specs.Keys.{same_units, index_of_key, property_at}
 use Rattle.js_heap.specs.Cells.{Kind, kind_of, binding_of}
 use Rattle.js_heap.specs.World.{World, read_cell}
-use Rattle.js_heap.specs.Worlds.{Leads, IsTextKind, IsObjectKind, SoundValue, SoundIfSome, SoundValues, SoundProperties, SoundNames, SoundCell, SoundChange, IsSound}
+use Rattle.js_heap.specs.Worlds.{Leads, IsTextKind, IsObjectKind, SoundValue, SoundIfSome, SoundValues, SoundProperties, SoundNames, SoundCell, SoundChange, IsSound, Later}
 use Rattle.js_heap.specs.BuiltIns.{function_value, message_property}
 use Rattle.js_heap.proofs.SoundLemmas.{read-sound}
 use Rattle.js_semantics.specs.Terms.{Reference, to_name, to_member, to_index}
@@ -32,7 +32,7 @@ use Rattle.js_heap.specs.declared.computed.Written.{Written}
 use Rattle.js_heap.specs.declared.computed.Written.TheVariants.{Change as a_change, Refused as refused}
 use Rattle.js_semantics.specs.References.{Found, found_here, found_outward, found_in, found_within, found, value_or_uninitialized, value_of_found, bound_unless, name_written, with_result, with_written, with_key, keyed_result, read_result, get, put, remove}
 use Rattle.js_semantics.specs.State.{Action, make, give, make_text, fail}
-use Rattle.js_semantics.specs.Sound.{HasBuiltIns, Later, SoundAction}
+use Rattle.js_semantics.specs.Sound.{HasBuiltIns, SoundAction}
 use Rattle.js_semantics.proofs.SoundTerms.{later-same}
 
 -- ---- continuations

@@ -32,14 +32,14 @@ use Rattle.js_semantics.proofs.TreeFolds.{Former, Mapper, Level, Claims, Known, 
 -- ---- what is made of one level
 
 -- the parts' clean trees in its places
-abbrev CleanLayer : Former → Type 0
+abbrev pub CleanLayer : Former → Type 0
 CleanLayer F = F Expression Property Key Statement Statements Handler trees.Declarator trees.Declarators Expressions Properties Statements
 
 -- what is made of the parts, and the parts' clean trees
 abbrev pub made_parts : (F : Former) → Mapper F → Level F → Layer F
 made_parts F change = change Expr PropertyDefinition PropertyName Stmt Block Catch Declarator Declarators Exprs PropertyDefinitions Stmts Made PropertyMade PropertyKey Item Items CatchMade DeclaratorMade (List DeclaratorMade) (List Made) (List PropertyMade) Items expression_source property_source key_source statement_source block_source catch_source declarator_source declarators_source expressions_source properties_source statements_source
 
-abbrev clean_parts : (F : Former) → Mapper F → Level F → CleanLayer F
+abbrev pub clean_parts : (F : Former) → Mapper F → Level F → CleanLayer F
 clean_parts F change = change Expr PropertyDefinition PropertyName Stmt Block Catch Declarator Declarators Exprs PropertyDefinitions Stmts Expression Property Key Statement Statements Handler trees.Declarator trees.Declarators Expressions Properties Statements expression_view property_view key_view statement_view block_view catch_view declarator_view declarators_view expressions_view properties_view statements_view
 
 -- what is made of a tree is made of what is made of its parts

@@ -219,7 +219,7 @@ start-sound ts input h =
     (record { world = first-sound (literals_of ts); built_ins = has-built-ins (literals_of ts); program = program-sound w 1 (placed_scripts ts) placed; frames = ((tt, refl), tt); outer = tt })
     (settled-sound w scripts (placed_scripts ts) end tt placed tt)
 
-start-scope : (ts : Terms) (input : List (List ℕ)) (t : Term)
+pub start-scope : (ts : Terms) (input : List (List ℕ)) (t : Term)
     → SoundScope (state_of (run_of t (first_state ts input))).world (Some script_scope)
 start-scope ts input (done v) = refl
 start-scope ts input (standing v place) = refl

@@ -6,7 +6,7 @@ use Rattle.js_heap.specs.declared.value.Value.TheVariants as values
 use Rattle.js_heap.specs.declared.built_in.BuiltIn.{BuiltIn}
 use Rattle.js_heap.specs.Cells.{kind_of}
 use Rattle.js_heap.specs.World.{World, read_cell}
-use Rattle.js_heap.specs.Worlds.{Leads, KindStays, SoundValue, SoundScope, SoundIfSome, SoundNames, SoundCell, SoundChange, IsSound}
+use Rattle.js_heap.specs.Worlds.{Leads, SoundValue, SoundScope, SoundIfSome, SoundNames, SoundCell, SoundChange, IsSound, Later}
 use Rattle.js_heap.specs.BuiltIns.{script_scope, heap_full_error, function_value}
 use Rattle.js_semantics.specs.Terms.{Completion, throws, returns, breaks, continues, Form, script, enter_for, enter_for_of, block, scoped, frame, loop, list_of, turn_of, body_of, ending, function, method, Term, done, standing, part, Terms, end, more}
 use Rattle.js_semantics.specs.State.{Frame, State, Action, go, raise, leave, make, write, print, take_line, set_here, push_frame, pop_frame, Move, goes, travels, has_effect, is_full}
@@ -81,10 +81,6 @@ pub record SoundState (p : Program) (s : State) : Type 0 where
   pub program : SoundProgram s.world p
   pub frames : SoundFrames s.world s.frames
   pub outer : SoundValue s.world s.outer_this
-
--- every live cell of a world is live in a later one, with its kind
-abbrev pub Later : World → World → Type 0
-Later w v = (a : Addr) → KindStays (read_cell w a) (read_cell v a)
 
 -- what an action makes, writes and ends in is sound where it comes to that
 abbrev pub SoundAction : World → Action → Type 0

@@ -7,7 +7,7 @@ use Rattle.js_heap.specs.declared.cell.Property.{Property}
 use Rattle.js_heap.specs.Keys.{property_at, same_units, has_key, with_value, placed, put_property, assigned}
 use Rattle.js_heap.specs.Places.{key_place}
 use Rattle.js_world.specs.PropertyOrder.{with_value_at}
-use Rattle.js_heap.proofs.PlaceLemmas.{has-place, one_plus}
+use Rattle.js_heap.proofs.PlaceLemmas.{has-place, one_plus, put_if as put_old}
 
 put_if : (b : Bool) (ps : List Property) (key : List ℕ) (v : Value)
     → b ≡ false
@@ -47,12 +47,6 @@ value-place : (ps : List Property) (key : List ℕ) (v : Value)
     → with_value ps key v ≡ with_value_at ps (key_place ps key) v
 value-place [] key v = refl
 value-place (p ∷ ps) key v = value_if (same_units p.key key) p ps _ v _ (value-place ps key v)
-
-put_old : (b : Bool) (ps : List Property) (key : List ℕ) (v : Value)
-    → b ≡ true
-    → (if b then with_value ps key v else placed ps (assigned key v)) ≡ with_value ps key v
-put_old true ps key v e = refl
-put_old false ps key v e = cc
 
 -- a value under a key that is there changes the property at its place
 pub put-there : (ps : List Property) (key : List ℕ) (v : Value)

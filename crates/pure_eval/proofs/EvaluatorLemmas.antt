@@ -1,5 +1,5 @@
 -- An evaluator's code, and what its evaluations answer.
-use Rattle.std.proofs.Common.{◌≡◌, ℕ, ◌+◌, ◌-◌, ◌<◌, ◌≤◌, Bool, true, false, List, [], ◌∷◌, ◌++◌, length, Option, Some, if◌then◌else◌, refl, sym, ap, subst, ◌∙◌, arith, append-nil, append_assoc}
+use Rattle.std.proofs.Common.{◌≡◌, ℕ, ◌+◌, ◌-◌, ◌<◌, ◌≤◌, Bool, true, false, List, [], ◌∷◌, ◌++◌, length, Option, Some, if◌then◌else◌, refl, sym, ap, subst, ◌∙◌, arith}
 use Rattle.std.specs.Prelude.{nat_eq, nat_le}
 use Rattle.js_heap.specs.declared.value.Addr.{Addr}
 use Rattle.js_heap.specs.declared.value.Addr.TheVariants.{Base, Scratch}
@@ -55,14 +55,10 @@ use Rattle.pure_eval.specs.Preparing.{IsReady}
 use Rattle.pure_eval.specs.Programs.{HasSameFunctions, IsNewSource}
 use Rattle.pure_eval.proofs.SettledTerms.{kept-settled}
 use Rattle.pure_eval.proofs.ProgramLemmas.{same-steps, behind-others, in-front, nat_true}
+use Rattle.js_compile.proofs.NameLemmas.{goes_on_same}
+use Rattle.js_world.proofs.StartLemmas.{goes-then}
 
 -- ---- names that go on
-
-pub same-names : (ts : List (List ℕ)) → GoesOn ts ts
-same-names ts = record { more = []; is = sym (append-nil ts) }
-
-pub further-names : (ts us vs : List (List ℕ)) → GoesOn ts us → GoesOn us vs → GoesOn ts vs
-further-names ts us vs g h = record { more = g.more ++ h.more; is = h.is ∙ ap (λ xs. xs ++ h.more) g.is ∙ append_assoc ts g.more h.more }
 
 -- ---- sources that stand below a number
 
@@ -121,7 +117,7 @@ pub stands-added : (ts us : List (List ℕ)) (t u : NodeTable) (n m root : ℕ) 
     → IsAdded ts t (Scratch m) x us u root
     → HoldsProgram us u (m + 1) (kept_tree_at (Scratch m) x ∷ p)
 stands-added ts us t u n m root x p s l a =
-    let before : (vs : List (List ℕ)) → GoesOn us vs → GoesOn ts vs = λ vs g. further-names ts us vs a.goes_on g in
+    let before : (vs : List (List ℕ)) → GoesOn us vs → GoesOn ts vs = λ vs g. goes-then ts us vs a.goes_on g in
     record {
       whole = a.whole;
       below = λ vs g. let P : Program → Type 0 = λ q. AreBelow (m + 1) q in subst P (sym (a.program vs g)) (below_more n m (program_of vs t) x (s.below vs (before vs g)) l);
@@ -138,8 +134,8 @@ pub stands-back : (ts us : List (List ℕ)) (t v : NodeTable) (n : ℕ) (p : Pro
     → HoldsProgram us v n p
 stands-back ts us t v n p s g b = record {
   whole = b.whole;
-  below = λ vs h. let P : Program → Type 0 = λ q. AreBelow n q in subst P (sym (b.program vs)) (s.below vs (further-names ts us vs g h));
-  same = λ vs h. let P : Program → Type 0 = λ q. HasSameFunctions q p in subst P (sym (b.program vs)) (s.same vs (further-names ts us vs g h));
+  below = λ vs h. let P : Program → Type 0 = λ q. AreBelow n q in subst P (sym (b.program vs)) (s.below vs (goes-then ts us vs g h));
+  same = λ vs h. let P : Program → Type 0 = λ q. HasSameFunctions q p in subst P (sym (b.program vs)) (s.same vs (goes-then ts us vs g h));
 }
 
 -- ---- answers
@@ -238,9 +234,9 @@ evaluator_answers : (ts us : List (List ℕ)) (t u : NodeTable) (n root : ℕ) (
     → (AreSameLiterals order ls → Leaves (answered (ready_in_order w y source order ls (settle (tree us u root))) (worked (program_of us u) work)) r y z)
     → Leaves (work_of p w y source order e work) r y z
 evaluator_answers ts us t u n root x p w y z at work e source order ls r a s m h =
-    let f : settle (tree us u root) ≡ kept_tree (next_kept y) e = ap settle (a.tree us (same-names us)) ∙ m.stays ∙ m.term_is in
+    let f : settle (tree us u root) ≡ kept_tree (next_kept y) e = ap settle (a.tree us (goes_on_same us)) ∙ m.stays ∙ m.term_is in
     evaluate_by w y z source order ls (settle (tree us u root)) e r (worked (program_of us u) work) (worked (with_source p y e) work)
-    (λ v o. worked_same (program_of us u) (with_source p y e) work v o (s.same us (same-names us))) f m.literals_are (h m.outcome)
+    (λ v o. worked_same (program_of us u) (with_source p y e) work v o (s.same us (goes_on_same us))) f m.literals_are (h m.outcome)
 
 pub evaluator-leaves : (ts us ns : List (List ℕ)) (t u : NodeTable) (n next root : ℕ) (x : Term) (p : Program) (w : World) (h k : Heap) (at : Addr) (work : Work) (e : Made) (source : List ℕ) (order ls : List (List ℕ)) (r : Evaluated)
     → HoldsProgram ts t n p

@@ -1,16 +1,11 @@
 -- What stands before the first step of an evaluation.
-use Rattle.std.proofs.Common.{◌≡◌, ℕ, ◌-◌, List, [], ◌∷◌, ◌++◌, length, Option, None, Some, Err, Result, refl, sym, ap, subst, ◌∙◌, arith, length-append}
-use Rattle.std.proofs.lemmas.List.{take-append-le}
+use Rattle.std.proofs.Common.{◌≡◌, ℕ, ◌-◌, List, Err, Result, sym, ap, subst, ◌∙◌, arith}
 use Rattle.std.proofs.Math.Seq.{take-length}
-use Rattle.std.specs.Prelude.{slice_get, nat_le}
 use Rattle.js_heap.specs.declared.value.Addr.{Addr}
-use Rattle.js_heap.specs.declared.value.Addr.TheVariants.{Base, Scratch}
-use Rattle.js_heap.specs.declared.cell.Cell.TheVariants as cells
-use Rattle.js_heap.specs.declared.change.Counted.TheVariants as counted
-use Rattle.js_heap.specs.World.{Room, World, Tried, fine, read_cell}
-use Rattle.js_heap.specs.Worlds.{KindStays, OthersStay, Keeps, AfterFine}
+use Rattle.js_heap.specs.World.{World, Tried, fine}
+use Rattle.js_heap.specs.Worlds.{Keeps, AfterFine}
 use Rattle.js_heap.specs.ScratchSpaces.{ScratchSpace, copied_world}
-use Rattle.js_heap.proofs.KeepLemmas.{stays-same, stays-append, keeps-same, keeps-trans, fine_if}
+use Rattle.js_heap.proofs.KeepLemmas.{keeps-same, keeps-trans}
 use Rattle.js_semantics.specs.Terms.{Term}
 use Rattle.js_semantics.specs.Evaluation.{Answer, after_try, keep_source, answered}
 use Rattle.js_world.specs.declared.world.Refused.{Refused}
@@ -22,30 +17,14 @@ use Rattle.js_world.proofs.HeapLemmas.{cells-length}
 use Rattle.pure_eval.specs.declared.evaluated.Evaluated.{Evaluated}
 use Rattle.pure_eval.specs.Leaving.{space_behind, GoesOnFrom, Leaves, placed, made_ready, refused_end}
 use Rattle.pure_eval.proofs.LeavingLemmas.{cut-space}
+use Rattle.js_semantics.proofs.EvaluationLemmas.{keep-keeps}
 
--- ---- keeping a source
-
-source_kinds : (w : World) (us : List ℕ) (r : Room) (a : Addr)
-    → KindStays (read_cell w a) (read_cell (record w { scratch = w.scratch ++ cells.Text us ∷ []; room = r }) a)
-source_kinds w us r (Base i) = stays-same (slice_get w.base i)
-source_kinds w us r (Scratch i) = stays-append w.scratch (cells.Text us) i
-
-source_others : (o : Option ℕ) (w : World) (us : List ℕ) (r : Room)
-    → OthersStay o w (record w { scratch = w.scratch ++ cells.Text us ∷ []; room = r })
-source_others None w us r = tt
-source_others (Some n) w us r = (refl, λ h. (omega (arith, length-append w.scratch (cells.Text us ∷ [])), take-append-le n w.scratch (cells.Text us ∷ []) h))
-
-keeping : (w : World) (us : List ℕ) → AfterFine (keep_source w us) (λ a v. Keeps w v)
-keeping w us =
-    let r : Room = record { cells = w.room.cells; units = w.room.units - length us } in
-    let v : World = record w { scratch = w.scratch ++ cells.Text us ∷ []; room = r } in
-    let P : Addr → World → Type 0 = λ a u. Keeps w u in
-    fine_if (nat_le (length us) w.room.units) counted.Units (fine (Scratch (length w.scratch)) v) P (record { start = refl; kinds = source_kinds w us r; others = source_others w.start w us r })
+-- ---- keep-keeps a source
 
 pub kept-keeps : (w v u : World) (us : List ℕ) (a : Addr) → keep_source w us ≡ fine a v → Keeps v u → Keeps w u
 kept-keeps w v u us a e h =
     let P : Tried Addr → Type 0 = λ t. AfterFine t (λ b z. Keeps w z) in
-    let k : P (fine a v) = subst P e (keeping w us) in
+    let k : P (fine a v) = subst P e (keep-keeps w us) in
     keeps-trans w v u k h
 
 -- ---- the world before the first step

@@ -19,7 +19,9 @@ use Rattle.pure_eval.specs.Adding.{GoesOnWith, kept_tree_at}
 use Rattle.pure_eval.specs.Cutting.{IsMarkOf, IsBack}
 use Rattle.pure_eval.specs.Evaluators.{HoldsProgram, Runs, is_kept}
 use Rattle.pure_eval.specs.Returning.{WentOn, WentOnAfter, IsMarked, IsAgain, CameFrom, CameAfter, HasAdded, IsCode, IsCodeOf, CodeAfter}
-use Rattle.pure_eval.proofs.EvaluatorLemmas.{same-names, further-names, same-program, stands-back, stands-same, stands-added, behind-is}
+use Rattle.pure_eval.proofs.EvaluatorLemmas.{same-program, stands-back, stands-same, stands-added, behind-is}
+use Rattle.js_compile.proofs.NameLemmas.{goes_on_same}
+use Rattle.js_world.proofs.StartLemmas.{goes-then}
 
 -- ---- going on
 
@@ -36,11 +38,11 @@ with-through t u v ds es g h = record {
 }
 
 pub went-same : (e : Evaluator) → IsWhole e.table → WentOn e e
-went-same e w = record { names = same-names e.names; entries = []; table = with-same e.table; whole = w }
+went-same e w = record { names = goes_on_same e.names; entries = []; table = with-same e.table; whole = w }
 
 pub went-through : (a b c : Evaluator) → WentOn a b → WentOn b c → WentOn a c
 went-through a b c g h = record {
-  names = further-names a.names b.names c.names g.names h.names;
+  names = goes-then a.names b.names c.names g.names h.names;
   entries = g.entries ++ h.entries;
   table = with-through a.table b.table c.table g.entries h.entries g.table h.table;
   whole = h.whole;
@@ -126,7 +128,7 @@ pub code-of : (e : Evaluator) (q p : Program)
     → ((us : List (List ℕ)) → GoesOn e.names us → program_of us e.table ≡ p)
     → IsCodeOf e p
 code-of e q p r h =
-    let here : program_of e.names e.table ≡ p = h e.names (same-names e.names) in
+    let here : program_of e.names e.table ≡ p = h e.names (goes_on_same e.names) in
     let steady : (us : List (List ℕ)) → GoesOn e.names us → program_of us e.table ≡ program_of e.names e.table = λ us g. h us g ∙ sym here in
     record {
       code = record {
@@ -139,7 +141,7 @@ code-of e q p r h =
 pub code-again : (e new : Evaluator) → IsCode e → IsAgain e new → IsCodeOf new (program_of e.names e.table)
 code-again e new c i =
     code-of new (program_of e.names e.table) (program_of e.names e.table) (i.runs (program_of e.names e.table) c.runs)
-    (λ us g. i.program us ∙ c.steady us (further-names e.names new.names us i.goes_on.names g))
+    (λ us g. i.program us ∙ c.steady us (goes-then e.names new.names us i.goes_on.names g))
 
 code_by : (end : Evaluated) (new : Evaluator) (p : Program) (s : SourceTree)
     → (is_kept end ≡ true → IsCodeOf new (p ++ s ∷ []))
@@ -166,7 +168,7 @@ code_kept old mid new base scratch x a c h n t y =
     let stands : HoldsProgram mid.names mid.table (length scratch.cells + 1) (s ∷ p) = stands-added old.names mid.names old.table mid.table old.next (length scratch.cells) a.node x p c.runs b.0 h.source in
     let P : List (List ℕ) → Type 0 = λ ts. (us : List (List ℕ)) → GoesOn ts us → program_of us mid.table ≡ p ++ s ∷ [] in
     let Q : NodeTable → Type 0 = λ u. (us : List (List ℕ)) → GoesOn new.names us → program_of us u ≡ p ++ s ∷ [] in
-    let program : P mid.names = λ us g. h.source.program us g ∙ ap (λ q. q ++ s ∷ []) (c.steady us (further-names old.names mid.names us h.source.goes_on g)) in
+    let program : P mid.names = λ us g. h.source.program us g ∙ ap (λ q. q ++ s ∷ []) (c.steady us (goes-then old.names mid.names us h.source.goes_on g)) in
     code-of new (s ∷ p) (p ++ s ∷ []) (stands-same mid.names new.names mid.table new.table (length scratch.cells + 1) new.next (s ∷ p) n t (y ∙ b.1) stands) (subst Q (sym t) (subst P (sym n) program))
 
 code_cut : (old mid new : Evaluator) (base scratch : Heap) (x : Term) (a : Added)
@@ -179,7 +181,7 @@ code_cut : (old mid new : Evaluator) (base scratch : Heap) (x : Term) (a : Added
 code_cut old mid new base scratch x a c h n y b =
     let p : Program = program_of old.names old.table in
     let P : List (List ℕ) → Type 0 = λ ts. (us : List (List ℕ)) → GoesOn ts us → program_of us new.table ≡ p in
-    let program : P mid.names = λ us g. b.program us ∙ c.steady us (further-names old.names mid.names us h.source.goes_on g) in
+    let program : P mid.names = λ us g. b.program us ∙ c.steady us (goes-then old.names mid.names us h.source.goes_on g) in
     code-of new p p (stands-same mid.names new.names new.table new.table old.next new.next p n refl (y ∙ h.next) (stands-back old.names mid.names old.table new.table old.next p c.runs h.source.goes_on b)) (subst P (sym n) program)
 
 pub code-after : (end : Evaluated) (old mid new : Evaluator) (base scratch : Heap) (x : Term) (a : Added)

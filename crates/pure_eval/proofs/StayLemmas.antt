@@ -1,10 +1,9 @@
 -- The trees and the code of a table stay when it goes on.
-use Rattle.std.proofs.Common.{◌≡◌, ℕ, zero, suc, ◌-◌, ◌<◌, ◌≤◌, Bool, true, false, List, [], ◌∷◌, ◌++◌, length, take, drop, map, Option, None, Some, if◌then◌else◌, refl, sym, ap, ◌∙◌, arith, length-drop}
+use Rattle.std.proofs.Common.{◌≡◌, ℕ, zero, suc, ◌-◌, ◌<◌, ◌≤◌, Bool, true, false, List, [], ◌∷◌, ◌++◌, length, map, Option, None, Some, if◌then◌else◌, refl, sym, ap, ◌∙◌, arith}
 use Rattle.std.specs.Prelude.{slice_get, unwrap_or, nat_lt}
-use Rattle.std.proofs.lemmas.List.{take-append-le, drop-append-le}
 use Rattle.js_heap.specs.declared.value.Value.TheVariants as values
 use Rattle.js_semantics.specs.declared.form.Form.{Form}
-use Rattle.js_semantics.specs.Terms.{Term, done, part, Terms, more}
+use Rattle.js_semantics.specs.Terms.{Term, done, part, Terms}
 use Rattle.js_semantics.specs.Functions.{SourceTree, function_in}
 use Rattle.js_code.specs.declared.op.Op.{Op}
 use Rattle.js_code.specs.declared.op.Op.TheVariants as ops
@@ -14,18 +13,14 @@ use Rattle.js_code.specs.declared.node.SourceEntry.{SourceEntry}
 use Rattle.js_code.specs.declared.table.NodeTable.{NodeTable}
 use Rattle.js_code.specs.Ops.{is_literal, is_task_only}
 use Rattle.js_code.specs.Forms.{form_of, function_of, script_form, for_form, for_of_form, block_form, function_form, method_form, object_form, call_form, name_call_form, member_call_form, index_call_form}
-use Rattle.js_code.specs.Trees.{constant_at, kids_between, terms, node_term, tree_within, tree, EachBelow, IsNodeAt, IsTable, source_tree, source_trees}
+use Rattle.js_code.specs.Trees.{constant_at, kids_between, terms, node_term, tree_within, tree, IsNodeAt, IsTable, source_tree, source_trees}
 use Rattle.js_code.specs.Codes.{code_of_parts, code_of_node, code_of_entry, code_of_number, indexed_code}
 use Rattle.js_compile.specs.Grown.{Begins, Extends}
-use Rattle.js_code.proofs.TreeLemmas.{now-below, later-below}
+use Rattle.js_code.proofs.TreeLemmas.{now-below, later-below, terms_same}
 use Rattle.pure_eval.specs.Whole.{names_entry, AreClosed, ArePlaced, IsWithin}
+use Rattle.js_compile.proofs.GrownLemmas.{begins_between, front}
 
 -- ---- lists that go on
-
-front : {X : Type 0} (xs ys : List X) (i : ℕ) → i < length xs → slice_get (xs ++ ys) i ≡ slice_get xs i
-front [] ys i h = absurd (omega arith)
-front (x ∷ xs) ys zero h = refl
-front (x ∷ xs) ys (suc i) h = front xs ys i (omega arith)
 
 pub here : {X : Type 0} (xs ys : List X) (i : ℕ) → Begins xs ys → i < length xs → slice_get ys i ≡ slice_get xs i
 here xs ys i b h = ap (λ zs. slice_get zs i) b.is ∙ front xs b.rest i h
@@ -46,21 +41,12 @@ here_map f xs ys i b h = ap (λ zs. slice_get (map f zs) i) b.is ∙ front_map f
 pub true_lt : (m n : ℕ) → nat_lt m n ≡ true → m < n
 true_lt m n e = grind arith
 
-between_stays : (xs ys : List ℕ) (from to : ℕ)
-    → Begins xs ys
-    → from ≤ to
-    → to ≤ length xs
-    → take (to - from) (drop from ys) ≡ take (to - from) (drop from xs)
-between_stays xs ys from to b h k =
-    ap (λ zs. take (to - from) (drop from zs)) b.is ∙ ap (λ zs. take (to - from) zs) (drop-append-le from xs b.rest (omega arith))
-    ∙ take-append-le (to - from) (drop from xs) b.rest (omega (arith, length-drop from xs))
-
 pub kids-stay : (t u : NodeTable) (from to : ℕ)
     → Extends t u
     → from ≤ to
     → to ≤ length t.kids.items
     → kids_between u from to ≡ kids_between t from to
-kids-stay t u from to x h k = between_stays t.kids.items u.kids.items from to x.kids h k
+kids-stay t u from to x h k = begins_between t.kids.items u.kids.items from to x.kids h k
 
 -- ---- what a node does
 
@@ -95,13 +81,6 @@ constant_stays t u _ n x l c = absurd cc
 
 -- ---- trees
 
-terms_stay : (a b : ℕ → Term) (n : ℕ) (ks : List ℕ)
-    → ((k : ℕ) → k < n → a k ≡ b k)
-    → EachBelow n ks
-    → terms a ks ≡ terms b ks
-terms_stay a b n [] same below = refl
-terms_stay a b n (k ∷ ks) same below = ap (λ t. more t (terms a ks)) (same k below.0) ∙ ap (more (b k)) (terms_stay a b n ks same below.1)
-
 part_stays : (l : Bool) (v w : Term) (f g : Form) (xs ys us vs : Terms)
     → (l ≡ true → v ≡ w)
     → f ≡ g
@@ -123,8 +102,8 @@ node_stays ts t u a b n (Some node) x same i c =
     (terms a (kids_between u node.first node.mid)) (terms b (kids_between t node.first node.mid)) (terms a (kids_between u node.mid node.end)) (terms b (kids_between t node.mid node.end))
     (λ l. ap done (constant_stays t u node.op node.info x l (c node refl)))
     (form_stays ts t u node.op node.info x i.source (c node refl))
-    (ap (terms a) (kids-stay t u node.first node.mid x i.now (omega (arith, i.later, i.within))) ∙ terms_stay a b n (kids_between t node.first node.mid) same (now-below t n node i))
-    (ap (terms a) (kids-stay t u node.mid node.end x i.later i.within) ∙ terms_stay a b n (kids_between t node.mid node.end) same (later-below t n node i))
+    (ap (terms a) (kids-stay t u node.first node.mid x i.now (omega (arith, i.later, i.within))) ∙ terms_same a b n (kids_between t node.first node.mid) same (now-below t n node i))
+    (ap (terms a) (kids-stay t u node.mid node.end x i.later i.within) ∙ terms_same a b n (kids_between t node.mid node.end) same (later-below t n node i))
 
 tree_stays : (ts : List (List ℕ)) (t u : NodeTable)
     → IsTable t
@@ -159,7 +138,7 @@ code_node_stays : (ts : List (List ℕ)) (t u : NodeTable) (f : FunctionEntry) (
 code_node_stays ts t u f n None table closed x h i = refl
 code_node_stays ts t u f n (Some node) table closed x h i =
     ap (code_of_parts (function_of ts f)) (ap (terms (tree ts u)) (kids-stay t u node.mid node.end x i.later i.within)
-    ∙ terms_stay (tree ts u) (tree ts t) n (kids_between t node.mid node.end) (λ k l. tree-stays ts t u k table closed x (omega arith)) (later-below t n node i))
+    ∙ terms_same (tree ts u) (tree ts t) n (kids_between t node.mid node.end) (λ k l. tree-stays ts t u k table closed x (omega arith)) (later-below t n node i))
 
 code_entry_stays : (ts : List (List ℕ)) (t u : NodeTable) (o : Option FunctionEntry)
     → IsTable t

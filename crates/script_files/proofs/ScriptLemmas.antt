@@ -182,7 +182,7 @@ declared_after : (a b : List Script) (s t : Script)
 declared_after a b s t p q =
     declared_more a s ∙ ap (λ ns. ns ++ declared_names (statements_view s.body)) p ∙ ap (λ v. declared_in b ++ declared_names v) q ∙ sym (declared_more b t)
 
-some_same : (o : Option (List ℕ)) (x y : List ℕ) → o ≡ Some x → o ≡ Some y → x ≡ y
+pub some_same : (o : Option (List ℕ)) (x y : List ℕ) → o ≡ Some x → o ≡ Some y → x ≡ y
 some_same o x y p q = cc
 
 excluded : (files : List Named) (a b : List Script) (before : List (List ℕ)) (name : List ℕ) (behind : List (List ℕ)) (ss us : List Script) (r : Refusal)

@@ -6,13 +6,11 @@ use Rattle.js_tree.specs.declared.node.NodeId.{NodeId}
 use Rattle.js_tree.specs.declared.tree.Expr.{Expr}
 use Rattle.js_tree.specs.declared.tree.Stmt.{Stmt}
 use Rattle.js_tree.specs.declared.tree.Declarator.{Declarator}
-use Rattle.js_tree.specs.declared.tree.Declarators.{Declarators, out-Declarators}
-use Rattle.js_tree.specs.declared.tree.Stmts.{Stmts}
-use Rattle.js_tree.specs.declared.tree.Expr.TheFolds.{fold_out-Declarator, fold_out-Declarators, fold_out-Stmts}
+use Rattle.js_tree.specs.declared.tree.Declarators.{Declarators}
 use Rattle.js_tree.specs.declared.tree.Expr.TheViews as views
 use Rattle.js_tree.specs.Trees as trees
-use Rattle.js_tree.specs.Trees.{Expression, Expressions, Property, Properties, Key, Statement, Statements, Handler}
-use Rattle.js_tree.specs.Views.{optional_view, statements, declarators, expression_view, property_view, key_view, statement_view, block_view, catch_view, declarator_view, declarators_view, expressions_view, properties_view, statements_view, expression_step, property_step, key_step, statement_step, block_step, catch_step, declarator_step, declarators_step, expressions_step, properties_step, statements_step}
+use Rattle.js_tree.specs.Trees.{Statement}
+use Rattle.js_tree.specs.Views.{statements, declarators, statement_view, declarator_view}
 use Rattle.js_tree.proofs.ViewLemmas.{declarator_of, declarators_listed, statements_listed, view_if_then, view_if_else, view_lexical_declaration, view_function_declaration}
 use Rattle.js_language.specs.Well.{declared_by, declared_names, names_of_declarators}
 

@@ -5,7 +5,8 @@ use Rattle.std.proofs.lemmas.List.{length-append}
 use Rattle.std.proofs.lemmas.Bool.{leb-true, le-leb}
 use Rattle.js_language.specs.Tokens.{Token, head_of, tail_of}
 use Rattle.js_syntax.specs.Reading.{stuck, deep, Read, Reader, ◌>>=◌}
-use Rattle.js_grammar.proofs.TokenLemmas.{got, faulty}
+use Rattle.js_grammar.proofs.TokenLemmas.{faulty}
+use Rattle.js_syntax.proofs.ShorterLemmas.{read_is}
 
 -- the answer, with other tokens left
 abbrev pub moved : {A : Type 0} → Read A → List Token → Read A
@@ -36,7 +37,7 @@ pub record Follows {A : Type 0} (f g : Reader A) : Type 0 where
 
 -- ---- lists of tokens
 
-pub same_left : {A : Type 0} (a : A) (l r : List Token) → got (a, l) ≡ got (a, r) → l ≡ r
+pub same_left : {A : Type 0} (a : A) (l r : List Token) → read_is (a, l) ≡ read_is (a, r) → l ≡ r
 same_left {A = A} a l r e =
     let x : A × List Token = (a, l) in
     let y : A × List Token = (a, r) in

@@ -17,11 +17,11 @@ use Rattle.js_syntax.specs.Productions.{Below, Item, Values, seq, made}
 use Rattle.js_syntax.specs.Parsing.{if_low, call, updated_by, postfix, unary_by, unary, operator_from, chain_by, chain, operation}
 use Rattle.js_grammar.proofs.Claims.{TakesExpression, SoundBelow, TakesAll, SeqSound}
 use Rattle.js_grammar.proofs.MarkLemmas.{joins}
-use Rattle.js_grammar.proofs.TokenLemmas.{got, ok_is, test_ok}
+use Rattle.js_grammar.proofs.TokenLemmas.{ok_is, test_ok}
 use Rattle.js_grammar.proofs.HeadLemmas.{update_next, prefix_unary, from_is, from_past}
 use Rattle.js_syntax.proofs.ClassLemmas.{prefix_delete, prefix_update, operator_next}
 use Rattle.js_grammar.proofs.Again.Level.{strength_low, from_none}
-use Rattle.js_syntax.proofs.ShorterLemmas.{bind_ok}
+use Rattle.js_syntax.proofs.ShorterLemmas.{bind_ok, read_is}
 
 -- ---- tools
 
@@ -49,7 +49,7 @@ weaker m k n ts e r le t = record { marks = t.marks; well = t.well; level = omeg
 
 -- the answer is what was read
 pub takes_ok : (low n : ℕ) (ts : List Token) (e : Expression) (r : List Token) (x : Expression × List Token)
-    → got (e, r) ≡ Ok x
+    → read_is (e, r) ≡ Ok x
     → TakesExpression low n ts e r
     → TakesExpression low n ts x.0 x.1
 takes_ok low n ts e r x is t = subst (λ (x : Expression × List Token). TakesExpression low n ts x.0 x.1) (ok_is (e, r) x is) t

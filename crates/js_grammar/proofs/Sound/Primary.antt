@@ -18,12 +18,12 @@ use Rattle.js_syntax.specs.Productions.{Code, Below, one_of, tok, a_name, an_ass
 use Rattle.js_syntax.specs.Parsing.{if_low, key_by, key_at, member_by, property_by, property_at, properties_at, function_by, function_at, is_name_next, primary_by, primary, linked_by, links_by, links, call}
 use Rattle.js_grammar.proofs.Claims.{TakesExpression, SoundBelow, TakesCode, SeqSound}
 use Rattle.js_grammar.proofs.MarkLemmas.{joins}
-use Rattle.js_grammar.proofs.TokenLemmas.{got, ok_is, name_sound, word_sound}
+use Rattle.js_grammar.proofs.TokenLemmas.{ok_is, name_sound, word_sound}
 use Rattle.js_grammar.proofs.Sound.List.{behind_commas, up_to, AllGood, elements_sound}
 use Rattle.js_grammar.proofs.HeadLemmas.{start_boolean}
 use Rattle.js_grammar.proofs.Sound.Operator.{made_takes, low_ok, takes_ok, CallSound}
 use Rattle.js_syntax.proofs.ClassLemmas.{start_this, start_null, start_brace, start_function, start_name, start_number, start_string, link_dot, key_word, key_string, key_number}
-use Rattle.js_syntax.proofs.ShorterLemmas.{bind_ok}
+use Rattle.js_syntax.proofs.ShorterLemmas.{bind_ok, read_is}
 
 -- ---- keys
 
@@ -33,7 +33,7 @@ pub record TakesKey (n : ℕ) (ts : List Token) (k : Key) (r : List Token) : Typ
   pub height : height_of_key k ≤ n
 
 key_ok : (n : ℕ) (ts : List Token) (x y : Key × List Token)
-    → got x ≡ Ok y
+    → read_is x ≡ Ok y
     → TakesKey n ts x.0 x.1
     → TakesKey n ts y.0 y.1
 key_ok n ts x y e t = subst (λ (y : Key × List Token). TakesKey n ts y.0 y.1) (ok_is x y e) t

@@ -3,8 +3,8 @@ use Rattle.js_tree.specs.declared.script.Expression.{Expression}
 use Rattle.js_tree.specs.Views.{expression_view}
 use Rattle.js_parser.specs.Expressions.{expression_of, UnlessMemory}
 use Rattle.js_parser.proofs.ExpressionLemmas.{expression_some, expression_none}
-use Rattle.cdp_session.proofs.ConditionLemmas.{refused-for}
 use Rattle.cdp_session.proofs.conditions.expression_of.Goals as goal
+use Rattle.js_parser.proofs.NodeTextLemmas.{unless_lacking}
 
 pub returns-in-Ok : goal.returns-in-Ok
 returns-in-Ok c =
@@ -19,4 +19,4 @@ pub returns-else-lacks_memory : goal.returns-else-lacks_memory
 returns-else-lacks_memory c =
     let f = c.in-Err.fault in
     let none = subst (λ t. UnlessMemory (expression_of t ≡ None) f) c.as_slice.ensures (expression_none {A = Expression} c.as_slice.result.now (λ e. expression_view e.tree) (Err f) c.in-Err.ensures.only) in
-    refused-for (expression_of c.args.text.now ≡ None) f none (sym c.lacks_memory.ensures ∙ c.if-lacks_memory.false)
+    unless_lacking (expression_of c.args.text.now ≡ None) f none (sym c.lacks_memory.ensures ∙ c.if-lacks_memory.false)

@@ -6,9 +6,10 @@ use Rattle.cdp_host.specs.Hosts.{NoneAttached, machine_run, meaning_with}
 use Rattle.cdp_host.specs.Programs.{is_over}
 use Rattle.cdp_host.specs.Protocols.{protocol}
 use Rattle.cdp_host.proofs.AdvanceLemmas.{free-told, ready-parts}
-use Rattle.cdp_host.proofs.PartLemmas.{same-program, still-going}
+use Rattle.cdp_host.proofs.PartLemmas.{still-going}
 use Rattle.cdp_host.proofs.RunLemmas.{advanced, gone-fit}
 use Rattle.cdp_host.proofs.host.Host.advance.Goals as goal
+use Rattle.js_machine.proofs.PlainLemmas.{same_program}
 
 pub advance-requires-clause-going : goal.advance-requires-clause-going
 advance-requires-clause-going c =
@@ -32,7 +33,7 @@ invariant_of-self-in-Err c =
     record {
       lines = c.self.invariant.lines;
       spots = c.self.invariant.spots;
-      code = same-program a.machine c.advance.new.machine c.in-Err.ensures.code ∙ c.self.invariant.code;
+      code = same_program a.machine c.advance.new.machine c.in-Err.ensures.code ∙ c.self.invariant.code;
       handed = λ works. absurd cc;
       kept = λ works. absurd cc;
       quiet = λ works. absurd cc;

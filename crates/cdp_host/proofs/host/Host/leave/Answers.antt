@@ -5,10 +5,11 @@ use Rattle.cdp_host.specs.Hosts.{HostState}
 use Rattle.cdp_host.specs.Protocols.{protocol}
 use Rattle.cdp_host.proofs.CallLemmas.{sound-seats, whose, works-at}
 use Rattle.cdp_host.proofs.LeaveLemmas.{OnlySeats, leaves-left, stays-same}
-use Rattle.cdp_host.proofs.PlacedLemmas.{fit-put, put-back}
+use Rattle.cdp_host.proofs.PlacedLemmas.{put-back}
 use Rattle.isolation.specs.Runs.{AllFit}
 use Rattle.cdp_host.proofs.ViewLemmas.{seen_as}
 use Rattle.cdp_host.proofs.host.Host.leave.Goals as goal
+use Rattle.isolation.proofs.RoomLemmas.{put-fits}
 
 pub invariant_of-self : goal.invariant_of-self
 invariant_of-self c =
@@ -23,7 +24,7 @@ invariant_of-self c =
     sound-seats a.scripts.items a.lines.items a.spots a.machine a.broken a.seats.items w a.seats.len a.fallback
     a.fallen.items
     c.self.invariant (works-at c.args.s a.broken a.seats.items c.self.invariant.alone held)
-    (subst (AllFit P) (sym back) (fit-put P c.args.s Left a.seats.items tt c.self.invariant.fit))
+    (subst (AllFit P) (sym back) (put-fits P c.args.s Left a.seats.items tt c.self.invariant.fit))
 
 pub settle-requires : goal.settle-requires
 settle-requires c =

@@ -6,9 +6,10 @@ use Rattle.cdp_host.specs.Hosts.{CarriesOn, HostState, NoneAttached}
 use Rattle.cdp_host.specs.Protocols.{protocol}
 use Rattle.cdp_host.specs.Watching.{owner_told}
 use Rattle.cdp_host.proofs.LossLemmas.{loss-stands, put-gone, told-fits, told-gone}
-use Rattle.cdp_host.proofs.PlacedLemmas.{fit-put, put-back}
+use Rattle.cdp_host.proofs.PlacedLemmas.{put-back}
 use Rattle.cdp_host.proofs.ViewLemmas.{seen_as}
 use Rattle.cdp_host.proofs.host.Host.tell_loss.Goals as goal
+use Rattle.isolation.proofs.RoomLemmas.{put-fits}
 
 pub invariant_of-self : goal.invariant_of-self
 invariant_of-self c =
@@ -32,7 +33,7 @@ invariant_of-self c =
       room = c.self.invariant.room;
       gone = c.self.invariant.gone;
       alone = λ fails. subst NoneAttached (sym back) (put-gone s (owner_told (seat_of s a.seats.items)) a.seats.items (told-gone (seat_of s a.seats.items) gone) (c.self.invariant.alone fails));
-      fit = subst (AllFit P) (sym back) (fit-put P s (owner_told (seat_of s a.seats.items)) a.seats.items (told-fits a.scripts.items (seat_of s a.seats.items) gone) c.self.invariant.fit);
+      fit = subst (AllFit P) (sym back) (put-fits P s (owner_told (seat_of s a.seats.items)) a.seats.items (told-fits a.scripts.items (seat_of s a.seats.items) gone) c.self.invariant.fit);
     }
 
 pub returns-clause-stands : goal.returns-clause-stands
