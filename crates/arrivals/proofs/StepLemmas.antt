@@ -1,9 +1,7 @@
 -- Every step keeps each part of a term with its source, and the frames of the state those of the term.
 use Rattle.std.proofs.Common.{◌≡◌, ℕ, Bool, true, false, List, [], ◌∷◌, Option, None, Some, length, refl, sym, ap, subst, ◌∙◌, inl, inr, if◌then◌else◌}
 use Rattle.std.specs.Prelude.{nat_eq, nat_lt, codes}
-use Rattle.std.proofs.lemmas.Bool.{eqb-true}
 use Rattle.js_heap.specs.declared.value.Addr.{Addr}
-use Rattle.js_heap.specs.declared.value.Addr.TheVariants.{Base, Scratch}
 use Rattle.js_heap.specs.declared.value.Value.{Value}
 use Rattle.js_heap.specs.declared.value.Value.TheVariants as values
 use Rattle.js_heap.specs.declared.built_in.Code.TheVariants as code
@@ -13,7 +11,7 @@ use Rattle.js_heap.specs.declared.cell.Cell.{Cell}
 use Rattle.js_heap.specs.declared.cell.Cell.TheVariants as cells
 use Rattle.js_heap.specs.declared.change.Counted.{Counted}
 use Rattle.js_heap.specs.World.{World, Tried, fine, effect, full, read_cell, make_cell, write_cell, is_evaluation}
-use Rattle.js_heap.specs.Values.{is_truthy, same_address}
+use Rattle.js_heap.specs.Values.{is_truthy}
 use Rattle.js_heap.specs.Operators.{binary_result, unary_result}
 use Rattle.js_semantics.specs.declared.form.Source.{Source}
 use Rattle.js_semantics.specs.declared.form.Source.TheVariants.{Script as script_source, Kept as kept_source}
@@ -36,6 +34,7 @@ use Rattle.locations.specs.declared.marks.Marked.{Marked}
 use Rattle.arrivals.specs.Belonging.{FirstReturns, Closes, FormBelongs, Belongs, AllBelong, Sources, behind_step, top_marks, sources_of, TermStands, AllStand, MoveStands, TreeBelongs, ProgramBelongs}
 use Rattle.arrivals.proofs.PartLemmas.{finished-belongs, settled-belongs, settle-belongs, BelongsAction, gives-belongs, fail-belongs, result-belongs, enter-belongs, block-belongs, chosen-belongs, kept-belongs, otherwise-belongs, loop-belongs, for_in-belongs, enter_for_of-belongs, list-belongs, turn-belongs, comma-belongs, compound-belongs, callee-belongs, object-belongs, catch-belongs}
 use Rattle.arrivals.proofs.ReturnLemmas.{settle-returns, WalkKeeps, walk-keeps}
+use Rattle.js_semantics.proofs.SameSources.{same_source-true}
 
 -- ---- bodies
 
@@ -116,18 +115,6 @@ tree-code R source node (part (script number names) now later) h =
     known-code R source (first_code None (first_code (function_in_all node now) (function_in_all node later))) h.0
     (within-belongs P None (function_in_all node now) (function_in_all node later) tt (function_in_all-belongs P node now h.1) (function_in_all-belongs P node later h.2))
 tree-code R source node (part f now later) h = absurd h
-
-same_address-true : (a b : Addr) → same_address a b ≡ true → a ≡ b
-same_address-true (Base m) (Base n) e = ap (λ i. Base i) (eqb-true m n e)
-same_address-true (Scratch m) (Scratch n) e = ap (λ i. Scratch i) (eqb-true m n e)
-same_address-true (Base m) (Scratch n) e = cc
-same_address-true (Scratch m) (Base n) e = cc
-
-same_source-true : (a b : Source) → same_source a b ≡ true → a ≡ b
-same_source-true (script_source m) (script_source n) e = ap (λ i. script_source i) (eqb-true m n e)
-same_source-true (kept_source a) (kept_source b) e = ap (λ x. kept_source x) (same_address-true a b e)
-same_source-true (script_source m) (kept_source b) e = cc
-same_source-true (kept_source a) (script_source n) e = cc
 
 at_if : (R : Sources) (other source : Source) (b : Bool) (o q : Option FunctionCode)
     → same_source other source ≡ b

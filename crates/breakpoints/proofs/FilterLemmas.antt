@@ -1,23 +1,19 @@
 -- Places whose groups are marked.
-use Rattle.std.proofs.Common.{◌≡◌, Bool, true, false, ◌&&◌, List, cond, ℕ, ◌+◌, ◌*◌, ◌%◌, nat_eq, BTreeSet, refl, sym, ap₂, ◌∙◌, arith}
+use Rattle.std.proofs.Common.{◌≡◌, Bool, true, false, ◌&&◌, List, cond, ℕ, ◌+◌, ◌*◌, ◌%◌, nat_eq, BTreeSet, refl, sym, ap₂, ◌∙◌}
 use Rattle.std.specs.BTreeMap.{is_at}
 use Rattle.std.specs.BTreeSet.{Updates, contains}
-use Rattle.std.proofs.lemmas.Bool.{and_parts}
-use Rattle.std.proofs.lemmas.Bool.Decides.{nat_tests}
+use Rattle.std.proofs.lemmas.Bool.{and_parts, eqb-true}
 use Rattle.cdp_text.specs.declared.position.Place.{Place}
 use Rattle.breakpoints.specs.Hits.{same_place}
 use Rattle.breakpoints.specs.PlaceFilter.{AreMarked, KeepsMarks, group_of, is_marked}
 use Rattle.breakpoints.proofs.IndexLemmas.{place_cmp, has-contains, same-tied}
-
-equal : (a b : ℕ) → nat_eq a b ≡ true → a ≡ b
-equal a b e = grind (arith, nat_tests, e)
 
 -- one place is in one group
 same-group : (p q : Place) → same_place p q ≡ true → group_of p ≡ group_of q
 same-group p q same =
     let column = and_parts (nat_eq p.script q.script && nat_eq p.pos.line q.pos.line) (nat_eq p.pos.col q.pos.col) same in
     let line = and_parts (nat_eq p.script q.script) (nat_eq p.pos.line q.pos.line) column.0 in
-    ap₂ (λ a b. (a * 8 + b) % 4096) (equal p.pos.line q.pos.line line.1) (equal p.pos.col q.pos.col column.1)
+    ap₂ (λ a b. (a * 8 + b) % 4096) (eqb-true p.pos.line q.pos.line line.1) (eqb-true p.pos.col q.pos.col column.1)
 
 -- a mark of a group is one of each place in it
 marked-as : (marks : List ℕ) (p q : Place)

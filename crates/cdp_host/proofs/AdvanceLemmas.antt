@@ -36,6 +36,7 @@ use Rattle.cdp_host.specs.Watching.{prints_last}
 use Rattle.cdp_host.proofs.EndingLemmas.{ending-none, ending-taken}
 use Rattle.cdp_host.proofs.PartLemmas.{arrives}
 use Rattle.cdp_host.proofs.StandingLemmas.{standing-taken}
+use Rattle.cdp_host.proofs.StepLemmas.{either}
 
 pub nexts-suc : (k : ℕ) (scripts : List Script) (r : Run) → nexts scripts (suc k) r ≡ next scripts (nexts scripts k r)
 nexts-suc zero scripts r = refl
@@ -54,10 +55,6 @@ one_more zero scripts r few = absurd (omega arith)
 one_more (suc j) scripts r few = let e : j ≡ suc j - 1 = omega arith in nexts-suc j scripts r ∙ ap (λ i. next scripts (nexts scripts i r)) e
 
 -- ---- steps of which there is nothing to tell
-
-either : (b : Bool) → (b || false) ≡ b
-either true = refl
-either false = refl
 
 -- a seat names a step that isn't the first exactly where a rule of its session does
 named_seat : (scripts : List Script) (t : Step) (seat : Seat Session)

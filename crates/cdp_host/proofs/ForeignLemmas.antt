@@ -1,5 +1,5 @@
 -- Ids of another session are none of a session's.
-use Rattle.std.proofs.Common.{◌≡◌, ℕ, ◌+◌, ◌<◌, ◌^◌, List, [], ◌∷◌, ◌++◌, Bool, true, false, not, is_some, bytes_eq, decimal, Option, Some, None, option_and_then, option_map, if◌then◌else◌, refl, sym, ap, ◌∙◌, arith}
+use Rattle.std.proofs.Common.{◌≡◌, ℕ, ◌+◌, ◌<◌, ◌^◌, List, [], ◌∷◌, ◌++◌, true, false, not, is_some, bytes_eq, decimal, Option, Some, None, option_and_then, option_map, if◌then◌else◌, refl, sym, ap, ◌∙◌, arith}
 use Rattle.std.specs.Option.{option_map_or}
 use Rattle.std.proofs.lemmas.Fmt.{decimal_injective}
 use Rattle.std.proofs.lemmas.Slice.Eq.{bytes_eq-Decides}
@@ -26,6 +26,7 @@ use Rattle.cdp_session.specs.Sessions.{Session}
 use Rattle.cdp_session.specs.Situations.{Situation}
 use Rattle.cdp_session.specs.declared.situation.Pause.{Pause}
 use Rattle.cdp_host.specs.Foreign.{IsOfAnother, IsRefusal, RefusesFrame, RefusesObject}
+use Rattle.std.proofs.lemmas.Bool.{false_from_ne_true}
 
 -- ---- texts of ids
 
@@ -50,14 +51,9 @@ same-session m r first second m_small r_small is =
     let fronts : decimal m ≡ decimal r = sym (ap front_of (front-number m first m_small)) ∙ ap (λ text. front_of (halves 46 text)) is ∙ ap front_of (front-number r second r_small) in
     sym (decimal_injective m r m_small r_small fronts)
 
--- a test that can't succeed fails
-fails : (b : Bool) → (b ≡ true → ⊥) → b ≡ false
-fails true never = absurd (never refl)
-fails false never = refl
-
 -- the numbers of two sessions are two texts
 other-number : (x : Session) (r : ℕ) → IsOfAnother r x → bytes_eq (decimal r) (decimal x.number) ≡ false
-other-number x r h = fails (bytes_eq (decimal r) (decimal x.number))
+other-number x r h = false_from_ne_true (bytes_eq (decimal r) (decimal x.number))
     (λ same. h.differs (decimal_injective r x.number h.small h.own_small ((bytes_eq-Decides (decimal r) (decimal x.number)).0 same)))
 
 -- the id of another session's object has no number for this one
@@ -70,7 +66,7 @@ no-number x r n h =
 other-frame : (x : Session) (r stop depth k d : ℕ)
     → IsOfAnother r x
     → bytes_eq (frame_id x.number k d) (frame_id r stop depth) ≡ false
-other-frame x r stop depth k d h = fails (bytes_eq (frame_id x.number k d) (frame_id r stop depth))
+other-frame x r stop depth k d h = false_from_ne_true (bytes_eq (frame_id x.number k d) (frame_id r stop depth))
     (λ same. h.differs (same-session x.number r (decimal k ++ (point ++ decimal d)) (decimal stop ++ (point ++ decimal depth)) h.own_small h.small
     ((bytes_eq-Decides (frame_id x.number k d) (frame_id r stop depth)).0 same)))
 

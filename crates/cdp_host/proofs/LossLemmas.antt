@@ -1,6 +1,6 @@
 -- Owners who are told of a loss.
 use Rattle.std.proofs.Common.{◌≡◌, ℕ, zero, suc, List, [], ◌∷◌, Bool, true, false, refl, ap, sym, subst, ◌∙◌}
-use Rattle.std.proofs.lemmas.Bool.{or_parts}
+use Rattle.std.proofs.lemmas.Bool.{or_parts, or_from}
 use Rattle.isolation.specs.Histories.{Detach, apply, detach, with_seat}
 use Rattle.isolation.specs.Seats.{is_attached, put, put_in, seat_of, some, waits_for_report}
 use Rattle.isolation.specs.Standing.{BrokenAs, StandsAs}
@@ -10,7 +10,6 @@ use Rattle.isolation.specs.declared.seat.Seat.{Seat}
 use Rattle.isolation.specs.declared.seat.Seat.TheVariants.{Attached, Lost, Left}
 use Rattle.isolation.proofs.LongerLemmas.{call-program}
 use Rattle.isolation.proofs.BrokenLemmas.{unset-at, unset-put}
-use Rattle.isolation.proofs.SomeLemmas.{or-false}
 use Rattle.isolation.proofs.StandingLemmas.{fallen-attached, stands-detach-fallen, stands-detach-left, stands-detach-lost, whole-none}
 use Rattle.js_tree.specs.declared.script.Script.{Script}
 use Rattle.js_semantics.specs.Run.{Run}
@@ -49,10 +48,10 @@ put_gone_in : (i : ℕ) (new : Seat Session) (seats : List (Seat Session))
     → some is_attached seats ≡ false
     → some is_attached (put_in i new seats) ≡ false
 put_gone_in i new [] gone none = none
-put_gone_in zero new (seat ∷ seats) gone none = or-false (is_attached new) (some is_attached seats) gone (or_parts (is_attached seat) (some is_attached seats) none).1
+put_gone_in zero new (seat ∷ seats) gone none = or_from (is_attached new) (some is_attached seats) gone (or_parts (is_attached seat) (some is_attached seats) none).1
 put_gone_in (suc i) new (seat ∷ seats) gone none =
     let parts = or_parts (is_attached seat) (some is_attached seats) none in
-    or-false (is_attached seat) (some is_attached (put_in i new seats)) parts.0 (put_gone_in i new seats gone parts.1)
+    or_from (is_attached seat) (some is_attached (put_in i new seats)) parts.0 (put_gone_in i new seats gone parts.1)
 
 -- nor among all seats
 pub put-gone : (s : ℕ) (new : Seat Session) (seats : List (Seat Session))

@@ -1,6 +1,6 @@
 -- One seat among others: where it stands, and what a change of it keeps.
-use Rattle.std.proofs.Common.{◌≡◌, ℕ, zero, suc, ◌-◌, ◌<◌, ◌≤◌, List, [], ◌∷◌, ◌++◌, length, take, slice_index_or, slice_set, Bool, false, ◌||◌, refl, ap, sym, ◌∙◌, arith}
-use Rattle.std.proofs.lemmas.Bool.{or_parts}
+use Rattle.std.proofs.Common.{◌≡◌, ℕ, zero, suc, ◌-◌, ◌<◌, ◌≤◌, List, [], ◌∷◌, ◌++◌, length, take, slice_index_or, slice_set, false, refl, ap, sym, ◌∙◌, arith}
+use Rattle.std.proofs.lemmas.Bool.{or_parts, or_from}
 use Rattle.isolation.specs.Seats.{put, put_in, seat_in, seat_of, some}
 use Rattle.isolation.specs.Standing.{fell}
 use Rattle.isolation.specs.declared.seat.Seat.{Seat}
@@ -83,9 +83,6 @@ put-back n s new seats news rest full is = given-back n news rest (full ∙ sym 
 
 -- ---- who fell
 
-fell-more-by : (b c : Bool) → b ≡ false → c ≡ false → (b || c) ≡ false
-fell-more-by b c first rest = rw first rest
-
 -- with one more that didn't fall
 pub fell-more : {X : Type 0}
     → (new : Seat X) (seats : List (Seat X))
@@ -95,4 +92,4 @@ pub fell-more : {X : Type 0}
 fell-more new [] stands none = rw stands refl
 fell-more new (seat ∷ seats) stands none =
     let parts = or_parts (fell seat) (some fell seats) none in
-    fell-more-by (fell seat) (some fell (seats ++ new ∷ [])) parts.0 (fell-more new seats stands parts.1)
+    or_from (fell seat) (some fell (seats ++ new ∷ [])) parts.0 (fell-more new seats stands parts.1)

@@ -52,7 +52,7 @@ pub causes-step : (x : Session) (kind : StepKind) (depth : ℕ) (s : Standing) (
     → is_some (cause_of s a x) ≡ ends_step kind depth a
 causes-step x kind depth s a alone = rw (alone.rules.enabled, alone.rules.heeded, alone.rules.no_throws) (by_place x kind depth s a a.place alone)
 
-either : (b : Bool) → (b || false) ≡ b
+pub either : (b : Bool) → (b || false) ≡ b
 either true = refl
 either false = refl
 

@@ -18,10 +18,10 @@ use js_frames::throws::thrown;
 use js_machine::machine::Machine;
 use js_operations::context::Context;
 use js_semantics::form::{Mark, Source};
+use js_semantics::offsets::offset_of;
 use js_steps::stack::Stack;
 use js_steps::task::Point;
 use js_tree::script::Script;
-use locations::offsets::offset_of;
 use stepping::Arrival;
 
 /// The place of a mark in a script whose lines begin so.

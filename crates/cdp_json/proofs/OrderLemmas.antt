@@ -1,10 +1,10 @@
 -- The order of members, as places and as the members themselves.
 use Rattle.std.proofs.Common.{◌≡◌, ℕ, suc, ◌+◌, ◌-◌, ◌≤◌, ◌<◌, List, [], ◌∷◌, ◌++◌, length, get_or, map, zero, refl, sym, ap, ◌∙◌, arith, subst, Bor, Ordering, Less, Equal, Greater}
-use Rattle.std.specs.Prelude.{Bool, true, false, not, ◌&&◌, Some, fold, All}
+use Rattle.std.specs.Prelude.{true, false, not, ◌&&◌, Some, fold, All}
 use Rattle.std.specs.Ordering.{is_gt, is_some_and, nat_cmp, match_ordering, ordering_reverse, ordering_then}
 use Rattle.std.specs.Cmp.{nat_cmp_is, tied_itself, upto}
 use Rattle.std.specs.Cmp.Lexicographic.{lists_agrees, slice_cmp, slice_partial_cmp}
-use Rattle.std.proofs.lemmas.Bool.{and_parts, false≢true, true≢false}
+use Rattle.std.proofs.lemmas.Bool.{and_parts, true≢false, not-true}
 use Rattle.std.proofs.lemmas.Cmp.{nat_list_cmp_total}
 use Rattle.std.specs.List.{range_with_len}
 use Rattle.std.proofs.lemmas.List.Sums.{fold-append}
@@ -142,15 +142,11 @@ insert_last key x a (suc n) below =
     (ap is_gt (sym (nat_list_cmp_total.antisymm (key a) (key x))) ∙ below a (omega arith) (omega arith))
     (insert_last key x (a + 1) n (λ i from to. below i (omega (arith, from)) (omega (arith, to))))
 
-risen : (b : Bool) → not b ≡ true → b ≡ false
-risen false h = refl
-risen true h = absurd (false≢true h)
-
 next-at_most : (keys : List (List ℕ)) (i : ℕ) → ascends keys ≡ true → suc i < length keys
     → is_gt (slice_cmp nat_cmp (key_at keys i) (key_at keys (suc i))) ≡ false
 next-at_most [] i h within = absurd (omega (arith, within))
 next-at_most (key ∷ []) i h within = absurd (omega (arith, within))
-next-at_most (key ∷ next ∷ keys) zero h within = risen (is_gt (slice_cmp nat_cmp key next)) (and_parts _ _ h).0
+next-at_most (key ∷ next ∷ keys) zero h within = not-true (is_gt (slice_cmp nat_cmp key next)) (and_parts _ _ h).0
 next-at_most (key ∷ next ∷ keys) (suc i) h within = next-at_most (next ∷ keys) i (and_parts _ _ h).1 (omega (arith, within))
 
 -- by how many places they are apart

@@ -132,10 +132,6 @@ lt_test : (a b : ℕ) (x : Bool) → nat_lt a b ≡ x → b ≤ a → x ≡ fals
 lt_test a b true is many = let e = ltb-true a b is in absurd (omega (arith, e, many))
 lt_test a b false is many = refl
 
--- what isn't less
-pub not-below : (a b : ℕ) → b ≤ a → nat_lt a b ≡ false
-not-below a b many = lt_test a b (nat_lt a b) refl many
-
 -- the same of texts that begin with these
 pub unfit-as : (xs ys all : List (List ℕ)) → all ≡ xs ++ ys → fits xs ≡ false → fits all ≡ false
 unfit-as xs ys all is unfit = ap fits is ∙ unfit-more xs ys unfit

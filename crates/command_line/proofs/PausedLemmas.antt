@@ -1,6 +1,6 @@
 -- Where a run leaves a program paused: exactly where its last step is named, and where it makes none, as it was.
-use Rattle.std.proofs.Common.{◌≡◌, ℕ, zero, suc, List, [], ◌∷◌, Bool, true, false, ◌&&◌, ◌||◌, if◌then◌else◌, None, refl, ap, sym, ◌∙◌}
-use Rattle.std.proofs.lemmas.Bool.{and_parts}
+use Rattle.std.proofs.Common.{◌≡◌, ℕ, zero, suc, List, [], ◌∷◌, Bool, true, false, ◌||◌, if◌then◌else◌, None, refl, ap, sym, ◌∙◌}
+use Rattle.std.proofs.lemmas.Bool.{and_parts, and_right, or_right}
 use Rattle.isolation.specs.Histories.{ran}
 use Rattle.isolation.specs.Meanings.{Meaning, after_run, after_steps, is_enabled_seat, is_named, is_paused, kept, next_number, resume, resumed_seat, seat_behind, session_behind, settle, step, stops_for, survives, told_at, with_seats}
 use Rattle.isolation.specs.Protocols.{Protocol}
@@ -40,13 +40,9 @@ stops-enabled {X = X} P enabled number moment t (Attached x) stops =
 stops-enabled P enabled number moment t (Lost loss is_reported is_told) stops = absurd cc
 stops-enabled P enabled number moment t Left stops = absurd cc
 
-or_right : (b : Bool) → (b || true) ≡ true
-or_right true = refl
-or_right false = refl
-
 or_more : (a b c d : Bool) → (a || b) ≡ true → (a ≡ true → c ≡ true) → (b ≡ true → d ≡ true) → (c || d) ≡ true
 or_more true b c d is first other = ap (λ e. e || d) (first refl)
-or_more false b c d is first other = ap (λ e. c || e) (other is) ∙ or_right c
+or_more false b c d is first other = ap (λ e. c || e) (other is) ∙ or_right c true refl
 
 -- where one seat is so, one is so behind what was done to each
 some-each : {X : Type 0}
@@ -163,14 +159,10 @@ run-phase {C} {T} {Q} {X} P moment gone n m =
 
 -- ---- the sessions of a host
 
-and_right : (b : Bool) → (b && false) ≡ false
-and_right true = refl
-and_right false = refl
-
 enabled_by : (t : Step) (x : Session) (b : Bool) → x.rules.enabled ≡ b → names t x ≡ true → b ≡ true
 enabled_by t x true is named = refl
 enabled_by t x false is named =
-    let e : names t x ≡ false = rw is (and_right t.first) in
+    let e : names t x ≡ false = rw is (and_right t.first false refl) in
     absurd cc
 
 -- a session without the debugger names no step, and being told changes none of its rules but its requests

@@ -3,28 +3,14 @@
 ghost use Rattle.std.specs.Prelude.{◌≡◌, ◌^◌, ◌<◌, ◌≤◌, length, map, option_map, All, IfSome, Some};
 ghost use Rattle.std.specs.List.{Contains};
 ghost use Rattle.cdp_text.specs.Position.{line_starts};
-ghost use Rattle.js_semantics.specs.Frames.{offset_of};
 ghost use Rattle.frames_scopes.specs.Places.{pos_in, shown_place, starts_of};
 ghost use Rattle.js_tree.specs.Scripts.{script_numbered};
 
 use cdp_text::line_table::LineTable;
 use cdp_text::position::{Place, Pos};
 use js_semantics::form::{Mark, Source};
-use js_tree::node::NodeId;
+use js_semantics::offsets::offset_of;
 use js_tree::script::Script;
-use js_tree::span::span;
-
-/// Where a mark of a script is, in code units.
-fn offset_of(script: &Script, mark: Mark) -> usize
-    ensures offset { result ≡ offset_of script.now.spans mark }
-    ensures within { result ≤ length script.now.source }
-{
-    match mark {
-        Mark::Beginning => 0,
-        Mark::Start(node) => span(script, NodeId(node)).start,
-        Mark::BeforeEnd(node, back) => span(script, NodeId(node)).end.saturating_sub(back),
-    }
-}
 
 /// The line and the column of a mark of a script.
 fn pos_in(script: &Script, lines: &LineTable, mark: Mark) -> Pos

@@ -1,6 +1,6 @@
 -- Hosts that want of memory in a run broke, and the seats that they keep.
 use Rattle.std.proofs.Common.{◌≡◌, ℕ, zero, suc, ◌+◌, List, [], ◌∷◌, length, Bool, true, false, ◌||◌, if◌then◌else◌, None, refl, ap, sym, ◌∙◌, arith}
-use Rattle.std.proofs.lemmas.Bool.{or_parts}
+use Rattle.std.proofs.lemmas.Bool.{or_parts, or_from}
 use Rattle.isolation.specs.Seats.{each, fallen, is_attached, is_listed, numbers_from, put, put_in, reported, seat_in, seat_of, some, waits_for_report, without, without_from}
 use Rattle.isolation.specs.Protocols.{Protocol}
 use Rattle.isolation.specs.Meanings.{Meaning, is_enabled_seat, is_paused, resume, resumed_seat, settle, with_seats}
@@ -10,9 +10,6 @@ use Rattle.isolation.specs.Standing.{BrokenAs, StandsAs, broken_seat, fallen_in,
 use Rattle.isolation.specs.declared.seat.Seat.{Seat}
 use Rattle.isolation.specs.declared.seat.Seat.TheVariants.{Attached, Lost, Left}
 use Rattle.isolation.proofs.FallenLemmas.{itself, mids-less, without-below}
-
-or-none : (a b : Bool) → a ≡ false → b ≡ false → (a || b) ≡ false
-or-none a b first rest = rw first rest
 
 -- ---- how many there are
 
@@ -56,10 +53,10 @@ unset-put-in : {X : Type 0} → (f : Seat X → Bool) (i : ℕ) (new : Seat X) (
     → some f (put_in i new seats) ≡ false
 unset-put-in f i new [] gone none = none
 unset-put-in f zero new (seat ∷ seats) gone none =
-    or-none (f new) (some f seats) gone (or_parts (f seat) (some f seats) none).1
+    or_from (f new) (some f seats) gone (or_parts (f seat) (some f seats) none).1
 unset-put-in f (suc i) new (seat ∷ seats) gone none =
     let parts = or_parts (f seat) (some f seats) none in
-    or-none (f seat) (some f (put_in i new seats)) parts.0 (unset-put-in f i new seats gone parts.1)
+    or_from (f seat) (some f (put_in i new seats)) parts.0 (unset-put-in f i new seats gone parts.1)
 
 -- nor with another seat that isn't
 pub unset-put : {X : Type 0} → (f : Seat X → Bool) (s : ℕ) (new : Seat X) (seats : List (Seat X)) → f new ≡ false
@@ -85,7 +82,7 @@ unset-each : {X : Type 0} → (f : Seat X → Bool) (g : Seat X → Seat X) → 
     → some f (each g seats) ≡ false
 unset-each f g unset [] = refl
 unset-each f g unset (seat ∷ seats) =
-    or-none (f (g seat)) (some f (each g seats)) (unset seat) (unset-each f g unset seats)
+    or_from (f (g seat)) (some f (each g seats)) (unset seat) (unset-each f g unset seats)
 
 -- nobody is attached there
 pub broken-alone : {X : Type 0} → (seats : List (Seat X)) → some is_attached (each broken_seat seats) ≡ false

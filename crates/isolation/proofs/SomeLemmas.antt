@@ -1,17 +1,9 @@
 -- Loops that look for a seat of some kind, or for a flag that is set.
 use Rattle.std.proofs.Common.{◌≡◌, ℕ, zero, suc, ◌+◌, ◌<◌, ◌≤◌, List, [], ◌∷◌, length, take, Bool, true, false, ◌||◌, refl, ap, sym, ◌∙◌, arith, slice_index_or}
-use Rattle.std.proofs.lemmas.Bool.{or_parts}
+use Rattle.std.proofs.lemmas.Bool.{or_parts, or_from, or_right}
 use Rattle.isolation.specs.Passes.{any_set}
 use Rattle.isolation.specs.Seats.{some}
 use Rattle.isolation.specs.declared.seat.Seat.{Seat}
-
-or-true : (a : Bool) → (a || true) ≡ true
-or-true true = refl
-or-true false = refl
-
-pub or-false : (a b : Bool) → a ≡ false → b ≡ false → (a || b) ≡ false
-or-false true b first second = absurd cc
-or-false false b first second = second
 
 -- ---- seats
 
@@ -23,7 +15,7 @@ pub some-found : {X : Type 0}
     → some f seats ≡ true
 some-found f i [] d small is = absurd (omega (arith, small))
 some-found f zero (seat ∷ seats) d small is = ap (λ b. b || some f seats) is
-some-found f (suc i) (seat ∷ seats) d small is = ap (λ b. f seat || b) (some-found f i seats d (omega (arith, small)) is) ∙ or-true (f seat)
+some-found f (suc i) (seat ∷ seats) d small is = ap (λ b. f seat || b) (some-found f i seats d (omega (arith, small)) is) ∙ or_right (f seat) true refl
 
 -- one more isn't
 none_next : {X : Type 0} → (f : Seat X → Bool) (i : ℕ) (seats : List (Seat X)) (d : Seat X)
@@ -32,10 +24,10 @@ none_next : {X : Type 0} → (f : Seat X → Bool) (i : ℕ) (seats : List (Seat
     → f (slice_index_or seats i d) ≡ false
     → some f (take (suc i) seats) ≡ false
 none_next f i [] d small before is = absurd (omega (arith, small))
-none_next f zero (seat ∷ seats) d small before is = or-false (f seat) false is refl
+none_next f zero (seat ∷ seats) d small before is = or_from (f seat) false is refl
 none_next f (suc i) (seat ∷ seats) d small before is =
     let parts = or_parts (f seat) (some f (take i seats)) before in
-    or-false (f seat) (some f (take (suc i) seats)) parts.0 (none_next f i seats d (omega (arith, small)) parts.1 is)
+    or_from (f seat) (some f (take (suc i) seats)) parts.0 (none_next f i seats d (omega (arith, small)) parts.1 is)
 
 pub none-more : {X : Type 0} → (f : Seat X → Bool) (i : ℕ) (seats : List (Seat X)) (d : Seat X)
     → i < length seats
@@ -54,7 +46,7 @@ none-done f i [] done before = refl
 none-done f zero (seat ∷ seats) done before = absurd (omega (arith, done))
 none-done f (suc i) (seat ∷ seats) done before =
     let parts = or_parts (f seat) (some f (take i seats)) before in
-    or-false (f seat) (some f seats) parts.0 (none-done f i seats (omega (arith, done)) parts.1)
+    or_from (f seat) (some f seats) parts.0 (none-done f i seats (omega (arith, done)) parts.1)
 
 -- ---- flags
 
@@ -64,7 +56,7 @@ pub set-found : (i : ℕ) (flags : List Bool) (d : Bool)
     → any_set flags ≡ true
 set-found i [] d small is = absurd (omega (arith, small))
 set-found zero (flag ∷ flags) d small is = ap (λ b. b || any_set flags) is
-set-found (suc i) (flag ∷ flags) d small is = ap (λ b. flag || b) (set-found i flags d (omega (arith, small)) is) ∙ or-true flag
+set-found (suc i) (flag ∷ flags) d small is = ap (λ b. flag || b) (set-found i flags d (omega (arith, small)) is) ∙ or_right flag true refl
 
 unset_next : (i : ℕ) (flags : List Bool) (d : Bool)
     → i < length flags
@@ -72,10 +64,10 @@ unset_next : (i : ℕ) (flags : List Bool) (d : Bool)
     → slice_index_or flags i d ≡ false
     → any_set (take (suc i) flags) ≡ false
 unset_next i [] d small before is = absurd (omega (arith, small))
-unset_next zero (flag ∷ flags) d small before is = or-false flag false is refl
+unset_next zero (flag ∷ flags) d small before is = or_from flag false is refl
 unset_next (suc i) (flag ∷ flags) d small before is =
     let parts = or_parts flag (any_set (take i flags)) before in
-    or-false flag (any_set (take (suc i) flags)) parts.0 (unset_next i flags d (omega (arith, small)) parts.1 is)
+    or_from flag (any_set (take (suc i) flags)) parts.0 (unset_next i flags d (omega (arith, small)) parts.1 is)
 
 pub unset-more : (i : ℕ) (flags : List Bool) (d : Bool)
     → i < length flags
@@ -89,4 +81,4 @@ unset-done i [] done before = refl
 unset-done zero (flag ∷ flags) done before = absurd (omega (arith, done))
 unset-done (suc i) (flag ∷ flags) done before =
     let parts = or_parts flag (any_set (take i flags)) before in
-    or-false flag (any_set flags) parts.0 (unset-done i flags (omega (arith, done)) parts.1)
+    or_from flag (any_set flags) parts.0 (unset-done i flags (omega (arith, done)) parts.1)

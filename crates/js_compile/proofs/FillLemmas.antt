@@ -24,8 +24,8 @@ use Rattle.js_compile.specs.Grown.{IsEntryAt, IsPlacedAt, IsPlacedNode, HasPlace
 use Rattle.js_compile.specs.Index.{number_at, node_of, body_node, function_node_by, function_node, number_with, code_found, IsFilled}
 use Rattle.js_code.proofs.TreeLemmas.{kids-some, kids-end, literal-tree, node-at}
 use Rattle.js_compile.proofs.IndexLemmas.{first_first, kid_some, found_in_node, found_before}
-use Rattle.js_world.proofs.WeightLemmas.{true_lt}
 use Rattle.js_world.proofs.GrowLemmas.{false_le}
+use Rattle.std.proofs.lemmas.Bool.{ltb-true}
 
 -- ---- nodes in which nothing is found
 
@@ -140,7 +140,7 @@ later_some : (ts : List (List ℕ)) (t : NodeTable) (a b : ℕ)
     → nat_lt a b ≡ true
     → (body : Term) × (functions : Terms) × (trees ts t a b ≡ more body functions)
 later_some ts t a b h e =
-    let l = true_lt a b e in
+    let l = ltb-true a b e in
     (tree ts t (kid_at t a), terms (tree ts t) (kids_between t (a + 1) b), ap (terms (tree ts t)) (kids-some t a b (kid_at t a) l (kid_some t a (omega arith))))
 
 entry_code : (ts : List (List ℕ)) (t : NodeTable) (n : ℕ) (node : Node) (e : FunctionEntry)

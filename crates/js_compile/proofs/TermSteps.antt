@@ -1,5 +1,5 @@
 -- The steps by which a term gets its node.
-use Rattle.std.proofs.Common.{◌≡◌, ℕ, zero, suc, ◌+◌, ◌<◌, Bool, true, false, ◌&&◌, List, [], ◌∷◌, ◌++◌, length, take, get_or, Option, None, Some, Result, Ok, Err, OnOk, refl, sym, ap, ◌∙◌, subst, arith}
+use Rattle.std.proofs.Common.{◌≡◌, ℕ, zero, suc, ◌+◌, ◌<◌, false, ◌&&◌, List, [], ◌∷◌, ◌++◌, length, take, get_or, Option, None, Some, Result, Ok, Err, OnOk, refl, sym, ap, ◌∙◌, subst, arith}
 use Rattle.std.specs.Prelude.{IfOk, slice_get}
 use Rattle.std.specs.Global.{Vec, Box}
 use Rattle.std.specs.declared.alloc.AllocError.{AllocError}
@@ -22,6 +22,7 @@ use Rattle.js_compile.specs.Added.{IsNodeAdded}
 use Rattle.js_compile.specs.Plain.{is_plain_form, is_plain, are_plain}
 use Rattle.js_compile.specs.Grown.{Extends, Keeps, Grows, Enters, HasTree, HaveTrees, Holds, HoldsAll}
 use Rattle.js_compile.proofs.GrownLemmas.{keeps_twice, grows_twice, below_more, begins_length, node_keeps, node_tree, literal_node, trees_stay, trees_go_on, trees_more}
+use Rattle.std.proofs.lemmas.Bool.{and_right}
 
 -- ---- values
 
@@ -73,10 +74,6 @@ part_tree ts us t u v o e n now later f g h s a xs ys x y =
     let k : Enters us u f (Some e) = subst (λ (x : Option Entry). Enters us u f x) s h in
     node_tree us u v e.op e.info n now later f xs ys a k (trees_stay ts us t u now xs g x) (trees_stay ts us t u later ys g y)
 
-and_false : (b : Bool) → (b && false) ≡ false
-and_false true = refl
-and_false false = refl
-
 -- ---- terms
 
 pub done_holds : (ts : List (List ℕ)) (t : NodeTable) (n : ℕ) (x : Term) (v : Value)
@@ -101,7 +98,7 @@ pub now_none : (ts : List (List ℕ)) (t : NodeTable) (o : Option (Vec ℕ)) (x 
     → HoldsAll ts t (terms_view now) o
     → is_plain (term_view x) ≡ false
 now_none ts t o x f now later e n h =
-    ap is_plain (ap term_view e ∙ view_part f now later) ∙ ap (λ b. is_plain_form f.value && (b && are_plain (terms_view later))) (parts_none ts t o (terms_view now) n h) ∙ and_false (is_plain_form f.value)
+    ap is_plain (ap term_view e ∙ view_part f now later) ∙ ap (λ b. is_plain_form f.value && (b && are_plain (terms_view later))) (parts_none ts t o (terms_view now) n h) ∙ and_right (is_plain_form f.value) false refl
 
 pub later_none : (ts : List (List ℕ)) (t : NodeTable) (o : Option (Vec ℕ)) (x : Term) (f : Box Form) (now later : Terms)
     → x ≡ views.Part f now later
@@ -110,7 +107,7 @@ pub later_none : (ts : List (List ℕ)) (t : NodeTable) (o : Option (Vec ℕ)) (
     → is_plain (term_view x) ≡ false
 later_none ts t o x f now later e n h =
     ap is_plain (ap term_view e ∙ view_part f now later) ∙ ap (λ b. is_plain_form f.value && (are_plain (terms_view now) && b)) (parts_none ts t o (terms_view later) n h)
-    ∙ ap (λ b. is_plain_form f.value && b) (and_false (are_plain (terms_view now))) ∙ and_false (is_plain_form f.value)
+    ∙ ap (λ b. is_plain_form f.value && b) (and_right (are_plain (terms_view now)) false refl) ∙ and_right (is_plain_form f.value) false refl
 
 parts_some : (ts : List (List ℕ)) (t : NodeTable) (o : Option (Vec ℕ)) (ns : Vec ℕ) (xs : semantics.Terms)
     → o ≡ Some ns
@@ -182,7 +179,7 @@ one_none : (items : List Term) (i : ℕ) (d : Term)
     → are_plain (listed_view items) ≡ false
 one_none [] i d l h = absurd (omega arith)
 one_none (x ∷ items) zero d l h = ap (λ b. b && are_plain (listed_view items)) h
-one_none (x ∷ items) (suc i) d l h = ap (λ b. is_plain (term_view x) && b) (one_none items i d (omega arith) h) ∙ and_false (is_plain (term_view x))
+one_none (x ∷ items) (suc i) d l h = ap (λ b. is_plain (term_view x) && b) (one_none items i d (omega arith) h) ∙ and_right (is_plain (term_view x)) false refl
 
 pub items_none : (ts : List (List ℕ)) (t : NodeTable) (items all : List Term) (i : ℕ) (x : Term) (o : Option ℕ)
     → i < length items

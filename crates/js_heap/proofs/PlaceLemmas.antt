@@ -7,6 +7,7 @@ use Rattle.js_heap.specs.declared.cell.Binding.{Binding}
 use Rattle.js_heap.specs.Keys.{same_units, stands_before, index_of_key, has_key, with_value, placed, without_key, put_property, assigned}
 use Rattle.js_heap.specs.Cells.{bound}
 use Rattle.js_heap.specs.Places.{key_place, name_place, new_place}
+use Rattle.std.proofs.lemmas.Bool.{lt-ltb}
 
 pub one_plus : (n : ℕ) → 1 + n ≡ suc n
 one_plus n = omega arith
@@ -94,11 +95,8 @@ bound-past (b ∷ bs) n v h = bound_none (same_units b.name n) b bs n v h (bound
 
 -- ---- a property that is there
 
-pub lt_true : (m n : ℕ) → m < n → nat_lt m n ≡ true
-lt_true m n h = grind arith
-
 has-true : (ps : List Property) (key : List ℕ) → key_place ps key < length ps → has_key ps key ≡ true
-has-true ps key h = has-place ps key ∙ lt_true (key_place ps key) (length ps) h
+has-true ps key h = has-place ps key ∙ lt-ltb (key_place ps key) (length ps) h
 
 pub put_if : (b : Bool) (ps : List Property) (key : List ℕ) (v : Value)
     → b ≡ true

@@ -2,7 +2,7 @@
 use Rattle.std.proofs.Common.{◌≡◌, inl, inr, ℕ, zero, suc, ◌+◌, ◌≤◌, Bool, true, false, List, [], ◌∷◌, length, Option, Some, None, refl, sym, ap, subst, ◌∙◌, arith}
 use Rattle.std.specs.Prelude.{nat_eq, if◌then◌else◌}
 use Rattle.std.specs.List.{range_with_len}
-use Rattle.std.proofs.lemmas.Bool.{eqb-true, eqb-false}
+use Rattle.std.proofs.lemmas.Bool.{eqb-true, eqb-false, false_from_ne_true}
 use Rattle.std.proofs.lemmas.List.{get_or_past}
 use denote.Enum.Bare.{sameb, same_true, true_same}
 use Rattle.js_lexer.specs.declared.token.TokenKind.{TokenKind}
@@ -23,13 +23,9 @@ next_true : (kind : TokenKind) (next : Option Token) → IsNext (fixed kind) nex
 next_true kind None h = absurd h
 next_true kind (Some t) h = true_same the_type t.kind kind h
 
-never : (b : Bool) → (b ≡ true → ⊥) → b ≡ false
-never true h = absurd (h refl)
-never false h = refl
-
 next_false : (kind : TokenKind) (next : Option Token) → (IsNext (fixed kind) next → ⊥) → is_kind kind next ≡ false
 next_false kind None h = refl
-next_false kind (Some t) h = never (sameb the_type t.kind kind) (λ e. h (same_true the_type tt t.kind kind e))
+next_false kind (Some t) h = false_from_ne_true (sameb the_type t.kind kind) (λ e. h (same_true the_type tt t.kind kind e))
 
 left_there : (kind : TokenKind) (ts : List Token) → IsNext (fixed kind) (head_of ts) → left_behind kind ts ≡ tail_of ts
 left_there kind ts h = rw (next_true kind (head_of ts) h) refl

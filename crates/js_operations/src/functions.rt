@@ -161,7 +161,7 @@ pub fn new_scope<W: World>(
 }
 
 /// A copy of a function's name.
-fn copy_of_name(alloc: Global, name: &FunctionName) -> Result<FunctionName, AllocError>
+pub fn copy_of_name(alloc: Global, name: &FunctionName) -> Result<FunctionName, AllocError>
     ensures { IfOk result (λ copy. (names : List (List ℕ)) → name_text names copy ≡ name_text names name.now) }
 {
     match name {

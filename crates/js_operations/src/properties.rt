@@ -160,6 +160,8 @@ pub fn remove_index<W: World>(
 // ---- keys that are names
 
 /// Writes a property whose key is a name.
+#[cold]
+#[inline(never)]
 pub fn put_member<W: World>(
     alloc: Global,
     world: &mut W,

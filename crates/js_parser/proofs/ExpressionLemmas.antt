@@ -50,9 +50,6 @@ short_some : (read : TreeReader) (e : Expression) (source : List ℕ) (short : B
 short_some read e source true is r = r
 short_some read e source false is r = absurd cc
 
-le_test : (a b : ℕ) → a ≤ b → nat_le a b ≡ true
-le_test a b le = le-leb a b le
-
 some_by : (Is : List Token → Expression → Type 0) (read : TreeReader)
     → Reads Is read
     → (source : List ℕ) (e : Expression)
@@ -60,8 +57,8 @@ some_by : (Is : List Token → Expression → Type 0) (read : TreeReader)
     → tree_by read source ≡ Some e
 some_by Is read reads source e i =
     let r : read (tokens_of source) ≡ Ok e = reads.complete (tokens_of source) e i.0.is i.1 in
-    short_some read e source (nat_le (length source) MOST_UNITS) (le_test (length source) MOST_UNITS i.0.short)
-    (good_some read e (bad_place source) (tokens_of source) i.0.all_good (le_test (length (tokens_of source)) MOST_TOKENS i.0.few) r)
+    short_some read e source (nat_le (length source) MOST_UNITS) (le-leb (length source) MOST_UNITS i.0.short)
+    (good_some read e (bad_place source) (tokens_of source) i.0.all_good (le-leb (length (tokens_of source)) MOST_TOKENS i.0.few) r)
 
 -- ---- a source without one
 

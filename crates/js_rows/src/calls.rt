@@ -18,7 +18,6 @@ use crate::answers::{replied, stopped};
 use crate::codes::{Place, function_at};
 use crate::declared::with_functions;
 use crate::entries::function_entry;
-use cdp_text::units::Units;
 use js_code::node::FunctionEntry;
 use js_code::table::NodeTable;
 use js_heap::built_in::{BuiltIn, Code, ErrorClass};
@@ -29,7 +28,7 @@ use js_operations::built_ins::{built_in_call, line_value};
 use js_operations::context::Context;
 use js_operations::errors::fail_with;
 use js_operations::frame::Frame;
-use js_operations::functions::new_scope;
+use js_operations::functions::{copy_of_name, new_scope};
 use js_operations::shown::logged;
 use js_semantics::form::{Mark, Source};
 use js_semantics::limits::MOST_FRAMES;
@@ -117,20 +116,6 @@ fn call_scope<W: World>(
 }
 
 // ---- a callee's cell
-
-/// A copy of a function's name.
-fn copy_of_name(alloc: Global, name: &FunctionName) -> Result<FunctionName, AllocError>
-    ensures { IfOk result (λ copy. (names : List (List ℕ)) → name_text names copy ≡ name_text names name.now) }
-{
-    match name {
-        FunctionName::Empty => Ok(FunctionName::Empty),
-        FunctionName::Known(name) => Ok(FunctionName::Known(*name)),
-        FunctionName::Made(text) => {
-            let units = Units::from_slice(alloc, text.as_slice())?;
-            Ok(FunctionName::Made(Box::new(alloc, units)?))
-        }
-    }
-}
 
 /// What a call needs of a cell; none of a cell that is no function's.
 fn callee_of(alloc: Global, cell: Option<&Stored>) -> Result<Option<Callee>, AllocError>

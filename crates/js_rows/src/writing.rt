@@ -16,7 +16,7 @@ use crate::reading::index_of;
 use js_heap::value::{Addr, Value};
 use js_operations::action_end::ActionEnd;
 use js_operations::cells::{put, put_element};
-use js_operations::properties::{put_index, put_property};
+use js_operations::properties::{put_index, put_member};
 use js_world::names::{NameId, Names};
 use js_world::stored::Stored;
 use js_world::world::World;
@@ -41,22 +41,6 @@ fn is_object<W: World>(world: &W, names: &Names, a: Addr) -> bool
 {
     let _ = names.len();
     is_object_cell(world.find(a))
-}
-
-#[cold]
-#[inline(never)]
-fn put_member_slowly<W: World>(
-    alloc: Global,
-    world: &mut W,
-    names: &Names,
-    object: Value,
-    key: NameId,
-    value: Value,
-) -> Result<(), ActionEnd>
-    ensures { Passes (with_written (property_written (W.world names.now world.old) object (name_of names.now key.number) value)) (W.world names.now world.old) result (W.world names.now world.new) }
-{
-    let text = names.text(key)?;
-    put_property(alloc, world, names, object, text, value)
 }
 
 /// Writes a property with a fixed key of the object at an address.
@@ -86,12 +70,12 @@ pub fn put_member_value<W: World>(
     ensures { Passes (with_written (property_written (W.world names.now world.old) object (name_of names.now key.number) value)) (W.world names.now world.old) result (W.world names.now world.new) }
 {
     let Value::Object(a) = object else {
-        return put_member_slowly(alloc, world, names, object, key, value);
+        return put_member(alloc, world, names, object, key, value);
     };
     if is_object(world, names, a) {
         put_own(world, names, a, key, value)
     } else {
-        put_member_slowly(alloc, world, names, object, key, value)
+        put_member(alloc, world, names, object, key, value)
     }
 }
 

@@ -31,3 +31,4 @@ pub mod WaitLemmas
 pub mod WaitMakers
 pub mod LiteralMakers
 pub mod LiteralLaws
+pub mod SameSources

@@ -18,3 +18,4 @@
 pub mod form;
 pub mod laws;
 pub mod limits;
+pub mod offsets;

@@ -13,8 +13,8 @@ use Rattle.js_world.specs.Cells.{cell_of, cells_of, AllWithin}
 use Rattle.js_world.specs.Heaps.{Heap, Fit, value_in_cells}
 use Rattle.js_world.specs.Overlays.{Over, overlay_world, over_world, space_of, Marked, space_at, Earlier}
 use Rattle.js_world.proofs.HeapLemmas.{cells-append, cells-length}
-use Rattle.js_world.proofs.MakeLemmas.{le_true}
 use Rattle.js_world.proofs.WithinLemmas.{within-append, cells-more, value-length}
+use Rattle.std.proofs.lemmas.Bool.{le-leb}
 
 -- ---- the first cells
 
@@ -167,7 +167,7 @@ kept_over : (ts : List (List ℕ)) (bs : List Cell) (cs ds : List Stored) (us : 
     → keep_source (overlay_world ts bs cs st l u) us ≡ fine (Scratch at) (overlay_world ts bs ds st l left)
 kept_over ts bs cs ds us st l u left at e f i =
     let g : u - length us ≡ left = omega (arith, f) in
-    rw (le_true (length us) u (omega (arith, f)), g, cells-length ts cs, ← i, e, cells-append ts cs (stored.Text us ∷ [])) refl
+    rw (le-leb (length us) u (omega (arith, f)), g, cells-length ts cs, ← i, e, cells-append ts cs (stored.Text us ∷ [])) refl
 
 pub kept-over : (h g : Over) (ds : List Stored) (us : List ℕ) (left at : ℕ)
     → h ≡ g

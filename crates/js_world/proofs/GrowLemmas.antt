@@ -4,8 +4,8 @@ use Rattle.std.specs.Prelude.{slice_get, unwrap_or, nat_lt}
 use Rattle.js_heap.specs.Keys.{same_units}
 use Rattle.js_world.specs.Names.{spare, name_of, Differ, text_place, number_of}
 use Rattle.js_world.proofs.TableLemmas.{same-refl, same-only}
-use Rattle.js_heap.proofs.PlaceLemmas.{one_plus, lt_true}
-use Rattle.js_world.proofs.WeightLemmas.{true_lt}
+use Rattle.js_heap.proofs.PlaceLemmas.{one_plus}
+use Rattle.std.proofs.lemmas.Bool.{ltb-true, le-ltb, lt-ltb}
 
 -- ---- texts that stay
 
@@ -139,17 +139,14 @@ differ-more ts t d e = differ_more ts t d (number-none ts t e)
 abbrev numbered : ℕ → ℕ → Option ℕ
 numbered m l = if nat_lt m l then Some m else None
 
-lt_false : (m n : ℕ) → n ≤ m → nat_lt m n ≡ false
-lt_false m n h = grind arith
-
 pub false_le : (m n : ℕ) → nat_lt m n ≡ false → n ≤ m
 false_le m n e = grind arith
 
 numbered_in : (m l : ℕ) → m < l → numbered m l ≡ Some m
-numbered_in m l h = rw (lt_true m l h) refl
+numbered_in m l h = rw (lt-ltb m l h) refl
 
 numbered_out : (m l : ℕ) → l ≤ m → numbered m l ≡ None
-numbered_out m l h = rw (lt_false m l h) refl
+numbered_out m l h = rw (le-ltb m l h) refl
 
 numbered_same : (b : Bool) (m n l k : ℕ)
     → nat_lt m l ≡ b
@@ -158,7 +155,7 @@ numbered_same : (b : Bool) (m n l k : ℕ)
     → l ≤ k
     → numbered n k ≡ numbered m l
 numbered_same true m n l k e f g h =
-    let i : m < l = true_lt m l e in
+    let i : m < l = ltb-true m l e in
     let j : n ≡ m = f i in
     numbered_in n k (omega (arith, i, j, h)) ∙ ap (λ x. Some x) j ∙ sym (numbered_in m l i)
 numbered_same false m n l k e f g h =
@@ -203,7 +200,7 @@ gone_if : (b : Bool) (ts : List (List ℕ)) (t : List ℕ)
     → ((i : ℕ) → slice_get ts i ≡ Some t → ⊥)
     → (if b then Some (text_place ts t) else None) ≡ None
 gone_if false ts t e f = refl
-gone_if true ts t e f = absurd (f (text_place ts t) (place_get ts t (true_lt (text_place ts t) (length ts) e)))
+gone_if true ts t e f = absurd (f (text_place ts t) (place_get ts t (ltb-true (text_place ts t) (length ts) e)))
 
 number_gone : (ts : List (List ℕ)) (t : List ℕ) → ((i : ℕ) → slice_get ts i ≡ Some t → ⊥) → number_of ts t ≡ None
 number_gone ts t f = gone_if (nat_lt (text_place ts t) (length ts)) ts t refl f

@@ -1,6 +1,5 @@
 -- Making cells and changing them, in a heap.
-use Rattle.std.proofs.Common.{◌≡◌, ℕ, ◌+◌, ◌-◌, ◌^◌, ◌<◌, ◌≤◌, true, List, [], ◌∷◌, ◌++◌, length, Ok, refl, sym, subst, arith, length-append, min}
-use Rattle.std.specs.Prelude.{nat_le}
+use Rattle.std.proofs.Common.{◌≡◌, ℕ, ◌+◌, ◌-◌, ◌^◌, ◌<◌, true, List, [], ◌∷◌, ◌++◌, length, Ok, refl, sym, subst, arith, length-append, min}
 use Rattle.js_heap.specs.declared.value.Addr.TheVariants.{Base}
 use Rattle.js_heap.specs.Cells.{weight}
 use Rattle.js_heap.specs.World.{fine, make_cell}
@@ -9,10 +8,7 @@ use Rattle.js_world.specs.Cells.{cell_of}
 use Rattle.js_world.specs.Heaps.{Heap, Fit, base_world, heap_world, MakesRoom, is_within}
 use Rattle.js_world.proofs.HeapLemmas.{cells-append, cells-length}
 use Rattle.js_world.proofs.WithinLemmas.{within-append, test-within}
-use Rattle.js_heap.proofs.PlaceLemmas.{lt_true}
-
-pub le_true : (m n : ℕ) → m ≤ n → nat_le m n ≡ true
-le_true m n h = grind arith
+use Rattle.std.proofs.lemmas.Bool.{le-leb, lt-ltb}
 
 -- ---- making
 
@@ -24,7 +20,7 @@ made_base : (ts : List (List ℕ)) (cs ds : List Stored) (c : Stored) (l u left 
     → make_cell (base_world ts cs l u) (cell_of ts c) ≡ fine (Base at) (base_world ts ds (l - 1) left)
 made_base ts cs ds c l u left at e h f i =
     let g : u - weight (cell_of ts c) ≡ left = omega (arith, f) in
-    rw (lt_true 0 l h, le_true (weight (cell_of ts c)) u (omega (arith, f)), g, cells-length ts cs, ← i, e, cells-append ts cs (c ∷ [])) refl
+    rw (lt-ltb 0 l h, le-leb (weight (cell_of ts c)) u (omega (arith, f)), g, cells-length ts cs, ← i, e, cells-append ts cs (c ∷ [])) refl
 
 pub units_same : (units left u w : ℕ) → units + left ≡ u → units ≡ min w (2 ^ 64 - 1) → u < 2 ^ 32 → w + left ≡ u
 units_same units left u w e f h = grind arith

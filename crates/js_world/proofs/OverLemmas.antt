@@ -16,11 +16,11 @@ use Rattle.js_world.specs.Calls.{HasPlace}
 use Rattle.js_world.specs.Heaps.{Heap, Fit, MakesRoom, value_in_cells}
 use Rattle.js_world.specs.Overlays.{Over, overlay_world, over_world, space_of}
 use Rattle.js_world.proofs.HeapLemmas.{cells-append, cells-length}
-use Rattle.js_world.proofs.MakeLemmas.{le_true, units_same}
+use Rattle.js_world.proofs.MakeLemmas.{units_same}
 use Rattle.js_world.proofs.BindLemmas.{scope-written, scope-replaced}
 use Rattle.js_world.proofs.StayLemmas.{cells-stay}
 use Rattle.js_world.proofs.WithinLemmas.{cells-more}
-use Rattle.js_heap.proofs.PlaceLemmas.{lt_true}
+use Rattle.std.proofs.lemmas.Bool.{le-leb, lt-ltb}
 
 -- ---- making
 
@@ -32,7 +32,7 @@ made_over : (ts : List (List ℕ)) (bs : List Cell) (cs ds : List Stored) (c : S
     → make_cell (overlay_world ts bs cs st l u) (cell_of ts c) ≡ fine (Scratch at) (overlay_world ts bs ds st (l - 1) left)
 made_over ts bs cs ds c st l u left at e h f i =
     let g : u - weight (cell_of ts c) ≡ left = omega (arith, f) in
-    rw (lt_true 0 l h, le_true (weight (cell_of ts c)) u (omega (arith, f)), g, cells-length ts cs, ← i, e, cells-append ts cs (c ∷ [])) refl
+    rw (lt-ltb 0 l h, le-leb (weight (cell_of ts c)) u (omega (arith, f)), g, cells-length ts cs, ← i, e, cells-append ts cs (c ∷ [])) refl
 
 pub made-over : (h g : Over) (ds : List Stored) (c : Stored) (units left at : ℕ)
     → h ≡ g
@@ -58,7 +58,7 @@ bind_cell : (ts : List (List ℕ)) (bs : List Cell) (cs : List Stored) (st l u i
 bind_cell ts bs cs st l u i place n v (Some (cells.Bindings k name p ns)) d e h own =
     let w : World = overlay_world ts bs cs st l u in
     let P : Option Cell → Type 0 = λ o. written_at w (Scratch i) o (changes.Bind (name_of ts n) v) ≡ fine tt (overlay_world ts bs (value_in_cells cs i place v) st l u) in
-    rw (le_true st i own) (subst P (sym e) (scope-written w (Scratch i) k name p ns place (name_of ts n) v h
+    rw (le-leb st i own) (subst P (sym e) (scope-written w (Scratch i) k name p ns place (name_of ts n) v h
     ∙ ap {B = Tried (Unit {0})} (λ b. fine tt (record w { scratch = b })) (scope-replaced ts cs i place n v k name p ns d e h.0)))
 bind_cell ts bs cs st l u i place n v None d e h own = absurd h
 bind_cell ts bs cs st l u i place n v (Some (cells.Object ps)) d e h own = absurd h

@@ -135,10 +135,6 @@ keys-none ks ps key h e =
     let long = zip-length _ ks ps h in
     omega (arith, place-le ps key, keys-place ks ps key h)
 
-pub or_parts : (a b : Bool) → (a || b) ≡ false → (a ≡ false) × (b ≡ false)
-or_parts true b h = cc
-or_parts false b h = (refl, h)
-
 either : (a b c d : Bool) → a ≡ b → c ≡ d → (a || c) ≡ (b || d)
 either a b c d e f = cc
 

@@ -1,13 +1,13 @@
 -- Lemmas on the order of properties.
 use Rattle.std.proofs.Common.{◌≡◌, ℕ, zero, suc, ◌<◌, ◌≤◌, Bool, true, false, List, [], ◌∷◌, length, take, drop, get_or, Option, Some, None, refl, sym, ap, subst, ◌∙◌, arith, if◌then◌else◌}
-use Rattle.std.specs.Prelude.{remove, ◌||◌}
-use Rattle.std.proofs.lemmas.Bool.{ltb-false, eqb-false, ltb-true, le-ltb}
+use Rattle.std.specs.Prelude.{remove}
+use Rattle.std.proofs.lemmas.Bool.{ltb-false, eqb-false, ltb-true, le-ltb, or_from, or_parts}
 use Rattle.std.proofs.lemmas.List.{length-take-le}
 use Rattle.js_heap.specs.declared.value.Value.{Value}
 use Rattle.js_heap.specs.declared.cell.Property.{Property}
 use Rattle.js_heap.specs.Keys.{same_units, has_key, index_of_key, stands_before, placed}
 use Rattle.js_world.specs.PropertyOrder.{with_value_at, AreIndicesOf, AreAbove, AreNames, AreLeading, Ascend, MayFollow, AllFollow, AreInOrder}
-use Rattle.js_world.proofs.PropertyKeyLemmas.{same-sym, zip-length, or_parts}
+use Rattle.js_world.proofs.PropertyKeyLemmas.{same-sym, zip-length}
 use Rattle.js_world.proofs.PropertyIndexLemmas.{same-index}
 
 -- ---- a new property
@@ -124,9 +124,6 @@ follow_at q d [] n h l = absurd (omega arith)
 follow_at q d (p ∷ ps) zero h l = h.0.0
 follow_at q d (p ∷ ps) (suc n) h l = follow_at q d ps n h.1 (omega arith)
 
-or_false : (a b : Bool) → a ≡ false → b ≡ false → (a || b) ≡ false
-or_false a b e f = cc
-
 -- no property has the key of one behind it
 pub order-fresh : (ps : List Property) (n : ℕ) (d : Property)
     → AreInOrder ps
@@ -134,7 +131,7 @@ pub order-fresh : (ps : List Property) (n : ℕ) (d : Property)
     → has_key (take n ps) (get_or ps n d).key ≡ false
 order-fresh ps zero d h l = refl
 order-fresh [] (suc n) d h l = absurd (omega arith)
-order-fresh (p ∷ ps) (suc n) d h l = or_false _ _ (follow_at p d ps n h.0 (omega arith)) (order-fresh ps n d h.1 (omega arith))
+order-fresh (p ∷ ps) (suc n) d h l = or_from _ _ (follow_at p d ps n h.0 (omega arith)) (order-fresh ps n d h.1 (omega arith))
 
 -- ---- indices in front, names behind
 

@@ -6,7 +6,8 @@ use Rattle.js_heap.specs.declared.cell.Property.{Property}
 use Rattle.js_heap.specs.Keys.{same_units, has_key, index_of_key, stands_before, placed}
 use Rattle.js_heap.specs.Places.{key_place}
 use Rattle.js_world.specs.PropertyOrder.{with_value_at, AreNames}
-use Rattle.js_world.proofs.PropertyKeyLemmas.{or_parts, if_false}
+use Rattle.js_world.proofs.PropertyKeyLemmas.{if_false}
+use Rattle.std.proofs.lemmas.Bool.{or_parts}
 
 -- ---- places
 

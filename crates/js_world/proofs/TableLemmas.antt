@@ -1,33 +1,24 @@
 -- Two numbers have the same text only if they are one number.
 use Rattle.std.proofs.Common.{◌≡◌, ℕ, zero, suc, ◌+◌, ◌≤◌, Bool, true, false, List, [], ◌∷◌, length, Option, Some, None, refl, sym, ap, ◌∙◌, arith}
 use Rattle.std.proofs.lemmas.List.{length-replicate}
-use Rattle.std.specs.Prelude.{slice_get, unwrap_or, nat_eq, ◌&&◌}
+use Rattle.std.specs.Prelude.{slice_get, unwrap_or, nat_eq}
 use Rattle.js_heap.specs.Keys.{same_units}
 use Rattle.js_world.specs.Names.{total, spare, name_of, Differ}
+use Rattle.std.proofs.lemmas.Bool.{and_parts, eqb-true, eq-eqb}
 
 -- ---- same units
 
-nat_same : (m : ℕ) → nat_eq m m ≡ true
-nat_same m = grind arith
-
-nat_true : (m n : ℕ) → nat_eq m n ≡ true → m ≡ n
-nat_true m n e = grind arith
-
-pub and_both : (b c : Bool) → (b && c) ≡ true → (b ≡ true) × (c ≡ true)
-and_both true c e = (refl, e)
-and_both false c e = absurd cc
-
 pub same-refl : (us : List ℕ) → same_units us us ≡ true
 same-refl [] = refl
-same-refl (u ∷ us) = rw (nat_same u, same-refl us) refl
+same-refl (u ∷ us) = rw (eq-eqb u u refl, same-refl us) refl
 
 pub same-only : (us vs : List ℕ) → same_units us vs ≡ true → us ≡ vs
 same-only [] [] e = refl
 same-only [] (v ∷ vs) e = absurd cc
 same-only (u ∷ us) [] e = absurd cc
 same-only (u ∷ us) (v ∷ vs) e =
-    let b = and_both (nat_eq u v) (same_units us vs) e in
-    rw (nat_true u v b.0, same-only us vs b.1) refl
+    let b = and_parts (nat_eq u v) (same_units us vs) e in
+    rw (eqb-true u v b.0, same-only us vs b.1) refl
 
 -- ---- the table
 
@@ -63,5 +54,5 @@ both false false f g = refl
 pub same-names : (ts : List (List ℕ)) (m n : ℕ) → Differ ts → same_units (name_of ts m) (name_of ts n) ≡ nat_eq m n
 same-names ts m n d =
     both (nat_eq m n) (same_units (name_of ts m) (name_of ts n))
-    (λ e. let f : m ≡ n = nat_true m n e in rw f (same-refl (name_of ts n)))
-    (λ e. let f : m ≡ n = name-once ts m n d (same-only (name_of ts m) (name_of ts n) e) in rw f (nat_same n))
+    (λ e. let f : m ≡ n = eqb-true m n e in rw f (same-refl (name_of ts n)))
+    (λ e. let f : m ≡ n = name-once ts m n d (same-only (name_of ts m) (name_of ts n) e) in rw f (eq-eqb n n refl))

@@ -9,7 +9,7 @@ use Rattle.js_heap.specs.Keys.{same_units, stands_before, index_of_key, property
 use Rattle.js_heap.specs.Cells.{properties_weight, bound}
 use Rattle.js_world.specs.Changes.{Moves, Exceeds}
 use Rattle.js_world.proofs.TableLemmas.{same-only}
-use Rattle.js_heap.proofs.PlaceLemmas.{lt_true}
+use Rattle.std.proofs.lemmas.Bool.{ltb-true, lt-ltb, and_parts, not-true}
 
 -- ---- whether there is one
 
@@ -35,20 +35,12 @@ and_not true true e f = refl
 and_not true false e f = absurd cc
 and_not false b e f = absurd cc
 
-pub true_lt : (m n : ℕ) → nat_lt m n ≡ true → m < n
-true_lt m n e = grind arith
-
 -- where there is room, or the key is there
 pub has-room : (u n : ℕ) (b c : Bool) → c ≡ (nat_lt u n && not b) → c ≡ false → u < n → b ≡ true
-has-room u n b c e f h = and_not (nat_lt u n) b (sym e ∙ f) (lt_true u n h)
-
-both : (a b : Bool) → (a && not b) ≡ true → (a ≡ true) × (b ≡ false)
-both true false e = (refl, refl)
-both true true e = absurd cc
-both false b e = absurd cc
+has-room u n b c e f h = and_not (nat_lt u n) b (sym e ∙ f) (lt-ltb u n h)
 
 pub lacks : (u n : ℕ) (b c : Bool) → c ≡ (nat_lt u n && not b) → c ≡ true → (u < n) × (b ≡ false)
-lacks u n b c e f = let p = both (nat_lt u n) b (sym e ∙ f) in (true_lt u n p.0, p.1)
+lacks u n b c e f = let p = and_parts (nat_lt u n) (not b) (sym e ∙ f) in (ltb-true u n p.0, not-true b p.1)
 
 -- ---- another value
 

@@ -10,8 +10,7 @@ use Rattle.js_world.specs.declared.stored.Stored.TheVariants as stored
 use Rattle.js_world.specs.Cells.{SlotsWithin, NameWithin, Within, AllWithin}
 use Rattle.js_world.specs.Places.{with_value_at}
 use Rattle.js_world.specs.Heaps.{all_below, is_below, is_within, value_in_cell, value_in_cells}
-use Rattle.js_world.proofs.WeightLemmas.{true_lt}
-use Rattle.js_world.proofs.TableLemmas.{and_both}
+use Rattle.std.proofs.lemmas.Bool.{and_parts, ltb-true}
 
 -- ---- scopes
 
@@ -90,15 +89,15 @@ cells-more m n (c ∷ cs) l h = (cell_more m n c l h.0, cells-more m n cs l h.1)
 
 name_below : (x : FunctionName) (n : ℕ) → is_below x n ≡ true → NameWithin n x
 name_below function_names.Empty n e = tt
-name_below (function_names.Known m) n e = true_lt m.number n e
+name_below (function_names.Known m) n e = ltb-true m.number n e
 name_below (function_names.Made t) n e = tt
 
 slots_below : (ss : List Slot) (n : ℕ) → all_below ss n ≡ true → SlotsWithin n ss
 slots_below [] n e = tt
-slots_below (s ∷ ss) n e = let b = and_both (nat_lt s.name.number n) (all_below ss n) e in (true_lt s.name.number n b.0, slots_below ss n b.1)
+slots_below (s ∷ ss) n e = let b = and_parts (nat_lt s.name.number n) (all_below ss n) e in (ltb-true s.name.number n b.0, slots_below ss n b.1)
 
 pub test-within : (c : Stored) (n : ℕ) → is_within c n ≡ true → Within n c
-test-within (stored.Scope k x o ss) n e = let b = and_both (is_below x n) (all_below ss n) e in (name_below x n b.0, slots_below ss n b.1)
+test-within (stored.Scope k x o ss) n e = let b = and_parts (is_below x n) (all_below ss n) e in (name_below x n b.0, slots_below ss n b.1)
 test-within (stored.Function f) n e = name_below f.value.name n e
 test-within (stored.Object ps) n e = tt
 test-within (stored.Error class ps) n e = tt

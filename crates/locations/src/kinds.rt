@@ -4,8 +4,8 @@ ghost use Rattle.std.specs.Prelude.{◌≡◌, ◌<◌, ◌≤◌, ℕ, None, If
 ghost use Rattle.locations.specs.Kinds.{stronger, with_mark, kind_of, AreKinds};
 
 use crate::marks::Marked;
-use crate::offsets::offset_of;
 use crate::spot::SpotKind;
+use js_semantics::offsets::offset_of;
 use js_tree::script::Script;
 use std::alloc::{AllocError, Global};
 

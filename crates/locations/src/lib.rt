@@ -18,7 +18,6 @@ mod kinds;
 pub mod locations;
 mod marks;
 mod objects;
-pub mod offsets;
 pub mod spot;
 mod statements;
 mod words;

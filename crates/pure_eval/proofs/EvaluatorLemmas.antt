@@ -54,9 +54,10 @@ use Rattle.pure_eval.specs.Orders.{AreSameLiterals, ready_in_order}
 use Rattle.pure_eval.specs.Preparing.{IsReady}
 use Rattle.pure_eval.specs.Programs.{HasSameFunctions, IsNewSource}
 use Rattle.pure_eval.proofs.SettledTerms.{kept-settled}
-use Rattle.pure_eval.proofs.ProgramLemmas.{same-steps, behind-others, in-front, nat_true}
+use Rattle.pure_eval.proofs.ProgramLemmas.{same-steps, behind-others, in-front}
 use Rattle.js_compile.proofs.NameLemmas.{goes_on_same}
 use Rattle.js_world.proofs.StartLemmas.{goes-then}
+use Rattle.std.proofs.lemmas.Bool.{eqb-true}
 
 -- ---- names that go on
 
@@ -64,7 +65,7 @@ use Rattle.js_world.proofs.StartLemmas.{goes-then}
 
 apart_if : (b : Bool) (k m : ℕ) → nat_eq k m ≡ b → k < m → b ≡ false
 apart_if true k m e h =
-    let f : k ≡ m = nat_true k m e in
+    let f : k ≡ m = eqb-true k m e in
     absurd (omega (arith, f, h))
 apart_if false k m e h = refl
 

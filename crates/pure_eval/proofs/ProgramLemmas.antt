@@ -1,6 +1,5 @@
 -- A run looks up functions alone in its program.
-use Rattle.std.proofs.Common.{◌≡◌, ℕ, zero, suc, Bool, true, false, List, [], ◌∷◌, ◌++◌, Option, Some, if◌then◌else◌, refl, sym, ap, subst, ◌∙◌, arith}
-use Rattle.std.specs.Prelude.{nat_eq}
+use Rattle.std.proofs.Common.{◌≡◌, ℕ, zero, suc, Bool, true, false, List, [], ◌∷◌, ◌++◌, Option, Some, if◌then◌else◌, refl, sym, ap, subst, ◌∙◌}
 use Rattle.js_heap.specs.declared.value.Addr.{Addr}
 use Rattle.js_heap.specs.declared.value.Addr.TheVariants.{Base, Scratch}
 use Rattle.js_heap.specs.declared.value.Value.{Value}
@@ -21,6 +20,8 @@ use Rattle.js_semantics.specs.Rows.{row}
 use Rattle.js_semantics.specs.Next.{Walked, with_value, scope_in, around, next, walk, moved, all_values}
 use Rattle.js_semantics.specs.Run.{Run, running, over, run_after, step_in, steps_in}
 use Rattle.pure_eval.specs.Programs.{HasSameFunctions, IsNewSource}
+use Rattle.std.proofs.lemmas.Bool.{eq-eqb}
+use Rattle.js_semantics.proofs.SameSources.{same_source-true}
 
 -- ---- rows
 
@@ -98,30 +99,15 @@ same-steps (suc k) p q scope r h = ap (steps_in k p scope) (same_step p q h scop
 
 -- ---- a source behind the others
 
-pub nat_true : (m n : ℕ) → nat_eq m n ≡ true → m ≡ n
-nat_true m n e = grind arith
-
-nat_same : (m : ℕ) → nat_eq m m ≡ true
-nat_same m = grind arith
-
-source_same : (a b : Source) → same_source a b ≡ true → a ≡ b
-source_same (script_source m) (script_source n) e = ap (λ x. script_source x) (nat_true m n e)
-source_same (kept_source (Base m)) (kept_source (Base n)) e = ap (λ x. kept_source (Base x)) (nat_true m n e)
-source_same (kept_source (Scratch m)) (kept_source (Scratch n)) e = ap (λ x. kept_source (Scratch x)) (nat_true m n e)
-source_same (kept_source (Base m)) (kept_source (Scratch n)) e = absurd cc
-source_same (kept_source (Scratch m)) (kept_source (Base n)) e = absurd cc
-source_same (script_source m) (kept_source b) e = absurd cc
-source_same (kept_source a) (script_source n) e = absurd cc
-
 source_refl : (a : Source) → same_source a a ≡ true
-source_refl (script_source m) = nat_same m
-source_refl (kept_source (Base m)) = nat_same m
-source_refl (kept_source (Scratch m)) = nat_same m
+source_refl (script_source m) = eq-eqb m m refl
+source_refl (kept_source (Base m)) = eq-eqb m m refl
+source_refl (kept_source (Scratch m)) = eq-eqb m m refl
 
 -- no source is two
 both_sources : (a b s : Source) → same_source a b ≡ false → same_source a s ≡ true → same_source b s ≡ true → ⊥
 both_sources a b s n e f =
-    let g : a ≡ b = source_same a s e ∙ sym (source_same b s f) in
+    let g : a ≡ b = same_source-true a s e ∙ sym (same_source-true b s f) in
     let P : Source → Type 0 = λ x. same_source a x ≡ true in
     let h : same_source a b ≡ true = subst P g (source_refl a) in
     cc

@@ -1,6 +1,6 @@
 -- The trees and the code of a table stay when it goes on.
 use Rattle.std.proofs.Common.{◌≡◌, ℕ, zero, suc, ◌-◌, ◌<◌, ◌≤◌, Bool, true, false, List, [], ◌∷◌, ◌++◌, length, map, Option, None, Some, if◌then◌else◌, refl, sym, ap, ◌∙◌, arith}
-use Rattle.std.specs.Prelude.{slice_get, unwrap_or, nat_lt}
+use Rattle.std.specs.Prelude.{slice_get, unwrap_or}
 use Rattle.js_heap.specs.declared.value.Value.TheVariants as values
 use Rattle.js_semantics.specs.declared.form.Form.{Form}
 use Rattle.js_semantics.specs.Terms.{Term, done, part, Terms}
@@ -19,6 +19,7 @@ use Rattle.js_compile.specs.Grown.{Begins, Extends}
 use Rattle.js_code.proofs.TreeLemmas.{now-below, later-below, terms_same}
 use Rattle.pure_eval.specs.Whole.{names_entry, AreClosed, ArePlaced, IsWithin}
 use Rattle.js_compile.proofs.GrownLemmas.{begins_between, front}
+use Rattle.std.proofs.lemmas.Bool.{ltb-true}
 
 -- ---- lists that go on
 
@@ -38,9 +39,6 @@ here_map : {X Y : Type 0} (f : X → Y) (xs ys : List X) (i : ℕ)
     → slice_get (map f ys) i ≡ slice_get (map f xs) i
 here_map f xs ys i b h = ap (λ zs. slice_get (map f zs) i) b.is ∙ front_map f xs b.rest i h
 
-pub true_lt : (m n : ℕ) → nat_lt m n ≡ true → m < n
-true_lt m n e = grind arith
-
 pub kids-stay : (t u : NodeTable) (from to : ℕ)
     → Extends t u
     → from ≤ to
@@ -56,17 +54,17 @@ form_stays : (ts : List (List ℕ)) (t u : NodeTable) (op : Op) (n : ℕ)
     → names_entry t op n ≡ true
     → form_of ts u op n ≡ form_of ts t op n
 unfolding form_of
-form_stays ts t u ops.Script n x k c = ap (script_form ts) (here t.scripts.items u.scripts.items n x.scripts (true_lt n (length t.scripts.items) c))
-form_stays ts t u ops.EnterFor n x k c = ap (for_form ts) (here t.fors.items u.fors.items n x.fors (true_lt n (length t.fors.items) c))
-form_stays ts t u ops.EnterForOf n x k c = ap (for_of_form ts) (here t.for_ofs.items u.for_ofs.items n x.for_ofs (true_lt n (length t.for_ofs.items) c))
-form_stays ts t u ops.Block n x k c = ap (block_form ts) (here t.blocks.items u.blocks.items n x.blocks (true_lt n (length t.blocks.items) c))
-form_stays ts t u ops.Function n x k c = ap (function_form ts) (here t.functions.items u.functions.items n x.functions (true_lt n (length t.functions.items) c))
-form_stays ts t u ops.Method n x k c = ap (method_form ts) (here t.functions.items u.functions.items n x.functions (true_lt n (length t.functions.items) c))
-form_stays ts t u ops.Object n x k c = ap (object_form ts) (here_map (λ ms. ms.items) t.objects.items u.objects.items n x.objects (true_lt n (length t.objects.items) c))
-form_stays ts t u ops.Call n x k c = ap call_form (here t.calls.items u.calls.items n x.calls (true_lt n (length t.calls.items) c))
-form_stays ts t u ops.CallOfName n x k c = ap (name_call_form ts) (here t.calls.items u.calls.items n x.calls (true_lt n (length t.calls.items) c))
-form_stays ts t u ops.CallOfMember n x k c = ap (member_call_form ts) (here t.calls.items u.calls.items n x.calls (true_lt n (length t.calls.items) c))
-form_stays ts t u ops.CallOfIndex n x k c = ap index_call_form (here t.calls.items u.calls.items n x.calls (true_lt n (length t.calls.items) c))
+form_stays ts t u ops.Script n x k c = ap (script_form ts) (here t.scripts.items u.scripts.items n x.scripts (ltb-true n (length t.scripts.items) c))
+form_stays ts t u ops.EnterFor n x k c = ap (for_form ts) (here t.fors.items u.fors.items n x.fors (ltb-true n (length t.fors.items) c))
+form_stays ts t u ops.EnterForOf n x k c = ap (for_of_form ts) (here t.for_ofs.items u.for_ofs.items n x.for_ofs (ltb-true n (length t.for_ofs.items) c))
+form_stays ts t u ops.Block n x k c = ap (block_form ts) (here t.blocks.items u.blocks.items n x.blocks (ltb-true n (length t.blocks.items) c))
+form_stays ts t u ops.Function n x k c = ap (function_form ts) (here t.functions.items u.functions.items n x.functions (ltb-true n (length t.functions.items) c))
+form_stays ts t u ops.Method n x k c = ap (method_form ts) (here t.functions.items u.functions.items n x.functions (ltb-true n (length t.functions.items) c))
+form_stays ts t u ops.Object n x k c = ap (object_form ts) (here_map (λ ms. ms.items) t.objects.items u.objects.items n x.objects (ltb-true n (length t.objects.items) c))
+form_stays ts t u ops.Call n x k c = ap call_form (here t.calls.items u.calls.items n x.calls (ltb-true n (length t.calls.items) c))
+form_stays ts t u ops.CallOfName n x k c = ap (name_call_form ts) (here t.calls.items u.calls.items n x.calls (ltb-true n (length t.calls.items) c))
+form_stays ts t u ops.CallOfMember n x k c = ap (member_call_form ts) (here t.calls.items u.calls.items n x.calls (ltb-true n (length t.calls.items) c))
+form_stays ts t u ops.CallOfIndex n x k c = ap index_call_form (here t.calls.items u.calls.items n x.calls (ltb-true n (length t.calls.items) c))
 form_stays ts t u ops.ListOf n x k c = absurd cc
 form_stays ts t u _ n x k c = refl
 
@@ -76,7 +74,7 @@ constant_stays : (t u : NodeTable) (op : Op) (n : ℕ)
     → names_entry t op n ≡ true
     → constant_at u n ≡ constant_at t n
 unfolding constant_at
-constant_stays t u ops.Literal n x l c = ap (λ o. unwrap_or o values.Undefined) (here t.constants.items u.constants.items n x.constants (true_lt n (length t.constants.items) c))
+constant_stays t u ops.Literal n x l c = ap (λ o. unwrap_or o values.Undefined) (here t.constants.items u.constants.items n x.constants (ltb-true n (length t.constants.items) c))
 constant_stays t u _ n x l c = absurd cc
 
 -- ---- trees

@@ -3,7 +3,7 @@ use Rattle.std.proofs.Common.{◌≡◌, ℕ, zero, suc, ◌+◌, ◌-◌, ◌<�
 use Rattle.std.specs.Prelude.{map, max, nat_le, slice_get, codes}
 use Rattle.std.proofs.Math.Seq.{drop-cons}
 use Rattle.std.proofs.Math.Nat.{le-max_left, le-max_right, max-le}
-use Rattle.std.proofs.lemmas.Bool.{le-leb, lt-leb}
+use Rattle.std.proofs.lemmas.Bool.{le-leb, lt-leb, and_right}
 use Rattle.std.proofs.lemmas.List.{map-append, append-nil}
 use Rattle.js_heap.specs.declared.cell.Cell.{Cell}
 use Rattle.js_heap.specs.declared.cell.Property.{Property}
@@ -291,15 +291,11 @@ object-answers view w r deep met more left a cell some one-met found says =
 within-both : (g : Given json.Json) (deep met : ℕ) → g.depth ≤ deep → g.met ≤ met → if_within deep met g ≡ Some g.given
 within-both g deep met low few = ap₂ (λ x y. if x && y then Some g.given else None) (le-leb g.depth deep low) (le-leb g.met met few)
 
-and-false : (b : Bool) → (b && false) ≡ false
-and-false true = refl
-and-false false = refl
-
 -- a value that passes one of the limits isn't given
 pub past-one : (g : Given json.Json) (deep met : ℕ) → Exceeds deep met g → if_within deep met g ≡ None
 past-one g deep met (inl deeper) = ap (λ x. if x && nat_le g.met met then Some g.given else None) (lt-leb g.depth deep deeper)
 past-one g deep met (inr many) =
-    ap (λ y. if nat_le g.depth deep && y then Some g.given else None) (lt-leb g.met met many) ∙ ap (λ x. if x then Some g.given else None) (and-false (nat_le g.depth deep))
+    ap (λ y. if nat_le g.depth deep && y then Some g.given else None) (lt-leb g.met met many) ∙ ap (λ x. if x then Some g.given else None) (and_right (nat_le g.depth deep) false refl)
 
 -- where both limits are kept a value is given
 pub gives-alone : {A : Type 0} (view : A → json.Json) (r : Result A ByValueFault) (deep met left : ℕ) (g : Given json.Json)

@@ -1,7 +1,7 @@
 -- The first of what a preview lists.
 use Rattle.std.proofs.Common.{◌≡◌, ◌≢◌, ℕ, zero, suc, ◌+◌, ◌<◌, ◌≤◌, List, [], ◌∷◌, ◌++◌, length, take, drop, decimal, Bool, true, false, ◌&&◌, nat_eq, nat_lt, if◌then◌else◌, Some, refl, sym, ap, ap₂, ◌∙◌, arith, add-one, append_assoc}
 use Rattle.std.specs.Prelude.{map, slice_get}
-use Rattle.std.proofs.lemmas.Bool.{eqb-false, eqb-true, lt-ltb, le-ltb}
+use Rattle.std.proofs.lemmas.Bool.{eqb-false, eqb-true, lt-ltb, le-ltb, and_parts}
 use Rattle.std.proofs.lemmas.List.{map-append, append-nil, length-append, length-map, take_all, take_at, take-map}
 use Rattle.js_heap.specs.declared.cell.Property.{Property}
 use Rattle.js_heap.specs.declared.value.Value.{Value}
@@ -52,16 +52,12 @@ lists-more f ps i p done new all e test put inv = record {
   few = rw put (few-more p.enumerable f p done refl test inv.few);
 }
 
-both : (a b : Bool) → (a && b) ≡ true → (a ≡ true) × (b ≡ true)
-both true b e = (refl, e)
-both false b e = cc
-
 -- five are listed, and another one is there
 pub lists-full : (f : Entry → json.Json) (ps : List Property) (i : ℕ) (p : Property) (done all : List json.Json)
     → Some p ≡ slice_get ps i → (p.enumerable && nat_eq (length done) 5) ≡ true
     → Lists done (map f (enumerable (drop i ps))) all → listed_as done true ≡ first_of 5 all
 lists-full f ps i p done all e test inv =
-    let facts = both p.enumerable (nat_eq (length done) 5) test in
+    let facts = and_parts p.enumerable (nat_eq (length done) 5) test in
     let five : length done ≡ 5 = eqb-true (length done) 5 facts.1 in
     let rest = map f (enumerable (drop (i + 1) ps)) in
     let here : map f (enumerable (drop i ps)) ≡ f (entry p.key p.value) ∷ rest =

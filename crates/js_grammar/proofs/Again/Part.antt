@@ -25,6 +25,7 @@ use Rattle.js_grammar.proofs.Sound.List.{behind_commas, with_commas, behind_last
 use Rattle.js_grammar.proofs.Again.List.{elements_again, LastEnds, others_again, items_again}
 use Rattle.js_grammar.proofs.Again.Front.{expression_opens, opens_not, closes_opens, closes_stops, comma_closes, comma_stops, semicolon_stops, word_stops, statement_starts, starts_follows, ends_follows}
 use Rattle.js_grammar.proofs.Sound.Part.{more_names_is}
+use Rattle.std.proofs.lemmas.Bool.{or_parts, or_from}
 
 -- ---- lists of expressions
 
@@ -180,14 +181,6 @@ fresh_parts : (taken ms ns : List Identifier)
 fresh_parts taken [] ns f = (tt, f)
 fresh_parts taken (m ∷ ms) ns f = let p = fresh_parts (m ∷ taken) ms ns f.1 in ((f.0, p.0), p.1)
 
-pub or_parts : (x y : Bool) → (x || y) ≡ false → (x ≡ false) × (y ≡ false)
-or_parts true y e = absurd cc
-or_parts false y e = (refl, e)
-
-or_both : (x y : Bool) → x ≡ false → y ≡ false → (x || y) ≡ false
-or_both true y e f = absurd cc
-or_both false y e f = f
-
 among_names : (ns taken : List Identifier) (m : Identifier)
     → is_among ns m ≡ false
     → is_among taken m ≡ false
@@ -195,7 +188,7 @@ among_names : (ns taken : List Identifier) (m : Identifier)
 among_names [] taken m e f = f
 among_names (n ∷ ns) taken m e f =
     let p = or_parts (pointwise nat_eq n m) (is_among ns m) e in
-    among_names ns (n ∷ taken) m p.1 (or_both (pointwise nat_eq n m) (is_among taken m) p.0 f)
+    among_names ns (n ∷ taken) m p.1 (or_from (pointwise nat_eq n m) (is_among taken m) p.0 f)
 
 -- the names of a body differ from parameters, in either order
 pub fresh_behind : (ps ns : List Identifier) → AreFresh ps ns → AreFresh (with_names [] ps) ns

@@ -12,7 +12,7 @@ use Rattle.js_syntax.specs.Classes.{Start, start, Prefix, no_prefix, prefix, Fir
 use Rattle.js_syntax.specs.Productions.{Below, parameters_at, braces, code_at, ended_expression}
 use Rattle.js_syntax.specs.Parsing.{primary, call, postfix, unary, operation, assignment, expression, statement_by, statement, item_by, item}
 use Rattle.js_grammar.proofs.Alive.First.{is_start, is_prefix}
-use Rattle.js_grammar.proofs.Again.Part.{or_parts}
+use Rattle.std.proofs.lemmas.Bool.{or_parts}
 
 -- ---- what begins what
 

@@ -1,6 +1,6 @@
 -- Answers depend on the tokens read: arrow functions, assignments and expressions, where what reads below them is so.
 use Rattle.std.proofs.Common.{◌≡◌, ℕ, suc, ◌≤◌, Bool, true, false, cond, List, [], ◌∷◌, ◌++◌, length, Option, Some, None, Ok, Err, refl, sym, ap, subst, ◌∙◌, ◌⊎◌, inl, inr, append_assoc, arith}
-use Rattle.std.specs.Prelude.{◌&&◌, ◌||◌, not, nat_le}
+use Rattle.std.specs.Prelude.{◌||◌, not, nat_le}
 use Rattle.js_lexer.specs.declared.token.TokenKind.{TokenKind}
 use Rattle.js_lexer.specs.declared.token.TokenKind.TheVariants as kinds
 use Rattle.js_operators.specs.declared.operator.UpdateOperator.{UpdateOperator}
@@ -22,6 +22,7 @@ use Rattle.js_grammar.proofs.Follows.Parts.{Pair, more_assignments_follows, made
 use Rattle.js_grammar.proofs.Follows.Expressions.{links_follows, updated_follows, chain_follows, operation_follows, joined_follows, arrow_rest_follows}
 use Rattle.js_grammar.proofs.Follows.Arrows.{Within, not_longer, left_within, within_then, scan_end, stable, Closed, closed, ends_name, Names, closing, closing_makes, end_within, names_within, others_within}
 use Rattle.js_syntax.proofs.ClassLemmas.{start_name}
+use Rattle.std.proofs.lemmas.Bool.{and_right}
 
 -- how what reads below goes over names in parentheses
 pub record Spans (b : Below) : Type 0 where
@@ -477,10 +478,6 @@ twice : (v : Bool) → cond v no_update no_update ≡ no_update
 twice true = refl
 twice false = refl
 
-and_false : (v : Bool) → (v && false) ≡ false
-and_false true = refl
-and_false false = refl
-
 ended_of : (t : Token) (k : TokenKind)
     → t.kind ≡ k
     → link_by k ≡ no_link
@@ -494,7 +491,7 @@ ended_of t k e a b c d f = record {
   not_updated = rw (e, b) (twice t.newline_before);
   last_operand = rw (e, c) refl;
   not_joined = rw (e, d) refl;
-  not_arrow = rw (e, f) (and_false (not t.newline_before));
+  not_arrow = rw (e, f) (and_right (not t.newline_before) false refl);
 }
 
 pub ended_at : (t : Token) → ends_name (Some t) ≡ true → Ended (Some t)

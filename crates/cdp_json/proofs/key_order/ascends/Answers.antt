@@ -1,4 +1,4 @@
-use Rattle.std.proofs.Common.{◌≡◌, ◌∷◌, map, ap, sym, ◌∙◌, arith, true, false}
+use Rattle.std.proofs.Common.{◌∷◌, map, ap, sym, ◌∙◌, arith, true, false}
 use Rattle.cdp_json.specs.KeyOrder.{ascends}
 use Rattle.cdp_json.proofs.OrderLemmas.{falls, greater, only-one, rises}
 use Rattle.cdp_json.proofs.key_order.ascends.Goals as goal

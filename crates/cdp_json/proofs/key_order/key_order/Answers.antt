@@ -1,9 +1,9 @@
 use Rattle.std.proofs.Common.{rules, ◌≡◌, ◌∷◌, [], ◌++◌, ◌+◌, ◌<◌, List, ℕ, Bor, map, length, ap, sym, ◌∙◌, arith, append_assoc, append-nil, subst, ◌≤◌}
-use Rattle.std.specs.Prelude.{All, IfOk}
+use Rattle.std.specs.Prelude.{All}
 use Rattle.std.specs.List.{range_with_len}
 use Rattle.std.proofs.lemmas.List.{get_or-map, length-map, map-append}
 use Rattle.std.proofs.lemmas.Result.{IfOk-weaker}
-use Rattle.cdp_json.specs.KeyOrder.{insert_by, key_at, order_of}
+use Rattle.cdp_json.specs.KeyOrder.{insert_by, key_at}
 use Rattle.cdp_json.proofs.OrderLemmas.{Placed, insert_place, still_placed, in_order-place, order-ascending, places_below, range-below}
 use Rattle.cdp_json.proofs.key_order.key_order.Goals as goal
 

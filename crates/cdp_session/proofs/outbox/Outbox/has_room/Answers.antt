@@ -1,8 +1,9 @@
 use Rattle.std.proofs.Common.{rules, ◌≡◌, ◌<◌, ◌≤◌, ◌++◌, ◌∷◌, [], false, map, string_bytes, length, ap, ◌∙◌, arith}
 use Rattle.std.proofs.lemmas.List.{length-map}
 use Rattle.cdp_session.specs.Outboxes.{fits, most_texts}
-use Rattle.cdp_session.proofs.OutboxSizes.{bytes-below, room-few, room-full, not-below}
+use Rattle.cdp_session.proofs.OutboxSizes.{bytes-below, room-few, room-full}
 use Rattle.cdp_session.proofs.outbox.Outbox.has_room.Goals as goal
+use Rattle.std.proofs.lemmas.Bool.{le-ltb}
 
 pub overflow_sub-result : goal.overflow_sub-result
 overflow_sub-result c = bytes-below _ _ c.self.invariant
@@ -22,5 +23,5 @@ returns-else-len-lt-MOST_TEXTS c =
     let n = length-map c.self.inside.texts.items string_bytes in
     let many : most_texts ≤ length (map string_bytes c.self.inside.texts.items) = omega (arith, n, sized, c.if-len-lt-MOST_TEXTS.false) in
     λ text is.
-    room-full (map string_bytes c.self.inside.texts.items) text _ (not-below c.len.result most_texts c.if-len-lt-MOST_TEXTS.false) many
+    room-full (map string_bytes c.self.inside.texts.items) text _ (le-ltb c.len.result most_texts c.if-len-lt-MOST_TEXTS.false) many
     ∙ ap (λ xs. fits (xs ++ text ∷ [])) c.self.view_is
