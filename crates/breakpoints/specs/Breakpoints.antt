@@ -1,5 +1,5 @@
 -- The breakpoints of a session.
-use Rattle.std.specs.Prelude.{◌≡◌, ℕ, Bool, true, not, ◌&&◌, List, [], ◌∷◌, ◌++◌, length, map, filter, nat_le, bytes_eq, if◌then◌else◌, Option, Some, None, Result, Ok, Err}
+use Rattle.std.specs.Prelude.{◌≡◌, ℕ, Bool, true, not, ◌&&◌, List, [], ◌∷◌, ◌++◌, length, filter, nat_le, bytes_eq, if◌then◌else◌, Option, Some, None, Result, Ok, Err}
 use Rattle.std.specs.List.{list_any}
 use Rattle.cdp_text.specs.declared.position.Place.{Place}
 use Rattle.js_tree.specs.declared.script.Script.{Script}
@@ -80,7 +80,3 @@ is_hit place s = s.active && list_any (stands_at place) s.set
 -- the id of a breakpoint
 abbrev pub id_of : Breakpoint → List ℕ
 id_of b = b.id
-
--- the ids of those that are hit, in the order in which they were set
-abbrev pub ids_at : Place → State → List (List ℕ)
-ids_at place s = map id_of (hits_at place s)

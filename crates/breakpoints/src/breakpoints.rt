@@ -3,7 +3,7 @@
 ghost use Rattle.std.specs.Prelude.{◌≡◌, ◌∷◌, [], map, filter, OnErr, OnOk, IfOk, Some};
 ghost use Rattle.std.specs.List.{list_any};
 ghost use Rattle.locations.specs.Locations.{break_locations};
-ghost use Rattle.breakpoints.specs.Breakpoints.{Answers, breakpoint_of, fault_at, fault_of, has_another_id, has_id, hits_at, ids_at, is_hit, none_set, with_breakpoint, without};
+ghost use Rattle.breakpoints.specs.Breakpoints.{Answers, breakpoint_of, fault_at, fault_of, has_another_id, has_id, hits_at, is_hit, none_set, with_breakpoint, without};
 ghost use Rattle.breakpoints.specs.Hits.{hits_in, stands_at};
 ghost use Rattle.breakpoints.specs.Ids.{place_id, url_id};
 ghost use Rattle.breakpoints.specs.Resolving.{resolved_at, resolved_by_url};
@@ -19,7 +19,7 @@ use crate::script_spots::ScriptSpots;
 use cdp_text::position::{Place, Pos};
 use cdp_text::units::Units;
 use js_tree::script::Script;
-use std::alloc::{AllocError, Global};
+use std::alloc::Global;
 use std::marker::Model;
 
 /// As many breakpoints as a session may have.
@@ -186,21 +186,6 @@ impl Breakpoints {
         ensures { result ≡ is_hit place self.now }
     {
         self.active && self.has_at(place)
-    }
-
-    /// The ids of the active breakpoints that stand at a place, in the order in which they were set.
-    ///
-    /// # Errors
-    ///
-    /// There is no memory for them.
-    pub fn ids_at(&self, alloc: Global, place: Place) -> Result<Vec<Units>, AllocError>
-        ensures { IfOk result (λ ids. ids.items ≡ ids_at place self.now) }
-    {
-        let mut ids = Vec::new(alloc);
-        for breakpoint in self.at(place) {
-            ids.push(breakpoint.id.clone()?)?;
-        }
-        Ok(ids)
     }
 
     /// Whether breakpoints stop the program from now on.

@@ -1,6 +1,6 @@
 //! The compact text of a JSON value (RFC 8259): no blanks, keys in the order of their units.
 
-ghost use Rattle.std.specs.Prelude.{◌≡◌, ◌++◌, ◌∷◌, [], IfOk, OnOk, string_bytes};
+ghost use Rattle.std.specs.Prelude.{◌≡◌, ◌++◌, ◌∷◌, [], OnOk, string_bytes};
 ghost use Rattle.std.specs.Fmt.{signed_decimal};
 ghost use Rattle.json.specs.Print.{quoted};
 ghost use Rattle.cdp_json.specs.Compact.{string_text, list_text, object_text, members_text, with_commas, item_texts, comma_before};
@@ -11,18 +11,8 @@ use crate::key_order::key_order;
 use crate::plain::{is_plain, put_plain};
 use crate::value::{Json, JsonList, JsonObject};
 use cdp_text::units::text_of;
-use std::alloc::{AllocError, Global};
+use std::alloc::AllocError;
 use std::fmt::Write;
-
-/// The text of a value, in UTF-8: without blanks, with the members of each object in ascending order of the units of
-/// their keys (of equal keys the earlier one first), and with U+FFFD for each surrogate that has no partner.
-pub fn compact_text(alloc: Global, value: &Json) -> Result<String, AllocError>
-    ensures { IfOk result (λ text. string_bytes text ≡ spec.compact_text (json_view value.now)) }
-{
-    let mut out = String::new(alloc);
-    put_json(&mut out, value)?;
-    Ok(out)
-}
 
 /// Appends the text of a value.
 #[tactic(auto, using(crate::proofs::ViewLaws::json_laws))]

@@ -30,6 +30,5 @@ mod safe_values;
 pub mod value;
 
 pub use command::read_command;
-pub use compact::compact_text;
 pub use copies::copied;
 pub use message::{event_text, refusal_text, result_text};

@@ -1,6 +1,6 @@
 -- How many texts wait, and how many bytes of them: what fits, and what doesn't.
-use Rattle.std.proofs.Common.{◌≡◌, ℕ, ◌+◌, ◌-◌, ◌<◌, ◌≤◌, List, [], ◌∷◌, ◌++◌, length, Bool, true, false, ◌&&◌, nat_le, nat_lt, refl, ap, sym, subst, ◌∙◌, arith}
-use Rattle.std.proofs.lemmas.Bool.{and_parts, leb-true, le-leb, ltb-true}
+use Rattle.std.proofs.Common.{◌≡◌, ℕ, ◌+◌, ◌-◌, ◌<◌, ◌≤◌, List, [], ◌∷◌, ◌++◌, length, Bool, true, false, ◌&&◌, nat_le, refl, ap, sym, subst, ◌∙◌, arith}
+use Rattle.std.proofs.lemmas.Bool.{and_parts, leb-true, le-leb}
 use Rattle.std.proofs.lemmas.List.{length-append}
 use Rattle.json.specs.Print.{escape_byte}
 use Rattle.cdp_session.specs.Outboxes.{fits, bytes_of, most_texts, most_bytes, IsOutbox}
@@ -127,10 +127,6 @@ room-full texts text b full many =
     let all : List (List ℕ) = texts ++ text ∷ [] in
     let n = length-append texts (text ∷ []) in
     full ∙ ap (λ c. c && nat_le (bytes_of all) most_bytes) (sym (lt-nleb most_texts (length all) (omega (arith, n, many))))
-
-lt_test : (a b : ℕ) (x : Bool) → nat_lt a b ≡ x → b ≤ a → x ≡ false
-lt_test a b true is many = let e = ltb-true a b is in absurd (omega (arith, e, many))
-lt_test a b false is many = refl
 
 -- the same of texts that begin with these
 pub unfit-as : (xs ys all : List (List ℕ)) → all ≡ xs ++ ys → fits xs ≡ false → fits all ≡ false

@@ -3,4 +3,3 @@ pub mod ChainLemmas
 pub mod NestSteps
 pub mod NestRuns
 pub mod FrameLemmas
-pub mod LineLemmas

@@ -13,7 +13,6 @@
 mod cells;
 mod frames;
 pub mod laws;
-mod lines;
 mod listing;
 mod name;
 mod places;
@@ -21,7 +20,6 @@ mod scopes;
 mod standing;
 
 pub use frames::{FrameView, Frames};
-pub use lines::lines_of_scripts;
 pub use name::Name;
 pub use scopes::{ScopeView, Scopes};
 pub use standing::Standing;

@@ -1,6 +1,6 @@
 //! Where marks are.
 
-ghost use Rattle.std.specs.Prelude.{◌≡◌, ◌^◌, ◌<◌, ◌≤◌, length, map, option_map, All, IfSome, Some};
+ghost use Rattle.std.specs.Prelude.{◌≡◌, ◌^◌, ◌<◌, length, map, option_map, All, IfSome, Some};
 ghost use Rattle.std.specs.List.{Contains};
 ghost use Rattle.cdp_text.specs.Position.{line_starts};
 ghost use Rattle.frames_scopes.specs.Places.{pos_in, shown_place, starts_of};

@@ -2,7 +2,6 @@
 
 ghost use Rattle.std.specs.Prelude.{◌≡◌, ◌≤◌, length, option_copied};
 ghost use Rattle.js_heap.specs.Keys.{has_key, property_at};
-ghost use Rattle.js_heap.specs.Cells.{binding_of};
 ghost use Rattle.js_heap.specs.Places.{key_place, name_place, new_place};
 
 use crate::cell::{Binding, Property};
@@ -27,18 +26,6 @@ pub fn property_at<'a>(properties: &'a [Property], key: &[u16]) -> Option<&'a Pr
     for property in properties {
         if same_units(property.key.as_slice(), key) {
             return Some(property);
-        }
-    }
-    None
-}
-
-/// The binding of a name.
-pub fn binding_of<'a>(names: &'a [Binding], name: &[u16]) -> Option<&'a Binding>
-    ensures { option_copied result ≡ binding_of names.now name.now }
-{
-    for binding in names {
-        if same_units(binding.name.as_slice(), name) {
-            return Some(binding);
         }
     }
     None

@@ -21,6 +21,7 @@ use js_operators::operator::{BinaryOperator, UnaryOperator};
 use js_steps::reduced::Reduced;
 use js_values::numbers::{shift_count, shifted_right, to_signed, to_unsigned};
 use js_values::operators::{binary_result, unary_result};
+use js_values::results::is_safe_integer;
 use js_world::names::Names;
 use js_world::slots::argument;
 use js_world::world::World;
@@ -33,7 +34,7 @@ use std::alloc::Global;
 pub fn safe_number(number: i64) -> Option<Value>
     ensures { IfSome result (λ v. safe number ≡ a_value v) }
 {
-    if number.unsigned_abs() < 9_007_199_254_740_992 {
+    if is_safe_integer(number) {
         Some(Value::Number(number))
     } else {
         None
@@ -137,7 +138,7 @@ pub fn is_safe(value: Value) -> bool
     ensures exact { IsSafe value → IsTrue result }
 {
     match value {
-        Value::Number(z) => z.unsigned_abs() < 9_007_199_254_740_992,
+        Value::Number(z) => is_safe_integer(z),
         _ => true,
     }
 }

@@ -1,6 +1,6 @@
 //! Writing properties, with what is found most often first.
 
-ghost use Rattle.std.specs.Prelude.{◌≡◌, IfSome, IsTrue, List, ℕ, true, option_copied};
+ghost use Rattle.std.specs.Prelude.{◌≡◌, List, ℕ, true, option_copied};
 ghost use Rattle.js_heap.specs.World.{read_cell};
 ghost use Rattle.js_heap.specs.declared.change.Change.TheVariants as changes;
 ghost use Rattle.js_semantics.specs.State.{write};

@@ -1,12 +1,12 @@
 //! Properties of values: reading, and the changes by writing and deleting.
 
-ghost use Rattle.std.specs.Prelude.{◌≡◌, IfOk, option_copied, codes, pos};
+ghost use Rattle.std.specs.Prelude.{◌≡◌, IfOk, codes, pos};
 ghost use Rattle.js_heap.specs.Keys.{index_of_key};
 ghost use Rattle.js_heap.specs.declared.value.Value.TheVariants as values;
-ghost use Rattle.js_heap.specs.Values.{a_number, units_of_cell};
+ghost use Rattle.js_heap.specs.Values.{a_number};
 ghost use Rattle.js_heap.specs.BuiltIns.{function_value};
 ghost use Rattle.js_heap.specs.declared.computed.Computed.TheVariants.{Value as a_value};
-ghost use Rattle.js_heap.specs.Properties.{bad_key, cannot_read, cannot_set, cannot_change, not_changeable, array_method, string_method, element_or_method, unit_or_method, function_property, error_property, cell_property, property_of, element_change, length_change, array_change, cell_change, property_written, cell_removal, property_deleted, bad_length};
+ghost use Rattle.js_heap.specs.Properties.{bad_key, cannot_read, cannot_set, not_changeable, array_method, string_method, element_or_method, unit_or_method, function_property, error_property, property_of, element_change, length_change, array_change, property_written, property_deleted, bad_length};
 ghost use Rattle.js_heap.specs.declared.built_in.ErrorClass.TheVariants as classes;
 ghost use Rattle.js_heap.specs.declared.computed.Written.TheVariants.{Refused as refused};
 
@@ -14,11 +14,9 @@ use crate::text::{is_ascii, quoted};
 use crate::values::class_text;
 use cdp_text::units::{Units, ascii};
 use js_heap::built_in::{BuiltIn, ErrorClass, built_in_at};
-use js_heap::cell::Cell;
 use js_heap::change::Change;
 use js_heap::computed::{Computed, Written};
 use js_heap::keys::index_of_key;
-use js_heap::properties::property_at;
 use js_heap::reading::Cells;
 use js_heap::value::{Addr, Value};
 use std::alloc::{AllocError, Global};
@@ -186,34 +184,6 @@ pub fn error_property(alloc: Global, class: ErrorClass, key: &[u16]) -> Result<C
     Ok(undefined())
 }
 
-/// What reading a property of an object with this cell gives (10.1.8).
-pub fn cell_property(
-    alloc: Global,
-    cell: Option<&Cell>,
-    key: &[u16],
-) -> Result<Computed, AllocError>
-    ensures { IfOk result (λ r. r ≡ cell_property (option_copied cell.entry) key.now) }
-{
-    match cell {
-        Some(Cell::Object { properties }) => match property_at(properties.slice(), key) {
-            Some(property) => Ok(Computed::Value(property.value)),
-            None => Ok(undefined()),
-        },
-        Some(Cell::Error { class, properties }) => match property_at(properties.slice(), key) {
-            Some(property) => Ok(Computed::Value(property.value)),
-            None => error_property(alloc, *class, key),
-        },
-        Some(Cell::Array { elements }) => element_or_method(elements.slice(), key),
-        Some(Cell::Function { name, length, .. }) => function_property(
-            alloc,
-            name.as_slice(),
-            *length,
-            key,
-        ),
-        _ => Ok(undefined()),
-    }
-}
-
 /// What reading a property of a value gives (ECMA-262, 13.3.2).
 pub fn property_of<C: Cells>(
     alloc: Global,
@@ -335,26 +305,6 @@ pub fn array_change(
     }
 }
 
-/// What writing a property of an object with this cell changes (10.1.9).
-pub fn cell_change(
-    alloc: Global,
-    a: Addr,
-    cell: Option<&Cell>,
-    key: &[u16],
-    value: Value,
-) -> Result<Written, AllocError>
-    ensures { IfOk result (λ r. r ≡ cell_change a (option_copied cell.entry) key.now value) }
-{
-    match cell {
-        Some(Cell::Object { .. } | Cell::Error { .. }) => {
-            let key = Units::from_slice(alloc, key)?;
-            Ok(Written::Change(a, Change::Put { key, value }))
-        }
-        Some(Cell::Array { elements }) => array_change(alloc, a, elements.slice(), key, value),
-        _ => not_changeable(alloc, key),
-    }
-}
-
 /// What writing a property of a value changes (10.1.9).
 pub fn property_written<C: Cells>(
     alloc: Global,
@@ -369,24 +319,6 @@ pub fn property_written<C: Cells>(
         Value::Undefined => cannot_set_undefined(alloc, key),
         Value::Null => cannot_set_null(alloc, key),
         Value::Object(a) => cells.change(alloc, a, key, value),
-        _ => not_changeable(alloc, key),
-    }
-}
-
-/// What deleting a property of an object with this cell changes (10.1.10).
-pub fn cell_removal(
-    alloc: Global,
-    a: Addr,
-    cell: Option<&Cell>,
-    key: &[u16],
-) -> Result<Written, AllocError>
-    ensures { IfOk result (λ r. r ≡ cell_removal a (option_copied cell.entry) key.now) }
-{
-    match cell {
-        Some(Cell::Object { .. } | Cell::Error { .. }) => {
-            let key = Units::from_slice(alloc, key)?;
-            Ok(Written::Change(a, Change::Remove { key }))
-        }
         _ => not_changeable(alloc, key),
     }
 }

@@ -1,6 +1,6 @@
 //! Results of operations on numbers, and the errors that operations may come to.
 
-ghost use Rattle.std.specs.Prelude.{◌≡◌, ◌<◌, ◌^◌, nat_abs, IfOk, ◌≤ℤ◌, ◌<ℤ◌, pos};
+ghost use Rattle.std.specs.Prelude.{◌≡◌, ◌<◌, ◌^◌, nat_abs, nat_lt, IfOk, ◌≤ℤ◌, ◌<ℤ◌, pos};
 ghost use Rattle.js_heap.specs.Operators.{safe, quotient, remainder, not_safe, not_numbers, not_a_text, not_comparable};
 
 use cdp_text::units::ascii;
@@ -41,11 +41,19 @@ pub(crate) fn not_comparable(alloc: Global) -> Result<Computed, AllocError>
     Ok(Computed::Error(ErrorClass::TypeError, message))
 }
 
+/// Whether a number is a safe integer (ECMA-262, 21.1.2.5).
+#[inline(always)]
+pub fn is_safe_integer(number: i64) -> bool
+    ensures { result ≡ nat_lt (nat_abs number) (2 ^ 53) }
+{
+    number.unsigned_abs() < 9_007_199_254_740_992
+}
+
 /// The number, where it is a safe integer.
 pub fn safe(alloc: Global, z: i64) -> Result<Computed, AllocError>
     ensures { IfOk result (λ r. r ≡ safe z) }
 {
-    if z.unsigned_abs() < 9_007_199_254_740_992 {
+    if is_safe_integer(z) {
         Ok(Computed::Value(Value::Number(z)))
     } else {
         not_safe(alloc)

@@ -1,26 +1,13 @@
 //! Values: their texts, types and truth.
 
-ghost use Rattle.std.specs.Prelude.{◌≡◌, IfOk, option_copied};
-ghost use Rattle.js_heap.specs.World.{World as AnyWorld, read_cell};
-ghost use Rattle.js_heap.specs.Values.{units_at, units_of_cell, bool_text, text_of, key_of, type_text, object_type, is_truthy, is_same, same_integer, same_address, class_text};
+ghost use Rattle.std.specs.Prelude.{◌≡◌, option_copied};
+ghost use Rattle.js_heap.specs.Values.{units_at, type_text, object_type, is_truthy, is_same, same_address, class_text};
 
-use cdp_text::units::{Units, ascii};
 use js_heap::built_in::ErrorClass;
 use js_heap::cell::Cell;
 use js_heap::keys::same_units;
 use js_heap::reading::Cells;
 use js_heap::value::{Addr, Value};
-use std::alloc::{AllocError, Global};
-
-/// The units of a text's cell; of another cell none.
-pub fn units_of_cell(cell: Option<&Cell>) -> &[u16]
-    ensures { result.now ≡ units_of_cell (option_copied cell.entry) }
-{
-    match cell {
-        Some(Cell::Text { units }) => units.as_slice(),
-        _ => &[],
-    }
-}
 
 /// Whether a value counts as true (ECMA-262, 7.1.2).
 pub fn is_truthy<C: Cells>(cells: &C, v: Value) -> bool

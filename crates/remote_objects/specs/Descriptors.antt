@@ -15,7 +15,6 @@ use Rattle.cdp_json.specs.Parts.{object_of}
 use Rattle.remote_objects.specs.Sights.{Sight}
 use Rattle.remote_objects.specs.Values.{text_pairs}
 use Rattle.remote_objects.specs.declared.detail.Detail.{Detail}
-use Rattle.remote_objects.specs.declared.detail.Detail.TheVariants as details
 use Rattle.remote_objects.specs.Making.{Made, made_all}
 use Rattle.remote_objects.specs.Remote.{remote_with}
 
@@ -113,7 +112,3 @@ descriptor s detail group p h = record { made = descriptor_of p (content_made s 
 -- the properties of a target, in order, with or without previews of their values; new handles are in this group or in none
 abbrev pub descriptors_with : Sight → Detail → Option (List ℕ) → Target → handles.State → Made (List Json)
 descriptors_with s detail group target h = made_all (descriptor s detail group) (slots_of s.world target) h
-
--- without previews
-abbrev pub descriptors : Sight → Option (List ℕ) → Target → handles.State → Made (List Json)
-descriptors s group target h = descriptors_with s details.Plain group target h

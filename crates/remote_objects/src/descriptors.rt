@@ -1,6 +1,6 @@
 //! The own properties of what a handle stands for (Chrome DevTools Protocol 1.3, `Runtime.PropertyDescriptor`).
 
-ghost use Rattle.std.specs.Prelude.{◌≡◌, ◌++◌, map, codes, option_copied, IfOk, OnOk};
+ghost use Rattle.std.specs.Prelude.{◌≡◌, ◌++◌, map, option_copied, IfOk, OnOk};
 ghost use Rattle.cdp_json.specs.Parts.{object_of};
 ghost use Rattle.cdp_json.specs.Views.{json_view};
 ghost use Rattle.js_world.specs.Cells.{binding_at, bindings, cell_at, name_text};
@@ -312,18 +312,5 @@ impl<'w, W: World, S: FunctionSources> Describer<'w, W, S> {
             Target::Object(a) => self.object_properties(self.world.find(a), detail, group, handles),
             Target::Scope(a) => self.scope_names(self.world.find(a), detail, group, handles),
         }
-    }
-
-    /// The properties of a target, in order, without previews; new handles are in this group or in none.
-    pub fn descriptors(
-        &self,
-        target: Target,
-        group: Option<&[u16]>,
-        handles: &mut Handles,
-    ) -> Result<Vec<Json>, AllocError>
-        ensures made { IfOk result (λ js. map json_view js.items ≡ (descriptors.descriptors (sight_of S.node_text (W.world self.now.names.now self.now.world.now) self.now.scripts.now self.now.session) (option_copied group.entry) target handles.old).made) }
-        ensures handles { OnOk result (handles.new ≡ (descriptors.descriptors (sight_of S.node_text (W.world self.now.names.now self.now.world.now) self.now.scripts.now self.now.session) (option_copied group.entry) target handles.old).handles) }
-    {
-        self.descriptors_with(target, Detail::Plain, group, handles)
     }
 }
