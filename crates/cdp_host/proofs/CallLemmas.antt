@@ -37,21 +37,14 @@ whose (Attached x) held = (x, refl)
 whose (Lost loss is_reported is_told) held = absurd cc
 whose Left held = absurd cc
 
-works-by : {X : Type 0}
-    → (s : ℕ) (b : Bool) (seats : List (Seat X))
-    → (b ≡ true → some is_attached seats ≡ false)
-    → is_attached (seat_of s seats) ≡ true
-    → b ≡ false
-works-by s true seats alone held = let gone = none-at s seats (alone refl) in absurd cc
-works-by s false seats alone held = refl
-
 -- a host works that has somebody attached
 pub works-at : {X : Type 0}
     → (s : ℕ) (b : Bool) (seats : List (Seat X))
     → (b ≡ true → some is_attached seats ≡ false)
     → is_attached (seat_of s seats) ≡ true
     → b ≡ false
-works-at s b seats alone held = works-by s b seats alone held
+works-at s true seats alone held = let gone = none-at s seats (alone refl) in absurd cc
+works-at s false seats alone held = refl
 
 -- ---- what holds of every host, with other seats
 

@@ -14,7 +14,7 @@ use Rattle.cdp_journal.specs.Summaries.{Ran, printed_lines, ran_in, ran_of, ran_
 -- ---- lines that are repeated
 
 -- a line with this front put before it
-abbrev fronted : List ℕ → List ℕ
+abbrev pub fronted : List ℕ → List ℕ
 fronted text = codes "out " ++ text
 
 starts-by : (b : Bool) (o : Option (List ℕ)) (starts : Bool) → starts ≡ is_some o

@@ -13,6 +13,7 @@ use Rattle.cdp_text.proofs.DecimalLemmas.{decimal_value-some}
 use Rattle.cdp_journal.specs.Fronts.{behind_each}
 use Rattle.cdp_journal.specs.Summaries.{IsInRange, Ran, Tally, both, is_paused, printed_lines, ran_in, ran_of, runs_of, summary, tally_of, tally_text}
 use Rattle.cdp_journal.proofs.DrillLemmas.{ended-append}
+use Rattle.cdp_journal.proofs.RunLines.{fronted}
 
 -- ---- tallies
 
@@ -55,10 +56,6 @@ each-append front [] ys = refl
 each-append front (x ∷ xs) ys =
     ap (λ rest. option_to_list (behind front x) ++ rest) (each-append front xs ys)
     ∙ sym (append_assoc (option_to_list (behind front x)) (behind_each front xs) (behind_each front ys))
-
--- a line with the front of those that were printed
-abbrev fronted : List ℕ → List ℕ
-fronted text = codes "out " ++ text
 
 printed-append : (xs ys : List (List ℕ))
     → ended (printed_lines (xs ++ ys)) ≡ ended (printed_lines xs) ++ ended (printed_lines ys)

@@ -10,7 +10,7 @@ use Rattle.js_tree.specs.Trees.{Identifier, Expression, Expressions, OptionalExp
 use Rattle.js_language.specs.Tokens.{Token, fixed, identifier, IsNext, after_expression, after_word, Mark, token, semicolon, trailing_comma, head_of, tail_of, Matches}
 use Rattle.js_language.specs.Flat as flats
 use Rattle.js_language.specs.Flat.{edge, edge_of_last, end_of_declarators, an_identifier, more_names, flat_names, flat_parameters, flat, flat_expressions, more_expressions, trailing, flat_optional, flat_declarator, flat_declarators, more_declarators, flat_statement, flat_statements}
-use Rattle.js_language.specs.Well.{Context, function_body, level, Well, WellOptional, AreAssignments, WellDeclarator, WellDeclarators, has_initializer, IsInitialized, is_some_declarator, WellStatement, WellStatements, is_among, AreFresh, DifferIn, declared_by, declared_names, names_of_declarators}
+use Rattle.js_language.specs.Well.{Context, function_body, Well, WellOptional, AreAssignments, WellDeclarator, WellDeclarators, has_initializer, IsInitialized, is_some_declarator, WellStatement, WellStatements, is_among, AreFresh, DifferIn, declared_by, declared_names, names_of_declarators}
 use Rattle.js_tree.specs.Height.{height, height_of_optional, height_of_expressions, height_of_declarator, height_of_declarators, height_of_statement, height_of_statements}
 use Rattle.js_tree.specs.Views.{expressions, statements, declarators}
 use Rattle.js_language.specs.Kinds.{is_kind}
@@ -20,7 +20,7 @@ use Rattle.js_syntax.proofs.KindLemmas.{next_again, kind_not}
 use Rattle.js_grammar.proofs.Claims.{Stops, NoComma, follows_statement, Follows, closes, AgainBelow}
 use Rattle.js_grammar.proofs.MarkLemmas.{parts}
 use Rattle.js_grammar.proofs.TokenLemmas.{expect_again, name_again, fresh_again, semicolon_again}
-use Rattle.js_grammar.proofs.Sound.Part.{Differs}
+use Rattle.js_grammar.proofs.Sound.Part.{Differs, GoodAssignment}
 use Rattle.js_grammar.proofs.Sound.List.{behind_commas, with_commas, behind_last, in_a_row, AllGood}
 use Rattle.js_grammar.proofs.Again.List.{elements_again, LastEnds, others_again, items_again}
 use Rattle.js_grammar.proofs.Again.Front.{expression_opens, opens_not, closes_opens, closes_stops, comma_closes, comma_stops, semicolon_stops, word_stops, statement_starts, starts_follows, ends_follows}
@@ -48,10 +48,6 @@ list_marks (trees.an_expression e es) = ap (λ (l : List Mark). flat e ++ l) (mo
 trailing_marks : (es : Expressions) → trailing es ≡ behind_last (list_of es)
 trailing_marks trees.no_expressions = refl
 trailing_marks (trees.an_expression e es) = refl
-
--- an assignment at most n high
-abbrev pub GoodAssignment : ℕ → Unit {0} → Expression → Type 0
-GoodAssignment n s e = Well e × (1 ≤ level e) × (height e ≤ n)
 
 good_assignments : (n : ℕ) (es : Expressions)
     → AreAssignments es

@@ -28,6 +28,7 @@ use Rattle.js_grammar.proofs.Again.List.{EndsElement, elements_again}
 use Rattle.js_grammar.proofs.Again.Front.{closes_stops, comma_stops}
 use Rattle.js_grammar.proofs.Again.Head.{other_kind, kind_of_identifier, kind_of_number, kind_of_string}
 use Rattle.js_grammar.proofs.Again.Primary.{ObjectsAgain}
+use Rattle.js_grammar.proofs.Sound.Primary.{GoodProperty}
 
 -- ---- keys
 
@@ -221,14 +222,10 @@ trailing_marks : (xs : Properties) → trailing_property xs ≡ behind_last (mem
 trailing_marks trees.no_properties = refl
 trailing_marks (trees.a_property x xs) = refl
 
--- a member at most n high
-abbrev GoodMember : ℕ → Unit {0} → Property → Type 0
-GoodMember n s x = WellProperty x × (height_of_property x ≤ n)
-
 good_members : (n : ℕ) (xs : Properties)
     → WellProperties xs
     → height_of_properties xs ≤ n
-    → AllGood no_state (GoodMember n) tt (members_of xs)
+    → AllGood no_state (GoodProperty n) tt (members_of xs)
 good_members n trees.no_properties w h = tt
 good_members n (trees.a_property x xs) w h = ((w.0, omega (arith, h)), good_members n xs w.1 (omega (arith, h)))
 
@@ -238,7 +235,7 @@ objects_again q n b h xs w l ts r m =
     let behind : List Mark = token (fixed kinds.RightBrace) ∷ [] in
     let same : flat_properties xs ++ (trailing_property xs ++ behind) ≡ with_commas flat_property (members_of xs) ++ (behind_last (members_of xs) ++ behind) = rw (members_marks xs, trailing_marks xs) refl in
     let read : elements (one_of (λ r. property_at b n r)) no_state kinds.RightBrace (suc (length (tail_of ts))) tt (tail_of ts) ≡ Ok (members_of xs, r) =
-    elements_again (one_of (λ r. property_at b n r)) no_state flat_property (GoodMember n) kinds.RightBrace refl
+    elements_again (one_of (λ r. property_at b n r)) no_state flat_property (GoodProperty n) kinds.RightBrace refl
     (λ s x g us v p. property_no_brace x us v p)
     (λ s x g us v p e. property_again q n b h x g.0 g.1 us v p e)
     (members_of xs) (suc (length (tail_of ts))) tt (tail_of ts) r (good_members n xs w (omega arith)) (omega arith)

@@ -22,14 +22,12 @@ use Rattle.js_grammar.proofs.Follows.Expressions.{primary_follows, call_follows,
 use Rattle.js_grammar.proofs.Deep.Tools.{deep_is, Deepens, DeepensOn, on, quiet, deep_gives, deep_past, deep_peeks, deep_peeks_all, deep_then, deep_makes, deep_as}
 use Rattle.js_grammar.proofs.Deep.Parts.{DeepBelow, word_deepens, more_assignments_deepens, seq_deepens}
 use Rattle.js_grammar.proofs.Deep.Expressions.{primary_deepens, updated_deepens}
+use Rattle.js_grammar.proofs.Follows.Statements.{made_of}
 
 -- ---- members and calls
 
-abbrev as_made : {A V : Type 0} → (V → A) → Read V → Read A
-as_made make x = x >>= λ y. Ok (make y.0, y.1)
-
 goes_on_by : {A B V : Type 0} (x : Read V) (make : V → A) (go : A → Reader B)
-    → (as_made make x >>= λ z. go z.0 z.1) ≡ (x >>= λ y. go (make y.0) y.1)
+    → (made_of make x >>= λ z. go z.0 z.1) ≡ (x >>= λ y. go (make y.0) y.1)
 goes_on_by (Ok y) make go = refl
 goes_on_by (Err e) make go = refl
 

@@ -25,7 +25,7 @@ use Rattle.js_grammar.proofs.Follows.Parts.{Pair, on_right, expect_follows, name
 abbrev with_first : (i : Item) (is : List Item) → Value i → Read (Values is) → Read (Values (i ∷ is))
 with_first i is v y = y >>= λ z. Ok ((v, z.0), z.1)
 
-abbrev made_of : {A V : Type 0} → (V → A) → Read V → Read A
+abbrev pub made_of : {A V : Type 0} → (V → A) → Read V → Read A
 made_of make x = x >>= λ z. Ok (make z.0, z.1)
 
 made_with_first : {A : Type 0} (i : Item) (is : List Item) (make : Values (i ∷ is) → A) (v : Value i) (y : Read (Values is))

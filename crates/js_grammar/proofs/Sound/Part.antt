@@ -65,14 +65,14 @@ fresh_append taken (n ∷ ns) ms f g = (f.0, fresh_append (n ∷ taken) ns ms f.
 -- ---- lists of expressions
 
 -- an assignment, at most n high
-abbrev IsAssignment : ℕ → Unit {0} → Expression → Type 0
-IsAssignment n u e = Well e × (1 ≤ level e) × (height e ≤ n)
+abbrev pub GoodAssignment : ℕ → Unit {0} → Expression → Type 0
+GoodAssignment n u e = Well e × (1 ≤ level e) × (height e ≤ n)
 
-one_reads : (n : ℕ) (b : Below) → SoundBelow n b → Reads (one_of b.assignment) flat (IsAssignment n)
+one_reads : (n : ℕ) (b : Below) → SoundBelow n b → Reads (one_of b.assignment) flat (GoodAssignment n)
 one_reads n b s = λ u ts x e. let t = s.assignment ts x e in (t.marks, (t.well, t.level, t.height))
 
 all_assignments : (n : ℕ) (u : Unit {0}) (es : List Expression)
-    → AllGood no_state (IsAssignment n) u es
+    → AllGood no_state (GoodAssignment n) u es
     → AreAssignments (expressions es) × (height_of_expressions (expressions es) ≤ n)
 all_assignments n u [] g = (tt, omega arith)
 all_assignments n u (e ∷ es) g = let r = all_assignments n tt es g.1 in ((g.0.0, g.0.1, r.0), omega (arith, g.0.2, r.1))
@@ -96,7 +96,7 @@ pub arguments_sound : (n : ℕ) (b : Below)
 unfolding arguments_before
 arguments_sound n b s closer ts x e =
     let p = bind_ok (elements (one_of b.assignment) no_state closer (suc (length ts)) tt ts) (λ x. Ok (expressions x.0, x.1)) x e in
-    let t = elements_sound (one_of b.assignment) no_state flat (IsAssignment n) (one_reads n b s) closer (suc (length ts)) tt ts p.0 p.1 in
+    let t = elements_sound (one_of b.assignment) no_state flat (GoodAssignment n) (one_reads n b s) closer (suc (length ts)) tt ts p.0 p.1 in
     let g = all_assignments n tt p.0.0 t.1 in
     subst (λ (x : Expressions × List Token). Matches (flat_expressions x.0 ++ (trailing x.0 ++ (token (fixed closer) ∷ []))) ts x.1 × AreAssignments x.0 × (height_of_expressions x.0 ≤ n)) (ok_is (expressions p.0.0, p.0.1) x p.2)
     (subst (λ (ms : List Mark). Matches ms ts p.0.1) (sym (arguments_marks closer p.0.0)) t.0, g.0, g.1)
@@ -113,7 +113,7 @@ pub more_sound : (n : ℕ) (b : Below)
 unfolding more_assignments
 more_sound n b s ts x e =
     let p = bind_ok (others (one_of b.assignment) no_state (suc (length ts)) tt ts) (λ x. Ok (expressions x.0, x.1)) x e in
-    let t = others_sound (one_of b.assignment) no_state flat (IsAssignment n) (one_reads n b s) (suc (length ts)) tt ts p.0 p.1 in
+    let t = others_sound (one_of b.assignment) no_state flat (GoodAssignment n) (one_reads n b s) (suc (length ts)) tt ts p.0 p.1 in
     let g = all_assignments n tt p.0.0 t.1 in
     subst (λ (x : Expressions × List Token). Matches (more_expressions x.0) ts x.1 × AreAssignments x.0 × (height_of_expressions x.0 ≤ n) × (is_kind kinds.Comma (head_of x.1) ≡ false)) (ok_is (expressions p.0.0, p.0.1) x p.2)
     (subst (λ (ms : List Mark). Matches ms ts p.0.1) (sym (more_is p.0.0)) t.0, g.0, g.1, t.2)

@@ -133,7 +133,7 @@ pub properties_marks : (ps : List Property)
 properties_marks [] = refl
 properties_marks (p ∷ ps) = ap (λ (ms : List Mark). (flat_property p ++ ms) ++ (trailing_comma ∷ token (fixed kinds.RightBrace) ∷ [])) (properties_behind ps)
 
-abbrev GoodProperty : ℕ → Unit {0} → Property → Type 0
+abbrev pub GoodProperty : ℕ → Unit {0} → Property → Type 0
 GoodProperty n s p = WellProperty p × (height_of_property p ≤ n)
 
 properties_good : (n : ℕ) (ps : List Property)
