@@ -3,7 +3,7 @@
 ghost use Rattle.std.specs.Prelude.{◌≡◌, ◌≤◌, length};
 ghost use Rattle.js_semantics.specs.Frames.{offset_of};
 
-use js_semantics::form::Mark;
+use crate::form::Mark;
 use js_tree::node::NodeId;
 use js_tree::script::Script;
 use js_tree::span::span;
