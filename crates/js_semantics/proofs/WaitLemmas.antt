@@ -30,7 +30,6 @@ use Rattle.js_semantics.specs.Run.{literals, literals_of, with_literals, all_wit
 use Rattle.js_semantics.proofs.Ready.{all_ready}
 use Rattle.js_semantics.specs.Waiting.{uncovers, ByCase, Waits, AllWait, PartsWait, RestWaits, ProgramWaits, ActionWaits, MoveWaits, RunWaits}
 use Rattle.js_semantics.proofs.GiveLemmas.{GivesValues, put-gives, remove-gives, built_in-gives, type_of-gives, update_row-gives, made-gives, function_row-gives}
-use Rattle.js_semantics.proofs.WaitMakers.{joined-tight}
 
 -- ---- what takes no step
 
@@ -130,6 +129,10 @@ settle-tight (part f now later) h = settled-tight f now later h.0 h.1
 
 scoped-tight : (t : Term) (a : Addr) → Tight t → Tight (settled (scoped a) (one t) end)
 scoped-tight t a h = settled-tight (scoped a) (one t) end (h, tt) tt
+
+joined-tight : (ts us : Terms) → Tights ts → Tights us → Tights (joined ts us)
+joined-tight end us h k = k
+joined-tight (more t ts) us h k = (h.0, joined-tight ts us h.1 k)
 
 dones-tight : (vs : List Value) → Tights (dones vs)
 dones-tight [] = tt

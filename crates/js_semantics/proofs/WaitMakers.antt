@@ -47,7 +47,7 @@ plains-waits : (es : List Made) (c : Context) → AllMadeWait es → AllWait all
 plains-waits [] c h = tt
 plains-waits (e ∷ es) c h = (h.0 (unnamed c), plains-waits es c h.1)
 
-pub joined-tight : (ts us : Terms) → Tights ts → Tights us → Tights (joined ts us)
+joined-tight : (ts us : Terms) → Tights ts → Tights us → Tights (joined ts us)
 joined-tight end us h k = k
 joined-tight (more t ts) us h k = (h.0, joined-tight ts us h.1 k)
 
