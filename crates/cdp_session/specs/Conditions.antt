@@ -14,8 +14,6 @@ use Rattle.js_numbered.specs.Numbered.{numbered_made}
 use Rattle.js_parser.specs.Expressions.{expression_of}
 use Rattle.js_semantics.specs.Evaluation.{Answer, a_result, evaluate, evaluate_expression}
 use Rattle.js_semantics.specs.Literals.{expression_literals}
-use Rattle.js_syntax.specs.declared.fault.ParseFault.{ParseFault}
-use Rattle.js_syntax.specs.declared.fault.ParseFault.TheVariants as parse_faults
 use Rattle.js_tree.specs.Trees as trees
 use Rattle.js_tree.specs.Views.{expression_view}
 use Rattle.js_tree.specs.declared.script.Expression.{Expression}
@@ -87,11 +85,6 @@ is_some_hit [] = false
 is_some_hit (b ∷ bs) = true
 
 -- ---- conditions that were parsed
-
--- the parser met want of memory, which says nothing of the text
-abbrev pub lacks_memory : ParseFault → Bool
-lacks_memory parse_faults.Memory = true
-lacks_memory fault = false
 
 -- an expression is what a text was parsed to
 pub record IsParsedTo (source : List ℕ) (e : Expression) : Type 0 where

@@ -24,9 +24,9 @@ use cdp_text::units::Units;
 use js_heap::built_in::script_scope;
 use js_heap::value::{Addr, Value};
 use js_operations::seen::Seen;
+use js_parser::node_text::lacks_memory;
 use js_parser::parse::parse_expression;
 use js_rows::table::Table;
-use js_syntax::fault::ParseFault;
 use js_tree::script::Expression;
 use js_values::values::is_truthy;
 use pure_eval::{Evaluated, Opened, Workspace};
@@ -49,16 +49,6 @@ impl Model for Condition {
     ghost view = { λ c. c.text };
 
     ghost invariant = { λ c. IsParsed c.text c.expression };
-}
-
-/// Whether the parser met want of memory.
-fn lacks_memory(fault: ParseFault) -> bool
-    ensures { result ≡ conditions.lacks_memory fault }
-{
-    match fault {
-        ParseFault::Memory => true,
-        _ => false,
-    }
 }
 
 /// The expression that a text is; none where the parser refuses it.

@@ -11,7 +11,7 @@ use js_tree::span::units_in;
 use std::alloc::{AllocError, Global};
 
 /// Whether memory ran out.
-fn lacks_memory(fault: ParseFault) -> bool
+pub fn lacks_memory(fault: ParseFault) -> bool
     ensures { result ≡ texts.lacks_memory fault }
 {
     match fault {
