@@ -1,9 +1,7 @@
 //! Arrow functions (ECMA-262, 15.3).
 
-ghost use Rattle.std.specs.Prelude.{◌≡◌, ◌≤◌, ◌<◌, ◌+◌, suc, max, Some, IfOk, List, ◌∷◌};
+ghost use Rattle.std.specs.Prelude.{◌≡◌, ◌≤◌, ◌<◌, ◌+◌, suc, max, Some, List, ◌∷◌};
 ghost use Rattle.js_tree.specs.Height.{height};
-ghost use Rattle.js_tree.specs.Views.{expression_view};
-ghost use Rattle.js_syntax.specs.Giving.{Gives};
 ghost use Rattle.js_syntax.specs.Parsing as reading;
 ghost use Rattle.js_syntax.specs.Parsing.{below};
 ghost use Rattle.js_syntax.specs.Views.{tokens_view};
@@ -12,11 +10,12 @@ ghost use Rattle.js_tree.specs.Views.{parameters_view};
 ghost use Rattle.js_language.specs.Well.{names_of_parameters};
 ghost use Rattle.js_syntax.specs.Names.{texts};
 ghost use Rattle.js_syntax.specs.Reading.{with_names};
-ghost use Rattle.js_language.specs.Places.{expression_places, plain, in_turn};
+ghost use Rattle.js_language.specs.Places.{plain, in_turn};
 ghost use Rattle.js_syntax.specs.Placed.{Placed};
 ghost use Rattle.js_tree.specs.declared.node.Span.{Span};
 ghost use Rattle.js_language.specs.Flat.{flat_parameters, flat_arrow_parameters, a};
 ghost use Rattle.js_lexer.specs.declared.token.TokenKind.TheVariants as kinds;
+ghost use Rattle.js_descent.specs.ReadTrees.{ReadsExpression, ExpressionWithin, ExpressionPlaced};
 
 use crate::blocks::braces_at;
 use crate::expressions::assignment_below;
@@ -39,9 +38,9 @@ use js_tree::tree::ArrowParameters;
 #[tactic(auto, unfolding(js_syntax::specs::Parsing::arrow_of_one))]
 pub fn arrow_of_one<'t, 's>(nodes: &mut Nodes, room: u32, tokens: &'t [Token<'s>]) -> Parsed<'t, 's>
     requires { room < MOST_ROOM }
-    ensures gives { Gives (λ x. (expression_view x.0.value, tokens_view x.2.now)) result (reading.arrow_of_one (below room) (tokens_view tokens.now)) }
-    ensures height { IfOk result (λ x. (x.1 ≡ height (expression_view x.0.value)) × (x.1 ≤ room + 1)) }
-    ensures placed { IfOk result (λ x. Placed true nodes.old nodes.new (expression_places x.0.value) (tokens_view tokens.now) (tokens_view x.2.now)) }
+    ensures gives { ReadsExpression (reading.arrow_of_one (below room) (tokens_view tokens.now)) result }
+    ensures height { ExpressionWithin (room + 1) result }
+    ensures placed { ExpressionPlaced nodes.old nodes.new (tokens_view tokens.now) result }
 {
     let (text, rest) = name_at(tokens)?;
     let mut taken = NameSet::new(nodes.alloc());
@@ -60,9 +59,9 @@ pub fn arrow_of_list<'t, 's>(
     tokens: &'t [Token<'s>],
 ) -> Parsed<'t, 's>
     requires { room < MOST_ROOM }
-    ensures gives { Gives (λ x. (expression_view x.0.value, tokens_view x.2.now)) result (reading.arrow_of_list (below room) only (tokens_view tokens.now)) }
-    ensures height { IfOk result (λ x. (x.1 ≡ height (expression_view x.0.value)) × (x.1 ≤ room + 1)) }
-    ensures placed { IfOk result (λ x. Placed true nodes.old nodes.new (expression_places x.0.value) (tokens_view tokens.now) (tokens_view x.2.now)) }
+    ensures gives { ReadsExpression (reading.arrow_of_list (below room) only (tokens_view tokens.now)) result }
+    ensures height { ExpressionWithin (room + 1) result }
+    ensures placed { ExpressionPlaced nodes.old nodes.new (tokens_view tokens.now) result }
 {
     let rest = expect(TokenKind::LeftParenthesis, tokens)?;
     let (names, rest) = names_before(nodes.alloc(), rest)?;
@@ -88,9 +87,9 @@ fn arrow_of_names<'t, 's>(
     tokens: &'t [Token<'s>],
 ) -> Parsed<'t, 's>
     requires { room < MOST_ROOM }
-    ensures gives { Gives (λ x. (expression_view x.0.value, tokens_view x.2.now)) result (reading.arrow_of_names (below room) only (texts names.now) (tokens_view tokens.now)) }
-    ensures height { IfOk result (λ x. (x.1 ≡ height (expression_view x.0.value)) × (x.1 ≤ room + 1)) }
-    ensures placed { (old : List Span) → Placed true old nodes.old (plain (flat_parameters (texts names.now))) (tokens_view start.now) (tokens_view tokens.now) → IfOk result (λ x. Placed true old nodes.new (expression_places x.0.value) (tokens_view start.now) (tokens_view x.2.now)) }
+    ensures gives { ReadsExpression (reading.arrow_of_names (below room) only (texts names.now) (tokens_view tokens.now)) result }
+    ensures height { ExpressionWithin (room + 1) result }
+    ensures placed { (old : List Span) → Placed true old nodes.old (plain (flat_parameters (texts names.now))) (tokens_view start.now) (tokens_view tokens.now) → ExpressionPlaced old nodes.new (tokens_view start.now) result }
 {
     let mut taken = NameSet::new(nodes.alloc());
     if !take_fresh(&mut taken, names)? {
@@ -114,9 +113,9 @@ pub fn arrow_rest<'t, 's>(
 ) -> Parsed<'t, 's>
     requires room { room < MOST_ROOM }
     requires taken { taken ≡ with_names [] (names_of_parameters (parameters_view parameters)) }
-    ensures gives { Gives (λ x. (expression_view x.0.value, tokens_view x.2.now)) result (reading.arrow_rest (below room) (parameters_view parameters) (names_of_parameters (parameters_view parameters)) (tokens_view tokens.now)) }
-    ensures height { IfOk result (λ x. (x.1 ≡ height (expression_view x.0.value)) × (x.1 ≤ room + 1)) }
-    ensures placed { (old : List Span) → Placed true old nodes.old (plain (flat_arrow_parameters (parameters_view parameters))) (tokens_view start.now) (tokens_view tokens.now) → IfOk result (λ x. Placed true old nodes.new (expression_places x.0.value) (tokens_view start.now) (tokens_view x.2.now)) }
+    ensures gives { ReadsExpression (reading.arrow_rest (below room) (parameters_view parameters) (names_of_parameters (parameters_view parameters)) (tokens_view tokens.now)) result }
+    ensures height { ExpressionWithin (room + 1) result }
+    ensures placed { (old : List Span) → Placed true old nodes.old (plain (flat_arrow_parameters (parameters_view parameters))) (tokens_view start.now) (tokens_view tokens.now) → ExpressionPlaced old nodes.new (tokens_view start.now) result }
 {
     let rest = expect_near(TokenKind::Arrow, tokens)?;
     if is_next(TokenKind::LeftBrace, rest) {
@@ -141,9 +140,9 @@ fn arrow_block_at<'t, 's>(
 ) -> Parsed<'t, 's>
     requires room { room < MOST_ROOM }
     requires taken { taken ≡ with_names [] (names_of_parameters (parameters_view parameters)) }
-    ensures gives { Gives (λ x. (expression_view x.0.value, tokens_view x.2.now)) result (reading.arrow_body_by (below room) (parameters_view parameters) (names_of_parameters (parameters_view parameters)) true (tokens_view tokens.now)) }
-    ensures height { IfOk result (λ x. (x.1 ≡ height (expression_view x.0.value)) × (x.1 ≤ room + 1)) }
-    ensures placed { (old : List Span) → Placed true old nodes.old (in_turn (plain (flat_arrow_parameters (parameters_view parameters)) ∷ plain (a kinds.Arrow) ∷ [])) (tokens_view start.now) (tokens_view tokens.now) → IfOk result (λ x. Placed true old nodes.new (expression_places x.0.value) (tokens_view start.now) (tokens_view x.2.now)) }
+    ensures gives { ReadsExpression (reading.arrow_body_by (below room) (parameters_view parameters) (names_of_parameters (parameters_view parameters)) true (tokens_view tokens.now)) result }
+    ensures height { ExpressionWithin (room + 1) result }
+    ensures placed { (old : List Span) → Placed true old nodes.old (in_turn (plain (flat_arrow_parameters (parameters_view parameters)) ∷ plain (a kinds.Arrow) ∷ [])) (tokens_view start.now) (tokens_view tokens.now) → ExpressionPlaced old nodes.new (tokens_view start.now) result }
 {
     let (body, height, rest) = braces_at(nodes, room, Context::function_body(), taken, tokens)?;
     let node = nodes.add(start, rest)?;

@@ -1,9 +1,8 @@
 //! Members and calls (ECMA-262, 13.3).
 
-ghost use Rattle.std.specs.Prelude.{◌≡◌, ◌≤◌, ◌<◌, ◌+◌, suc, max, Some, IfOk, true, List};
+ghost use Rattle.std.specs.Prelude.{◌≡◌, ◌≤◌, ◌<◌, ◌+◌, suc, max, Some, true, List};
 ghost use Rattle.js_tree.specs.Height.{height};
 ghost use Rattle.js_tree.specs.Views.{expression_view};
-ghost use Rattle.js_syntax.specs.Giving.{Gives};
 ghost use Rattle.js_syntax.specs.Parsing as reading;
 ghost use Rattle.js_syntax.specs.Parsing.{below};
 ghost use Rattle.js_syntax.specs.Views.{tokens_view};
@@ -14,6 +13,7 @@ ghost use Rattle.js_language.specs.Places.{expression_places};
 ghost use Rattle.js_syntax.specs.Placed.{Placed};
 ghost use Rattle.js_tree.specs.declared.node.Span.{Span};
 ghost use Rattle.js_language.specs.Tokens.{head_of};
+ghost use Rattle.js_descent.specs.ReadTrees.{ReadsExpression, ExpressionWithin, ExpressionPlaced};
 
 use crate::expressions::expression_below;
 use crate::limits::MOST_ROOM;
@@ -35,9 +35,9 @@ use js_tree::tree::Expr;
 #[tactic(auto, unfolding(js_syntax::specs::Parsing::below))]
 pub fn call_below<'t, 's>(nodes: &mut Nodes, room: u32, tokens: &'t [Token<'s>]) -> Parsed<'t, 's>
     requires { room ≤ MOST_ROOM }
-    ensures gives { Gives (λ x. (expression_view x.0.value, tokens_view x.2.now)) result ((below room).call (tokens_view tokens.now)) }
-    ensures height { IfOk result (λ x. (x.1 ≡ height (expression_view x.0.value)) × (x.1 ≤ room)) }
-    ensures placed { IfOk result (λ x. Placed true nodes.old nodes.new (expression_places x.0.value) (tokens_view tokens.now) (tokens_view x.2.now)) }
+    ensures gives { ReadsExpression ((below room).call (tokens_view tokens.now)) result }
+    ensures height { ExpressionWithin room result }
+    ensures placed { ExpressionPlaced nodes.old nodes.new (tokens_view tokens.now) result }
 {
     if room == 0 {
         return Err(ParseError::TooDeep { left: tokens.len() });
@@ -50,9 +50,9 @@ pub fn call_below<'t, 's>(nodes: &mut Nodes, room: u32, tokens: &'t [Token<'s>])
 #[tactic(auto, unfolding(js_syntax::specs::Parsing::call))]
 pub fn call_at<'t, 's>(nodes: &mut Nodes, room: u32, tokens: &'t [Token<'s>]) -> Parsed<'t, 's>
     requires { room < MOST_ROOM }
-    ensures gives { Gives (λ x. (expression_view x.0.value, tokens_view x.2.now)) result (reading.call (below room) room (tokens_view tokens.now)) }
-    ensures height { IfOk result (λ x. (x.1 ≡ height (expression_view x.0.value)) × (x.1 ≤ room + 1)) }
-    ensures placed { IfOk result (λ x. Placed true nodes.old nodes.new (expression_places x.0.value) (tokens_view tokens.now) (tokens_view x.2.now)) }
+    ensures gives { ReadsExpression (reading.call (below room) room (tokens_view tokens.now)) result }
+    ensures height { ExpressionWithin (room + 1) result }
+    ensures placed { ExpressionPlaced nodes.old nodes.new (tokens_view tokens.now) result }
 {
     let (callee, height, rest) = primary_at(nodes, room, tokens)?;
     let callee = boxed(nodes.alloc(), callee)?;
@@ -75,9 +75,9 @@ fn links_at<'t, 's>(
     requires few { turns ≤ room + 1 }
     requires height { object_height ≡ height (expression_view object.value) }
     requires low { object_height ≤ room + 1 }
-    ensures gives { Gives (λ x. (expression_view x.0.value, tokens_view x.2.now)) result (reading.links (below room) room turns (expression_view object.value) (tokens_view tokens.now)) }
-    ensures height { IfOk result (λ x. (x.1 ≡ height (expression_view x.0.value)) × (x.1 ≤ room + 1)) }
-    ensures placed { (old : List Span) → Placed true old nodes.old (expression_places object.value) (tokens_view start.now) (tokens_view tokens.now) → IfOk result (λ x. Placed true old nodes.new (expression_places x.0.value) (tokens_view start.now) (tokens_view x.2.now)) }
+    ensures gives { ReadsExpression (reading.links (below room) room turns (expression_view object.value) (tokens_view tokens.now)) result }
+    ensures height { ExpressionWithin (room + 1) result }
+    ensures placed { (old : List Span) → Placed true old nodes.old (expression_places object.value) (tokens_view start.now) (tokens_view tokens.now) → ExpressionPlaced old nodes.new (tokens_view start.now) result }
 {
     if turns == 0 {
         return Err(ParseError::TooDeep { left: tokens.len() });
@@ -108,9 +108,9 @@ fn linked_at<'t, 's>(
     requires room { room < MOST_ROOM }
     requires height { object_height ≡ height (expression_view object.value) }
     requires low { object_height ≤ room }
-    ensures gives { Gives (λ x. (expression_view x.0.value, tokens_view x.2.now)) result (reading.linked_by (below room) (expression_view object.value) (link_view (Some link)) (tokens_view tokens.now)) }
-    ensures height { IfOk result (λ x. (x.1 ≡ height (expression_view x.0.value)) × (x.1 ≤ room + 1)) }
-    ensures placed { (old : List Span) → link_view (Some link) ≡ classes.link (head_of (tokens_view tokens.now)) → Placed true old nodes.old (expression_places object.value) (tokens_view start.now) (tokens_view tokens.now) → IfOk result (λ x. Placed true old nodes.new (expression_places x.0.value) (tokens_view start.now) (tokens_view x.2.now)) }
+    ensures gives { ReadsExpression (reading.linked_by (below room) (expression_view object.value) (link_view (Some link)) (tokens_view tokens.now)) result }
+    ensures height { ExpressionWithin (room + 1) result }
+    ensures placed { (old : List Span) → link_view (Some link) ≡ classes.link (head_of (tokens_view tokens.now)) → Placed true old nodes.old (expression_places object.value) (tokens_view start.now) (tokens_view tokens.now) → ExpressionPlaced old nodes.new (tokens_view start.now) result }
 {
     match link {
         Link::Dot => {
@@ -138,9 +138,9 @@ fn indexed_at<'t, 's>(
     requires room { room < MOST_ROOM }
     requires height { object_height ≡ height (expression_view object.value) }
     requires low { object_height ≤ room }
-    ensures gives { Gives (λ x. (expression_view x.0.value, tokens_view x.2.now)) result (reading.linked_by (below room) (expression_view object.value) key (tokens_view tokens.now)) }
-    ensures height { IfOk result (λ x. (x.1 ≡ height (expression_view x.0.value)) × (x.1 ≤ room + 1)) }
-    ensures placed { (old : List Span) → Placed true old nodes.old (expression_places object.value) (tokens_view start.now) (tokens_view tokens.now) → IfOk result (λ x. Placed true old nodes.new (expression_places x.0.value) (tokens_view start.now) (tokens_view x.2.now)) }
+    ensures gives { ReadsExpression (reading.linked_by (below room) (expression_view object.value) key (tokens_view tokens.now)) result }
+    ensures height { ExpressionWithin (room + 1) result }
+    ensures placed { (old : List Span) → Placed true old nodes.old (expression_places object.value) (tokens_view start.now) (tokens_view tokens.now) → ExpressionPlaced old nodes.new (tokens_view start.now) result }
 {
     let rest = expect(TokenKind::LeftBracket, tokens)?;
     let (key, key_height, rest) = expression_below(nodes, room, rest)?;
@@ -163,9 +163,9 @@ fn called_at<'t, 's>(
     requires room { room < MOST_ROOM }
     requires height { object_height ≡ height (expression_view object.value) }
     requires low { object_height ≤ room }
-    ensures gives { Gives (λ x. (expression_view x.0.value, tokens_view x.2.now)) result (reading.linked_by (below room) (expression_view object.value) classes.arguments (tokens_view tokens.now)) }
-    ensures height { IfOk result (λ x. (x.1 ≡ height (expression_view x.0.value)) × (x.1 ≤ room + 1)) }
-    ensures placed { (old : List Span) → Placed true old nodes.old (expression_places object.value) (tokens_view start.now) (tokens_view tokens.now) → IfOk result (λ x. Placed true old nodes.new (expression_places x.0.value) (tokens_view start.now) (tokens_view x.2.now)) }
+    ensures gives { ReadsExpression (reading.linked_by (below room) (expression_view object.value) classes.arguments (tokens_view tokens.now)) result }
+    ensures height { ExpressionWithin (room + 1) result }
+    ensures placed { (old : List Span) → Placed true old nodes.old (expression_places object.value) (tokens_view start.now) (tokens_view tokens.now) → ExpressionPlaced old nodes.new (tokens_view start.now) result }
 {
     let rest = expect(TokenKind::LeftParenthesis, tokens)?;
     let (arguments, height, rest) = arguments_before(

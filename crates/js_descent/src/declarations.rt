@@ -1,7 +1,7 @@
 //! Declarations, and statements with what they declare (ECMA-262, 14.3.1 and 15.2).
 
 ghost use Rattle.std.specs.Prelude.{◌≡◌, ◌≤◌, ◌<◌, ◌+◌, suc, IfOk, true};
-ghost use Rattle.js_tree.specs.Height.{height_of_declarator, height_of_declarators, height_of_statement};
+ghost use Rattle.js_tree.specs.Height.{height_of_declarator, height_of_declarators};
 ghost use Rattle.js_tree.specs.Views.{declarator_view, declarators_view, statement_view};
 ghost use Rattle.js_language.specs.Well as well;
 ghost use Rattle.js_syntax.specs.Giving.{Gives};
@@ -12,10 +12,11 @@ ghost use Rattle.js_syntax.specs.Productions.{with_declarator};
 ghost use Rattle.js_syntax.specs.Reading.{with_names};
 ghost use Rattle.js_syntax.specs.Views.{tokens_view};
 ghost use Rattle.js_syntax.specs.Context.{context_view};
-ghost use Rattle.js_language.specs.Places.{statement_places, declarators_places, declarator_places};
+ghost use Rattle.js_language.specs.Places.{declarators_places, declarator_places};
 ghost use Rattle.js_syntax.specs.Placed.{Placed};
 ghost use Rattle.js_language.specs.Tokens.{head_of, IsNext, fixed};
 ghost use Rattle.js_lexer.specs.declared.token.TokenKind.TheVariants as kinds;
+ghost use Rattle.js_descent.specs.ReadTrees.{ReadsStatement, StatementWithin, StatementPlaced};
 
 use crate::blocks::code_at;
 use crate::expressions::assignment_below;
@@ -46,10 +47,10 @@ pub fn item_below<'t, 's>(
     tokens: &'t [Token<'s>],
 ) -> ParsedStatement<'t, 's>
     requires { room ≤ MOST_ROOM }
-    ensures gives { Gives (λ x. (statement_view x.0, tokens_view x.2.now)) result ((below room).item (context_view context) names.old (tokens_view tokens.now)) }
-    ensures height { IfOk result (λ x. (x.1 ≡ height_of_statement (statement_view x.0)) × (x.1 ≤ room)) }
+    ensures gives { ReadsStatement ((below room).item (context_view context) names.old (tokens_view tokens.now)) result }
+    ensures height { StatementWithin room result }
     ensures names { IfOk result (λ x. names.new ≡ productions.with_declared names.old (statement_view x.0)) }
-    ensures placed { IfOk result (λ x. Placed true nodes.old nodes.new (statement_places x.0) (tokens_view tokens.now) (tokens_view x.2.now)) }
+    ensures placed { StatementPlaced nodes.old nodes.new (tokens_view tokens.now) result }
 {
     if room == 0 {
         return Err(ParseError::TooDeep { left: tokens.len() });
@@ -68,10 +69,10 @@ pub fn item_at<'t, 's>(
     tokens: &'t [Token<'s>],
 ) -> ParsedStatement<'t, 's>
     requires { room < MOST_ROOM }
-    ensures gives { Gives (λ x. (statement_view x.0, tokens_view x.2.now)) result (reading.item (below room) (context_view context) names.old (tokens_view tokens.now)) }
-    ensures height { IfOk result (λ x. (x.1 ≡ height_of_statement (statement_view x.0)) × (x.1 ≤ room + 1)) }
+    ensures gives { ReadsStatement (reading.item (below room) (context_view context) names.old (tokens_view tokens.now)) result }
+    ensures height { StatementWithin (room + 1) result }
     ensures names { IfOk result (λ x. names.new ≡ productions.with_declared names.old (statement_view x.0)) }
-    ensures placed { IfOk result (λ x. Placed true nodes.old nodes.new (statement_places x.0) (tokens_view tokens.now) (tokens_view x.2.now)) }
+    ensures placed { StatementPlaced nodes.old nodes.new (tokens_view tokens.now) result }
 {
     match first_of(tokens) {
         First::Lexical { constant } => lexical_at(nodes, room, constant, names, tokens),
@@ -97,10 +98,10 @@ fn lexical_at<'t, 's>(
     tokens: &'t [Token<'s>],
 ) -> ParsedStatement<'t, 's>
     requires { room < MOST_ROOM }
-    ensures gives { Gives (λ x. (statement_view x.0, tokens_view x.2.now)) result (reading.lexical_at (below room) constant names.old (tokens_view tokens.now)) }
-    ensures height { IfOk result (λ x. (x.1 ≡ height_of_statement (statement_view x.0)) × (x.1 ≤ room + 1)) }
+    ensures gives { ReadsStatement (reading.lexical_at (below room) constant names.old (tokens_view tokens.now)) result }
+    ensures height { StatementWithin (room + 1) result }
     ensures names { IfOk result (λ x. names.new ≡ productions.with_declared names.old (statement_view x.0)) }
-    ensures placed { IsNext (fixed (reading.let_kind constant)) (head_of (tokens_view tokens.now)) → IfOk result (λ x. Placed true nodes.old nodes.new (statement_places x.0) (tokens_view tokens.now) (tokens_view x.2.now)) }
+    ensures placed { IsNext (fixed (reading.let_kind constant)) (head_of (tokens_view tokens.now)) → StatementPlaced nodes.old nodes.new (tokens_view tokens.now) result }
 {
     let (declarators, height, rest) = declarators_at(nodes, room, constant, names, tail(tokens))?;
     let rest = semicolon_at(end_of(&declarators), rest)?;
@@ -119,10 +120,10 @@ fn declaration_at<'t, 's>(
     tokens: &'t [Token<'s>],
 ) -> ParsedStatement<'t, 's>
     requires { room < MOST_ROOM }
-    ensures gives { Gives (λ x. (statement_view x.0, tokens_view x.2.now)) result (reading.declaration_at (below room) names.old (tokens_view tokens.now)) }
-    ensures height { IfOk result (λ x. (x.1 ≡ height_of_statement (statement_view x.0)) × (x.1 ≤ room + 1)) }
+    ensures gives { ReadsStatement (reading.declaration_at (below room) names.old (tokens_view tokens.now)) result }
+    ensures height { StatementWithin (room + 1) result }
     ensures names { IfOk result (λ x. names.new ≡ productions.with_declared names.old (statement_view x.0)) }
-    ensures placed { IsNext (fixed kinds.Function) (head_of (tokens_view tokens.now)) → IfOk result (λ x. Placed true nodes.old nodes.new (statement_places x.0) (tokens_view tokens.now) (tokens_view x.2.now)) }
+    ensures placed { IsNext (fixed kinds.Function) (head_of (tokens_view tokens.now)) → StatementPlaced nodes.old nodes.new (tokens_view tokens.now) result }
 {
     let (text, rest) = fresh_name(names, tail(tokens))?;
     let (function, height, rest) = code_at(nodes, room, rest)?;

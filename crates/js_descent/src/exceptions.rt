@@ -1,8 +1,8 @@
 //! `try` (ECMA-262, 14.15).
 
 ghost use Rattle.std.specs.Prelude.{◌≡◌, ◌≤◌, ◌<◌, ◌+◌, suc, max, IfOk, true, false, List};
-ghost use Rattle.js_tree.specs.Height.{height_of_finalizer, height_of_handler, height_of_statement};
-ghost use Rattle.js_tree.specs.Views.{catch_view, finalizer_view, handler_view, statement_view};
+ghost use Rattle.js_tree.specs.Height.{height_of_finalizer, height_of_handler};
+ghost use Rattle.js_tree.specs.Views.{catch_view, finalizer_view, handler_view};
 ghost use Rattle.js_syntax.specs.Giving.{Gives};
 ghost use Rattle.js_language.specs.Kinds.{is_kind};
 ghost use Rattle.js_syntax.specs.Parsing as reading;
@@ -11,10 +11,11 @@ ghost use Rattle.js_syntax.specs.Views.{tokens_view};
 ghost use Rattle.js_language.specs.Tokens.{head_of};
 ghost use Rattle.js_lexer.specs.declared.token.TokenKind.TheVariants as kinds;
 ghost use Rattle.js_syntax.specs.Context.{context_view};
-ghost use Rattle.js_language.specs.Places.{statement_places, handler_places, plain, catch_places, finalizer_places};
+ghost use Rattle.js_language.specs.Places.{handler_places, plain, catch_places, finalizer_places};
 ghost use Rattle.js_syntax.specs.Placed.{Placed};
 ghost use Rattle.js_tree.specs.declared.node.Span.{Span};
 ghost use Rattle.js_language.specs.Flat.{a};
+ghost use Rattle.js_descent.specs.ReadTrees.{ReadsStatement, StatementWithin, StatementPlaced};
 
 use crate::blocks::block_below;
 use crate::limits::MOST_ROOM;
@@ -41,9 +42,9 @@ pub fn try_at<'t, 's>(
     tokens: &'t [Token<'s>],
 ) -> ParsedStatement<'t, 's>
     requires { room < MOST_ROOM }
-    ensures gives { Gives (λ x. (statement_view x.0, tokens_view x.2.now)) result (reading.try_at (below room) (context_view context) (tokens_view tokens.now)) }
-    ensures height { IfOk result (λ x. (x.1 ≡ height_of_statement (statement_view x.0)) × (x.1 ≤ room + 1)) }
-    ensures placed { IfOk result (λ x. Placed true nodes.old nodes.new (statement_places x.0) (tokens_view tokens.now) (tokens_view x.2.now)) }
+    ensures gives { ReadsStatement (reading.try_at (below room) (context_view context) (tokens_view tokens.now)) result }
+    ensures height { StatementWithin (room + 1) result }
+    ensures placed { StatementPlaced nodes.old nodes.new (tokens_view tokens.now) result }
 {
     let rest = expect(TokenKind::Try, tokens)?;
     let names = NameSet::new(nodes.alloc());

@@ -1,9 +1,8 @@
 //! Assignments, conditional expressions and comma lists (ECMA-262, 13.14 to 13.16).
 
-ghost use Rattle.std.specs.Prelude.{◌≡◌, ◌≤◌, ◌<◌, ◌+◌, suc, max, Some, IfOk, List};
+ghost use Rattle.std.specs.Prelude.{◌≡◌, ◌≤◌, ◌<◌, ◌+◌, suc, max, Some, List};
 ghost use Rattle.js_tree.specs.Height.{height};
 ghost use Rattle.js_tree.specs.Views.{expression_view};
-ghost use Rattle.js_syntax.specs.Giving.{Gives};
 ghost use Rattle.js_syntax.specs.Parsing as reading;
 ghost use Rattle.js_syntax.specs.Parsing.{below};
 ghost use Rattle.js_syntax.specs.Views.{tokens_view};
@@ -13,6 +12,7 @@ ghost use Rattle.js_syntax.specs.Heads.{joint_view};
 ghost use Rattle.js_language.specs.Places.{expression_places};
 ghost use Rattle.js_syntax.specs.Placed.{Placed};
 ghost use Rattle.js_tree.specs.declared.node.Span.{Span};
+ghost use Rattle.js_descent.specs.ReadTrees.{ReadsExpression, ExpressionWithin, ExpressionPlaced};
 
 use crate::arrows::{arrow_of_list, arrow_of_one};
 use crate::limits::MOST_ROOM;
@@ -40,9 +40,9 @@ pub fn expression_below<'t, 's>(
     tokens: &'t [Token<'s>],
 ) -> Parsed<'t, 's>
     requires { room ≤ MOST_ROOM }
-    ensures gives { Gives (λ x. (expression_view x.0.value, tokens_view x.2.now)) result ((below room).expression (tokens_view tokens.now)) }
-    ensures height { IfOk result (λ x. (x.1 ≡ height (expression_view x.0.value)) × (x.1 ≤ room)) }
-    ensures placed { IfOk result (λ x. Placed true nodes.old nodes.new (expression_places x.0.value) (tokens_view tokens.now) (tokens_view x.2.now)) }
+    ensures gives { ReadsExpression ((below room).expression (tokens_view tokens.now)) result }
+    ensures height { ExpressionWithin room result }
+    ensures placed { ExpressionPlaced nodes.old nodes.new (tokens_view tokens.now) result }
 {
     if room == 0 {
         return Err(ParseError::TooDeep { left: tokens.len() });
@@ -59,9 +59,9 @@ pub fn assignment_below<'t, 's>(
     tokens: &'t [Token<'s>],
 ) -> Parsed<'t, 's>
     requires { room ≤ MOST_ROOM }
-    ensures gives { Gives (λ x. (expression_view x.0.value, tokens_view x.2.now)) result ((below room).assignment (tokens_view tokens.now)) }
-    ensures height { IfOk result (λ x. (x.1 ≡ height (expression_view x.0.value)) × (x.1 ≤ room)) }
-    ensures placed { IfOk result (λ x. Placed true nodes.old nodes.new (expression_places x.0.value) (tokens_view tokens.now) (tokens_view x.2.now)) }
+    ensures gives { ReadsExpression ((below room).assignment (tokens_view tokens.now)) result }
+    ensures height { ExpressionWithin room result }
+    ensures placed { ExpressionPlaced nodes.old nodes.new (tokens_view tokens.now) result }
 {
     if room == 0 {
         return Err(ParseError::TooDeep { left: tokens.len() });
@@ -78,9 +78,9 @@ pub fn expression_at<'t, 's>(
     tokens: &'t [Token<'s>],
 ) -> Parsed<'t, 's>
     requires { room < MOST_ROOM }
-    ensures gives { Gives (λ x. (expression_view x.0.value, tokens_view x.2.now)) result (reading.expression (below room) room (tokens_view tokens.now)) }
-    ensures height { IfOk result (λ x. (x.1 ≡ height (expression_view x.0.value)) × (x.1 ≤ room + 1)) }
-    ensures placed { IfOk result (λ x. Placed true nodes.old nodes.new (expression_places x.0.value) (tokens_view tokens.now) (tokens_view x.2.now)) }
+    ensures gives { ReadsExpression (reading.expression (below room) room (tokens_view tokens.now)) result }
+    ensures height { ExpressionWithin (room + 1) result }
+    ensures placed { ExpressionPlaced nodes.old nodes.new (tokens_view tokens.now) result }
 {
     let (first, height, rest) = assignment_at(nodes, room, tokens)?;
     if is_next(TokenKind::Comma, rest) {
@@ -104,9 +104,9 @@ fn comma_at<'t, 's>(
     requires room { room < MOST_ROOM }
     requires height { first_height ≡ height (expression_view first.value) }
     requires low { first_height ≤ room + 1 }
-    ensures gives { Gives (λ x. (expression_view x.0.value, tokens_view x.2.now)) result (reading.comma_by (below room) room (expression_view first.value) true (tokens_view tokens.now)) }
-    ensures height { IfOk result (λ x. (x.1 ≡ height (expression_view x.0.value)) × (x.1 ≤ room + 1)) }
-    ensures placed { (old : List Span) → Placed true old nodes.old (expression_places first.value) (tokens_view start.now) (tokens_view tokens.now) → IfOk result (λ x. Placed true old nodes.new (expression_places x.0.value) (tokens_view start.now) (tokens_view x.2.now)) }
+    ensures gives { ReadsExpression (reading.comma_by (below room) room (expression_view first.value) true (tokens_view tokens.now)) result }
+    ensures height { ExpressionWithin (room + 1) result }
+    ensures placed { (old : List Span) → Placed true old nodes.old (expression_places first.value) (tokens_view start.now) (tokens_view tokens.now) → ExpressionPlaced old nodes.new (tokens_view start.now) result }
 {
     if first_height > room {
         return Err(ParseError::TooDeep {
@@ -129,9 +129,9 @@ pub fn assignment_at<'t, 's>(
     tokens: &'t [Token<'s>],
 ) -> Parsed<'t, 's>
     requires { room < MOST_ROOM }
-    ensures gives { Gives (λ x. (expression_view x.0.value, tokens_view x.2.now)) result (reading.assignment (below room) room (tokens_view tokens.now)) }
-    ensures height { IfOk result (λ x. (x.1 ≡ height (expression_view x.0.value)) × (x.1 ≤ room + 1)) }
-    ensures placed { IfOk result (λ x. Placed true nodes.old nodes.new (expression_places x.0.value) (tokens_view tokens.now) (tokens_view x.2.now)) }
+    ensures gives { ReadsExpression (reading.assignment (below room) room (tokens_view tokens.now)) result }
+    ensures height { ExpressionWithin (room + 1) result }
+    ensures placed { ExpressionPlaced nodes.old nodes.new (tokens_view tokens.now) result }
 {
     match arrow_head(tokens) {
         Some(Head::Name) => arrow_of_one(nodes, room, tokens),
@@ -157,9 +157,9 @@ fn joined_at<'t, 's>(
     requires room { room < MOST_ROOM }
     requires height { first_height ≡ height (expression_view first.value) }
     requires low { first_height ≤ room + 1 }
-    ensures gives { Gives (λ x. (expression_view x.0.value, tokens_view x.2.now)) result (reading.joined (below room) room (expression_view first.value) (tokens_view tokens.now)) }
-    ensures height { IfOk result (λ x. (x.1 ≡ height (expression_view x.0.value)) × (x.1 ≤ room + 1)) }
-    ensures placed { (old : List Span) → Placed true old nodes.old (expression_places first.value) (tokens_view start.now) (tokens_view tokens.now) → IfOk result (λ x. Placed true old nodes.new (expression_places x.0.value) (tokens_view start.now) (tokens_view x.2.now)) }
+    ensures gives { ReadsExpression (reading.joined (below room) room (expression_view first.value) (tokens_view tokens.now)) result }
+    ensures height { ExpressionWithin (room + 1) result }
+    ensures placed { (old : List Span) → Placed true old nodes.old (expression_places first.value) (tokens_view start.now) (tokens_view tokens.now) → ExpressionPlaced old nodes.new (tokens_view start.now) result }
 {
     match joint_of(tokens) {
         Some(Joint::Question) => conditional_at(nodes, room, first, first_height, start, tokens),
@@ -183,9 +183,9 @@ fn conditional_at<'t, 's>(
     requires room { room < MOST_ROOM }
     requires height { first_height ≡ height (expression_view first.value) }
     requires low { first_height ≤ room + 1 }
-    ensures gives { Gives (λ x. (expression_view x.0.value, tokens_view x.2.now)) result (reading.joined_by (below room) room (expression_view first.value) question (tokens_view tokens.now)) }
-    ensures height { IfOk result (λ x. (x.1 ≡ height (expression_view x.0.value)) × (x.1 ≤ room + 1)) }
-    ensures placed { (old : List Span) → Placed true old nodes.old (expression_places first.value) (tokens_view start.now) (tokens_view tokens.now) → IfOk result (λ x. Placed true old nodes.new (expression_places x.0.value) (tokens_view start.now) (tokens_view x.2.now)) }
+    ensures gives { ReadsExpression (reading.joined_by (below room) room (expression_view first.value) question (tokens_view tokens.now)) result }
+    ensures height { ExpressionWithin (room + 1) result }
+    ensures placed { (old : List Span) → Placed true old nodes.old (expression_places first.value) (tokens_view start.now) (tokens_view tokens.now) → ExpressionPlaced old nodes.new (tokens_view start.now) result }
 {
     if first_height > room {
         return Err(ParseError::TooDeep {
@@ -216,9 +216,9 @@ fn assigned_at<'t, 's>(
     requires room { room < MOST_ROOM }
     requires height { first_height ≡ height (expression_view first.value) }
     requires low { first_height ≤ room + 1 }
-    ensures gives { Gives (λ x. (expression_view x.0.value, tokens_view x.2.now)) result (reading.joined_by (below room) room (expression_view first.value) (assigns_by operator) (tokens_view tokens.now)) }
-    ensures height { IfOk result (λ x. (x.1 ≡ height (expression_view x.0.value)) × (x.1 ≤ room + 1)) }
-    ensures placed { (old : List Span) → Placed true old nodes.old (expression_places first.value) (tokens_view start.now) (tokens_view tokens.now) → IfOk result (λ x. Placed true old nodes.new (expression_places x.0.value) (tokens_view start.now) (tokens_view x.2.now)) }
+    ensures gives { ReadsExpression (reading.joined_by (below room) room (expression_view first.value) (assigns_by operator) (tokens_view tokens.now)) result }
+    ensures height { ExpressionWithin (room + 1) result }
+    ensures placed { (old : List Span) → Placed true old nodes.old (expression_places first.value) (tokens_view start.now) (tokens_view tokens.now) → ExpressionPlaced old nodes.new (tokens_view start.now) result }
 {
     if !is_target(&first) {
         return Err(ParseError::Syntax { left: tokens.len() });

@@ -1,16 +1,12 @@
 //! Loops (ECMA-262, 14.7).
 
-ghost use Rattle.std.specs.Prelude.{◌≡◌, ◌≤◌, ◌<◌, ◌+◌, suc, max, Some, IfOk, true};
-ghost use Rattle.js_tree.specs.Height.{height_of_statement};
-ghost use Rattle.js_tree.specs.Views.{statement_view};
+ghost use Rattle.std.specs.Prelude.{◌≡◌, ◌≤◌, ◌<◌, ◌+◌, suc, max, Some, true};
 ghost use Rattle.js_syntax.specs.Classes as classes;
-ghost use Rattle.js_syntax.specs.Giving.{Gives};
 ghost use Rattle.js_syntax.specs.Parsing as reading;
 ghost use Rattle.js_syntax.specs.Parsing.{below};
 ghost use Rattle.js_syntax.specs.Views.{tokens_view};
 ghost use Rattle.js_syntax.specs.Context.{context_view};
-ghost use Rattle.js_language.specs.Places.{statement_places};
-ghost use Rattle.js_syntax.specs.Placed.{Placed};
+ghost use Rattle.js_descent.specs.ReadTrees.{ReadsStatement, StatementWithin, StatementPlaced};
 
 use crate::declarations::declarators_at;
 use crate::expressions::{assignment_below, expression_below};
@@ -41,9 +37,9 @@ pub fn do_at<'t, 's>(
     tokens: &'t [Token<'s>],
 ) -> ParsedStatement<'t, 's>
     requires { room < MOST_ROOM }
-    ensures gives { Gives (λ x. (statement_view x.0, tokens_view x.2.now)) result (reading.statement_by (below room) (context_view context) classes.a_do (tokens_view tokens.now)) }
-    ensures height { IfOk result (λ x. (x.1 ≡ height_of_statement (statement_view x.0)) × (x.1 ≤ room + 1)) }
-    ensures placed { IfOk result (λ x. Placed true nodes.old nodes.new (statement_places x.0) (tokens_view tokens.now) (tokens_view x.2.now)) }
+    ensures gives { ReadsStatement (reading.statement_by (below room) (context_view context) classes.a_do (tokens_view tokens.now)) result }
+    ensures height { StatementWithin (room + 1) result }
+    ensures placed { StatementPlaced nodes.old nodes.new (tokens_view tokens.now) result }
 {
     let rest = expect(TokenKind::Do, tokens)?;
     let (body, body_height, rest) = statement_below(nodes, room, context.loop_body(), rest)?;
@@ -66,9 +62,9 @@ pub fn while_at<'t, 's>(
     tokens: &'t [Token<'s>],
 ) -> ParsedStatement<'t, 's>
     requires { room < MOST_ROOM }
-    ensures gives { Gives (λ x. (statement_view x.0, tokens_view x.2.now)) result (reading.statement_by (below room) (context_view context) classes.a_while (tokens_view tokens.now)) }
-    ensures height { IfOk result (λ x. (x.1 ≡ height_of_statement (statement_view x.0)) × (x.1 ≤ room + 1)) }
-    ensures placed { IfOk result (λ x. Placed true nodes.old nodes.new (statement_places x.0) (tokens_view tokens.now) (tokens_view x.2.now)) }
+    ensures gives { ReadsStatement (reading.statement_by (below room) (context_view context) classes.a_while (tokens_view tokens.now)) result }
+    ensures height { StatementWithin (room + 1) result }
+    ensures placed { StatementPlaced nodes.old nodes.new (tokens_view tokens.now) result }
 {
     let rest = expect(TokenKind::While, tokens)?;
     let rest = expect(TokenKind::LeftParenthesis, rest)?;
@@ -90,9 +86,9 @@ pub fn for_at<'t, 's>(
     tokens: &'t [Token<'s>],
 ) -> ParsedStatement<'t, 's>
     requires { room < MOST_ROOM }
-    ensures gives { Gives (λ x. (statement_view x.0, tokens_view x.2.now)) result (reading.for_at (below room) (context_view context) (tokens_view tokens.now)) }
-    ensures height { IfOk result (λ x. (x.1 ≡ height_of_statement (statement_view x.0)) × (x.1 ≤ room + 1)) }
-    ensures placed { IfOk result (λ x. Placed true nodes.old nodes.new (statement_places x.0) (tokens_view tokens.now) (tokens_view x.2.now)) }
+    ensures gives { ReadsStatement (reading.for_at (below room) (context_view context) (tokens_view tokens.now)) result }
+    ensures height { StatementWithin (room + 1) result }
+    ensures placed { StatementPlaced nodes.old nodes.new (tokens_view tokens.now) result }
 {
     match for_head_of(tail(tail(tokens))) {
         Some(ForHead::Each { constant }) => for_of_at(nodes, room, context, constant, tokens),
@@ -124,9 +120,9 @@ fn for_of_at<'t, 's>(
     tokens: &'t [Token<'s>],
 ) -> ParsedStatement<'t, 's>
     requires { room < MOST_ROOM }
-    ensures gives { Gives (λ x. (statement_view x.0, tokens_view x.2.now)) result (reading.for_by (below room) (context_view context) (classes.each constant) (tokens_view tokens.now)) }
-    ensures height { IfOk result (λ x. (x.1 ≡ height_of_statement (statement_view x.0)) × (x.1 ≤ room + 1)) }
-    ensures placed { IfOk result (λ x. Placed true nodes.old nodes.new (statement_places x.0) (tokens_view tokens.now) (tokens_view x.2.now)) }
+    ensures gives { ReadsStatement (reading.for_by (below room) (context_view context) (classes.each constant) (tokens_view tokens.now)) result }
+    ensures height { StatementWithin (room + 1) result }
+    ensures placed { StatementPlaced nodes.old nodes.new (tokens_view tokens.now) result }
 {
     let rest = expect(TokenKind::For, tokens)?;
     let rest = expect(TokenKind::LeftParenthesis, rest)?;
@@ -152,9 +148,9 @@ fn for_lexical_at<'t, 's>(
     tokens: &'t [Token<'s>],
 ) -> ParsedStatement<'t, 's>
     requires { room < MOST_ROOM }
-    ensures gives { Gives (λ x. (statement_view x.0, tokens_view x.2.now)) result (reading.for_by (below room) (context_view context) (classes.declares constant) (tokens_view tokens.now)) }
-    ensures height { IfOk result (λ x. (x.1 ≡ height_of_statement (statement_view x.0)) × (x.1 ≤ room + 1)) }
-    ensures placed { IfOk result (λ x. Placed true nodes.old nodes.new (statement_places x.0) (tokens_view tokens.now) (tokens_view x.2.now)) }
+    ensures gives { ReadsStatement (reading.for_by (below room) (context_view context) (classes.declares constant) (tokens_view tokens.now)) result }
+    ensures height { StatementWithin (room + 1) result }
+    ensures placed { StatementPlaced nodes.old nodes.new (tokens_view tokens.now) result }
 {
     let rest = expect(TokenKind::For, tokens)?;
     let rest = expect(TokenKind::LeftParenthesis, rest)?;
@@ -183,9 +179,9 @@ fn for_plain_at<'t, 's>(
     tokens: &'t [Token<'s>],
 ) -> ParsedStatement<'t, 's>
     requires { room < MOST_ROOM }
-    ensures gives { Gives (λ x. (statement_view x.0, tokens_view x.2.now)) result (reading.for_by (below room) (context_view context) classes.plain_head (tokens_view tokens.now)) }
-    ensures height { IfOk result (λ x. (x.1 ≡ height_of_statement (statement_view x.0)) × (x.1 ≤ room + 1)) }
-    ensures placed { IfOk result (λ x. Placed true nodes.old nodes.new (statement_places x.0) (tokens_view tokens.now) (tokens_view x.2.now)) }
+    ensures gives { ReadsStatement (reading.for_by (below room) (context_view context) classes.plain_head (tokens_view tokens.now)) result }
+    ensures height { StatementWithin (room + 1) result }
+    ensures placed { StatementPlaced nodes.old nodes.new (tokens_view tokens.now) result }
 {
     let rest = expect(TokenKind::For, tokens)?;
     let rest = expect(TokenKind::LeftParenthesis, rest)?;

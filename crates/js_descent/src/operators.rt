@@ -1,9 +1,8 @@
 //! Operators, prefixes and postfixes (ECMA-262, 13.4 to 13.13).
 
-ghost use Rattle.std.specs.Prelude.{◌≡◌, ◌≤◌, ◌<◌, ◌+◌, suc, max, Some, IfOk, true, List};
+ghost use Rattle.std.specs.Prelude.{◌≡◌, ◌≤◌, ◌<◌, ◌+◌, suc, max, Some, true, List};
 ghost use Rattle.js_tree.specs.Height.{height};
 ghost use Rattle.js_tree.specs.Views.{expression_view};
-ghost use Rattle.js_syntax.specs.Giving.{Gives};
 ghost use Rattle.js_syntax.specs.Parsing as reading;
 ghost use Rattle.js_syntax.specs.Parsing.{below};
 ghost use Rattle.js_syntax.specs.Views.{tokens_view};
@@ -15,6 +14,7 @@ ghost use Rattle.js_syntax.specs.Placed.{Placed};
 ghost use Rattle.js_tree.specs.declared.node.Span.{Span};
 ghost use Rattle.js_language.specs.Flat.{update_kind};
 ghost use Rattle.js_lexer.specs.declared.token.TokenKind.TheVariants as kinds;
+ghost use Rattle.js_descent.specs.ReadTrees.{ReadsExpression, ExpressionWithin, ExpressionPlaced};
 
 use crate::calls::{call_at, call_below};
 use crate::limits::MOST_ROOM;
@@ -39,9 +39,9 @@ pub fn operation_below<'t, 's>(
     tokens: &'t [Token<'s>],
 ) -> Parsed<'t, 's>
     requires { room ≤ MOST_ROOM }
-    ensures gives { Gives (λ x. (expression_view x.0.value, tokens_view x.2.now)) result ((below room).operation least (tokens_view tokens.now)) }
-    ensures height { IfOk result (λ x. (x.1 ≡ height (expression_view x.0.value)) × (x.1 ≤ room)) }
-    ensures placed { IfOk result (λ x. Placed true nodes.old nodes.new (expression_places x.0.value) (tokens_view tokens.now) (tokens_view x.2.now)) }
+    ensures gives { ReadsExpression ((below room).operation least (tokens_view tokens.now)) result }
+    ensures height { ExpressionWithin room result }
+    ensures placed { ExpressionPlaced nodes.old nodes.new (tokens_view tokens.now) result }
 {
     if room == 0 {
         return Err(ParseError::TooDeep { left: tokens.len() });
@@ -54,9 +54,9 @@ pub fn operation_below<'t, 's>(
 #[tactic(auto, unfolding(js_syntax::specs::Parsing::below))]
 pub fn unary_below<'t, 's>(nodes: &mut Nodes, room: u32, tokens: &'t [Token<'s>]) -> Parsed<'t, 's>
     requires { room ≤ MOST_ROOM }
-    ensures gives { Gives (λ x. (expression_view x.0.value, tokens_view x.2.now)) result ((below room).unary (tokens_view tokens.now)) }
-    ensures height { IfOk result (λ x. (x.1 ≡ height (expression_view x.0.value)) × (x.1 ≤ room)) }
-    ensures placed { IfOk result (λ x. Placed true nodes.old nodes.new (expression_places x.0.value) (tokens_view tokens.now) (tokens_view x.2.now)) }
+    ensures gives { ReadsExpression ((below room).unary (tokens_view tokens.now)) result }
+    ensures height { ExpressionWithin room result }
+    ensures placed { ExpressionPlaced nodes.old nodes.new (tokens_view tokens.now) result }
 {
     if room == 0 {
         return Err(ParseError::TooDeep { left: tokens.len() });
@@ -74,9 +74,9 @@ pub fn operation_at<'t, 's>(
     tokens: &'t [Token<'s>],
 ) -> Parsed<'t, 's>
     requires { room < MOST_ROOM }
-    ensures gives { Gives (λ x. (expression_view x.0.value, tokens_view x.2.now)) result (reading.operation (below room) room least (tokens_view tokens.now)) }
-    ensures height { IfOk result (λ x. (x.1 ≡ height (expression_view x.0.value)) × (x.1 ≤ room + 1)) }
-    ensures placed { IfOk result (λ x. Placed true nodes.old nodes.new (expression_places x.0.value) (tokens_view tokens.now) (tokens_view x.2.now)) }
+    ensures gives { ReadsExpression (reading.operation (below room) room least (tokens_view tokens.now)) result }
+    ensures height { ExpressionWithin (room + 1) result }
+    ensures placed { ExpressionPlaced nodes.old nodes.new (tokens_view tokens.now) result }
 {
     let (left, left_height, rest) = unary_at(nodes, room, tokens)?;
     chain_at(
@@ -120,9 +120,9 @@ fn chain_at<'t, 's>(
     requires few { turns ≤ room + 1 }
     requires height { left_height ≡ height (expression_view left.value) }
     requires low { left_height ≤ room + 1 }
-    ensures gives { Gives (λ x. (expression_view x.0.value, tokens_view x.2.now)) result (reading.chain (below room) room least turns (expression_view left.value) (tokens_view tokens.now)) }
-    ensures height { IfOk result (λ x. (x.1 ≡ height (expression_view x.0.value)) × (x.1 ≤ room + 1)) }
-    ensures placed { (old : List Span) → Placed true old nodes.old (expression_places left.value) (tokens_view start.now) (tokens_view tokens.now) → IfOk result (λ x. Placed true old nodes.new (expression_places x.0.value) (tokens_view start.now) (tokens_view x.2.now)) }
+    ensures gives { ReadsExpression (reading.chain (below room) room least turns (expression_view left.value) (tokens_view tokens.now)) result }
+    ensures height { ExpressionWithin (room + 1) result }
+    ensures placed { (old : List Span) → Placed true old nodes.old (expression_places left.value) (tokens_view start.now) (tokens_view tokens.now) → ExpressionPlaced old nodes.new (tokens_view start.now) result }
 {
     if turns == 0 {
         return Err(ParseError::TooDeep { left: tokens.len() });
@@ -156,9 +156,9 @@ fn chain_at<'t, 's>(
 #[tactic(auto, unfolding(js_syntax::specs::Parsing::unary))]
 pub fn unary_at<'t, 's>(nodes: &mut Nodes, room: u32, tokens: &'t [Token<'s>]) -> Parsed<'t, 's>
     requires { room < MOST_ROOM }
-    ensures gives { Gives (λ x. (expression_view x.0.value, tokens_view x.2.now)) result (reading.unary (below room) room (tokens_view tokens.now)) }
-    ensures height { IfOk result (λ x. (x.1 ≡ height (expression_view x.0.value)) × (x.1 ≤ room + 1)) }
-    ensures placed { IfOk result (λ x. Placed true nodes.old nodes.new (expression_places x.0.value) (tokens_view tokens.now) (tokens_view x.2.now)) }
+    ensures gives { ReadsExpression (reading.unary (below room) room (tokens_view tokens.now)) result }
+    ensures height { ExpressionWithin (room + 1) result }
+    ensures placed { ExpressionPlaced nodes.old nodes.new (tokens_view tokens.now) result }
 {
     match prefix_of(tokens) {
         Some(Prefix::Delete) => deleted_at(nodes, room, tokens),
@@ -177,9 +177,9 @@ pub fn unary_at<'t, 's>(nodes: &mut Nodes, room: u32, tokens: &'t [Token<'s>]) -
 #[cycle(parser)]
 fn deleted_at<'t, 's>(nodes: &mut Nodes, room: u32, tokens: &'t [Token<'s>]) -> Parsed<'t, 's>
     requires { room < MOST_ROOM }
-    ensures gives { Gives (λ x. (expression_view x.0.value, tokens_view x.2.now)) result (reading.unary_by (below room) room deletes (tokens_view tokens.now)) }
-    ensures height { IfOk result (λ x. (x.1 ≡ height (expression_view x.0.value)) × (x.1 ≤ room + 1)) }
-    ensures placed { IsNext (fixed kinds.Delete) (head_of (tokens_view tokens.now)) → IfOk result (λ x. Placed true nodes.old nodes.new (expression_places x.0.value) (tokens_view tokens.now) (tokens_view x.2.now)) }
+    ensures gives { ReadsExpression (reading.unary_by (below room) room deletes (tokens_view tokens.now)) result }
+    ensures height { ExpressionWithin (room + 1) result }
+    ensures placed { IsNext (fixed kinds.Delete) (head_of (tokens_view tokens.now)) → ExpressionPlaced nodes.old nodes.new (tokens_view tokens.now) result }
 {
     let (operand, height, rest) = call_below(nodes, room, tail(tokens))?;
     if !is_property(&operand) {
@@ -199,9 +199,9 @@ fn updated_at<'t, 's>(
     tokens: &'t [Token<'s>],
 ) -> Parsed<'t, 's>
     requires { room < MOST_ROOM }
-    ensures gives { Gives (λ x. (expression_view x.0.value, tokens_view x.2.now)) result (reading.unary_by (below room) room (an_update operator) (tokens_view tokens.now)) }
-    ensures height { IfOk result (λ x. (x.1 ≡ height (expression_view x.0.value)) × (x.1 ≤ room + 1)) }
-    ensures placed { IsNext (fixed (update_kind operator)) (head_of (tokens_view tokens.now)) → IfOk result (λ x. Placed true nodes.old nodes.new (expression_places x.0.value) (tokens_view tokens.now) (tokens_view x.2.now)) }
+    ensures gives { ReadsExpression (reading.unary_by (below room) room (an_update operator) (tokens_view tokens.now)) result }
+    ensures height { ExpressionWithin (room + 1) result }
+    ensures placed { IsNext (fixed (update_kind operator)) (head_of (tokens_view tokens.now)) → ExpressionPlaced nodes.old nodes.new (tokens_view tokens.now) result }
 {
     let (operand, height, rest) = call_below(nodes, room, tail(tokens))?;
     if !is_target(&operand) {
@@ -217,9 +217,9 @@ fn updated_at<'t, 's>(
 #[tactic(auto, unfolding(js_syntax::specs::Parsing::postfix))]
 fn postfix_at<'t, 's>(nodes: &mut Nodes, room: u32, tokens: &'t [Token<'s>]) -> Parsed<'t, 's>
     requires { room < MOST_ROOM }
-    ensures gives { Gives (λ x. (expression_view x.0.value, tokens_view x.2.now)) result (reading.postfix (below room) room (tokens_view tokens.now)) }
-    ensures height { IfOk result (λ x. (x.1 ≡ height (expression_view x.0.value)) × (x.1 ≤ room + 1)) }
-    ensures placed { IfOk result (λ x. Placed true nodes.old nodes.new (expression_places x.0.value) (tokens_view tokens.now) (tokens_view x.2.now)) }
+    ensures gives { ReadsExpression (reading.postfix (below room) room (tokens_view tokens.now)) result }
+    ensures height { ExpressionWithin (room + 1) result }
+    ensures placed { ExpressionPlaced nodes.old nodes.new (tokens_view tokens.now) result }
 {
     let (operand, height, rest) = call_at(nodes, room, tokens)?;
     let Some(operator) = update_near(rest) else {

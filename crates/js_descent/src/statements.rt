@@ -4,7 +4,7 @@ ghost use Rattle.std.specs.Prelude.{◌≡◌, ◌≤◌, ◌<◌, ◌+◌, ◌�
 ghost use Rattle.js_tree.specs.Height.{height, height_of_optional, height_of_statement};
 ghost use Rattle.js_language.specs.Tokens.{head_of, is_on_line, tail_of};
 ghost use Rattle.js_tree.specs.Trees as trees;
-ghost use Rattle.js_tree.specs.Views.{expression_view, optional_view, statement_view};
+ghost use Rattle.js_tree.specs.Views.{optional_view, statement_view};
 ghost use Rattle.js_language.specs.Well as well;
 ghost use Rattle.js_syntax.specs.Classes as classes;
 ghost use Rattle.js_syntax.specs.Giving.{Gives};
@@ -18,6 +18,7 @@ ghost use Rattle.js_language.specs.Places.{statement_places, in_turn, may_stand,
 ghost use Rattle.js_syntax.specs.Placed.{Placed};
 ghost use Rattle.js_language.specs.Flat.{a};
 ghost use Rattle.js_lexer.specs.declared.token.TokenKind.TheVariants as kinds;
+ghost use Rattle.js_descent.specs.ReadTrees.{ReadsExpression, ExpressionWithin, ReadsStatement, StatementWithin, StatementPlaced};
 
 use crate::blocks::braces_at;
 use crate::exceptions::try_at;
@@ -72,9 +73,9 @@ pub fn statement_at<'t, 's>(
     tokens: &'t [Token<'s>],
 ) -> ParsedStatement<'t, 's>
     requires { room < MOST_ROOM }
-    ensures gives { Gives (λ x. (statement_view x.0, tokens_view x.2.now)) result (reading.statement (below room) (context_view context) (tokens_view tokens.now)) }
-    ensures height { IfOk result (λ x. (x.1 ≡ height_of_statement (statement_view x.0)) × (x.1 ≤ room + 1)) }
-    ensures placed { IfOk result (λ x. Placed true nodes.old nodes.new (statement_places x.0) (tokens_view tokens.now) (tokens_view x.2.now)) }
+    ensures gives { ReadsStatement (reading.statement (below room) (context_view context) (tokens_view tokens.now)) result }
+    ensures height { StatementWithin (room + 1) result }
+    ensures placed { StatementPlaced nodes.old nodes.new (tokens_view tokens.now) result }
 {
     match first_of(tokens) {
         First::Block => block_at(nodes, room, context, tokens),
@@ -106,9 +107,9 @@ fn block_at<'t, 's>(
     tokens: &'t [Token<'s>],
 ) -> ParsedStatement<'t, 's>
     requires { room < MOST_ROOM }
-    ensures gives { Gives (λ x. (statement_view x.0, tokens_view x.2.now)) result (reading.statement_by (below room) (context_view context) classes.a_block (tokens_view tokens.now)) }
-    ensures height { IfOk result (λ x. (x.1 ≡ height_of_statement (statement_view x.0)) × (x.1 ≤ room + 1)) }
-    ensures placed { IfOk result (λ x. Placed true nodes.old nodes.new (statement_places x.0) (tokens_view tokens.now) (tokens_view x.2.now)) }
+    ensures gives { ReadsStatement (reading.statement_by (below room) (context_view context) classes.a_block (tokens_view tokens.now)) result }
+    ensures height { StatementWithin (room + 1) result }
+    ensures placed { StatementPlaced nodes.old nodes.new (tokens_view tokens.now) result }
 {
     let names = NameSet::new(nodes.alloc());
     let (body, height, rest) = braces_at(nodes, room, context, names, tokens)?;
@@ -121,8 +122,8 @@ fn block_at<'t, 's>(
 #[tactic(auto, unfolding(js_syntax::specs::Productions::ended_expression))]
 fn ended_expression<'t, 's>(nodes: &mut Nodes, room: u32, tokens: &'t [Token<'s>]) -> Parsed<'t, 's>
     requires { room < MOST_ROOM }
-    ensures gives { Gives (λ x. (expression_view x.0.value, tokens_view x.2.now)) result (productions.ended_expression (below room) (tokens_view tokens.now)) }
-    ensures height { IfOk result (λ x. (x.1 ≡ height (expression_view x.0.value)) × (x.1 ≤ room)) }
+    ensures gives { ReadsExpression (productions.ended_expression (below room) (tokens_view tokens.now)) result }
+    ensures height { ExpressionWithin room result }
     ensures placed { IfOk result (λ x. Placed true nodes.old nodes.new (in_turn (expression_places x.0.value ∷ may_stand kinds.Semicolon ∷ [])) (tokens_view tokens.now) (tokens_view x.2.now)) }
 {
     let (tree, height, rest) = expression_below(nodes, room, tokens)?;
@@ -160,9 +161,9 @@ fn expression_statement_at<'t, 's>(
     tokens: &'t [Token<'s>],
 ) -> ParsedStatement<'t, 's>
     requires { room < MOST_ROOM }
-    ensures gives { Gives (λ x. (statement_view x.0, tokens_view x.2.now)) result (productions.made (below room) (productions.ended ∷ []) (λ v. trees.expression v.0) (tokens_view tokens.now)) }
-    ensures height { IfOk result (λ x. (x.1 ≡ height_of_statement (statement_view x.0)) × (x.1 ≤ room + 1)) }
-    ensures placed { IfOk result (λ x. Placed true nodes.old nodes.new (statement_places x.0) (tokens_view tokens.now) (tokens_view x.2.now)) }
+    ensures gives { ReadsStatement (productions.made (below room) (productions.ended ∷ []) (λ v. trees.expression v.0) (tokens_view tokens.now)) result }
+    ensures height { StatementWithin (room + 1) result }
+    ensures placed { StatementPlaced nodes.old nodes.new (tokens_view tokens.now) result }
 {
     let (tree, height, rest) = ended_expression(nodes, room, tokens)?;
     let node = nodes.add(tokens, rest)?;
@@ -179,9 +180,9 @@ fn if_at<'t, 's>(
     tokens: &'t [Token<'s>],
 ) -> ParsedStatement<'t, 's>
     requires { room < MOST_ROOM }
-    ensures gives { Gives (λ x. (statement_view x.0, tokens_view x.2.now)) result (reading.if_at (below room) (context_view context) (tokens_view tokens.now)) }
-    ensures height { IfOk result (λ x. (x.1 ≡ height_of_statement (statement_view x.0)) × (x.1 ≤ room + 1)) }
-    ensures placed { IfOk result (λ x. Placed true nodes.old nodes.new (statement_places x.0) (tokens_view tokens.now) (tokens_view x.2.now)) }
+    ensures gives { ReadsStatement (reading.if_at (below room) (context_view context) (tokens_view tokens.now)) result }
+    ensures height { StatementWithin (room + 1) result }
+    ensures placed { StatementPlaced nodes.old nodes.new (tokens_view tokens.now) result }
 {
     let rest = expect(TokenKind::If, tokens)?;
     let rest = expect(TokenKind::LeftParenthesis, rest)?;
@@ -211,9 +212,9 @@ fn continue_at<'t, 's>(
     context: Context,
     tokens: &'t [Token<'s>],
 ) -> ParsedStatement<'t, 's>
-    ensures gives { (room : ℕ) → Gives (λ x. (statement_view x.0, tokens_view x.2.now)) result (reading.statement_by (below room) (context_view context) classes.a_continue (tokens_view tokens.now)) }
+    ensures gives { (room : ℕ) → ReadsStatement (reading.statement_by (below room) (context_view context) classes.a_continue (tokens_view tokens.now)) result }
     ensures height { IfOk result (λ x. (x.1 ≡ height_of_statement (statement_view x.0)) × (x.1 ≡ 1)) }
-    ensures placed { IfOk result (λ x. Placed true nodes.old nodes.new (statement_places x.0) (tokens_view tokens.now) (tokens_view x.2.now)) }
+    ensures placed { StatementPlaced nodes.old nodes.new (tokens_view tokens.now) result }
 {
     if !context.in_loop {
         return Err(ParseError::Syntax { left: tokens.len() });
@@ -230,9 +231,9 @@ fn break_at<'t, 's>(
     context: Context,
     tokens: &'t [Token<'s>],
 ) -> ParsedStatement<'t, 's>
-    ensures gives { (room : ℕ) → Gives (λ x. (statement_view x.0, tokens_view x.2.now)) result (reading.statement_by (below room) (context_view context) classes.a_break (tokens_view tokens.now)) }
+    ensures gives { (room : ℕ) → ReadsStatement (reading.statement_by (below room) (context_view context) classes.a_break (tokens_view tokens.now)) result }
     ensures height { IfOk result (λ x. (x.1 ≡ height_of_statement (statement_view x.0)) × (x.1 ≡ 1)) }
-    ensures placed { IfOk result (λ x. Placed true nodes.old nodes.new (statement_places x.0) (tokens_view tokens.now) (tokens_view x.2.now)) }
+    ensures placed { StatementPlaced nodes.old nodes.new (tokens_view tokens.now) result }
 {
     if !context.in_loop {
         return Err(ParseError::Syntax { left: tokens.len() });
@@ -245,9 +246,9 @@ fn break_at<'t, 's>(
 
 // `debugger` (14.16).
 fn debugger_at<'t, 's>(nodes: &mut Nodes, tokens: &'t [Token<'s>]) -> ParsedStatement<'t, 's>
-    ensures gives { (room : ℕ) (context : well.Context) → Gives (λ x. (statement_view x.0, tokens_view x.2.now)) result (reading.statement_by (below room) context classes.a_debugger (tokens_view tokens.now)) }
+    ensures gives { (room : ℕ) (context : well.Context) → ReadsStatement (reading.statement_by (below room) context classes.a_debugger (tokens_view tokens.now)) result }
     ensures height { IfOk result (λ x. (x.1 ≡ height_of_statement (statement_view x.0)) × (x.1 ≡ 1)) }
-    ensures placed { IfOk result (λ x. Placed true nodes.old nodes.new (statement_places x.0) (tokens_view tokens.now) (tokens_view x.2.now)) }
+    ensures placed { StatementPlaced nodes.old nodes.new (tokens_view tokens.now) result }
 {
     let rest = expect(TokenKind::Debugger, tokens)?;
     let rest = semicolon_at(End::Word, rest)?;
@@ -264,9 +265,9 @@ fn return_at<'t, 's>(
     tokens: &'t [Token<'s>],
 ) -> ParsedStatement<'t, 's>
     requires { room < MOST_ROOM }
-    ensures gives { Gives (λ x. (statement_view x.0, tokens_view x.2.now)) result (reading.statement_by (below room) (context_view context) classes.a_return (tokens_view tokens.now)) }
-    ensures height { IfOk result (λ x. (x.1 ≡ height_of_statement (statement_view x.0)) × (x.1 ≤ room + 1)) }
-    ensures placed { IfOk result (λ x. Placed true nodes.old nodes.new (statement_places x.0) (tokens_view tokens.now) (tokens_view x.2.now)) }
+    ensures gives { ReadsStatement (reading.statement_by (below room) (context_view context) classes.a_return (tokens_view tokens.now)) result }
+    ensures height { StatementWithin (room + 1) result }
+    ensures placed { StatementPlaced nodes.old nodes.new (tokens_view tokens.now) result }
 {
     if !context.in_function {
         return Err(ParseError::Syntax { left: tokens.len() });
@@ -290,9 +291,9 @@ fn throw_at<'t, 's>(
     tokens: &'t [Token<'s>],
 ) -> ParsedStatement<'t, 's>
     requires { room < MOST_ROOM }
-    ensures gives { Gives (λ x. (statement_view x.0, tokens_view x.2.now)) result (reading.throw_by (below room) (is_on_line (head_of (tail_of (tokens_view tokens.now)))) (tokens_view tokens.now)) }
-    ensures height { IfOk result (λ x. (x.1 ≡ height_of_statement (statement_view x.0)) × (x.1 ≤ room + 1)) }
-    ensures placed { IfOk result (λ x. Placed true nodes.old nodes.new (statement_places x.0) (tokens_view tokens.now) (tokens_view x.2.now)) }
+    ensures gives { ReadsStatement (reading.throw_by (below room) (is_on_line (head_of (tail_of (tokens_view tokens.now)))) (tokens_view tokens.now)) result }
+    ensures height { StatementWithin (room + 1) result }
+    ensures placed { StatementPlaced nodes.old nodes.new (tokens_view tokens.now) result }
 {
     let value = tail(tokens);
     if !is_on_line(value) {

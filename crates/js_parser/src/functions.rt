@@ -1,16 +1,13 @@
 //! Functions that stand alone: a FunctionExpression or an ArrowFunction (ECMA-262, 15.2 and 15.3).
 
-ghost use Rattle.std.specs.Prelude.{◌≡◌, ◌≤◌, ◌<◌, ◌+◌, IfOk, true};
+ghost use Rattle.std.specs.Prelude.{◌≡◌, ◌≤◌, ◌<◌, ◌+◌, true};
 ghost use Rattle.js_tree.specs.Height.{height};
 ghost use Rattle.js_language.specs.Tokens.{head_of};
-ghost use Rattle.js_tree.specs.Views.{expression_view};
 ghost use Rattle.js_syntax.specs.Classes.{parenthesis, start};
-ghost use Rattle.js_syntax.specs.Giving.{Gives};
 ghost use Rattle.js_syntax.specs.Parsing as reading;
 ghost use Rattle.js_syntax.specs.Parsing.{below};
 ghost use Rattle.js_syntax.specs.Views.{tokens_view};
-ghost use Rattle.js_language.specs.Places.{expression_places};
-ghost use Rattle.js_syntax.specs.Placed.{Placed};
+ghost use Rattle.js_descent.specs.ReadTrees.{ReadsExpression, ExpressionWithin, ExpressionPlaced};
 
 use js_descent::arrows::{arrow_of_one, arrow_rest};
 use js_descent::limits::MOST_ROOM;
@@ -38,9 +35,9 @@ pub fn function_code_at<'t, 's>(
     tokens: &'t [Token<'s>],
 ) -> Parsed<'t, 's>
     requires { room < MOST_ROOM }
-    ensures gives { Gives (λ x. (expression_view x.0.value, tokens_view x.2.now)) result (reading.function_code_by (below room) (start (head_of (tokens_view tokens.now))) (tokens_view tokens.now)) }
-    ensures height { IfOk result (λ x. (x.1 ≡ height (expression_view x.0.value)) × (x.1 ≤ room + 1)) }
-    ensures placed { IfOk result (λ x. Placed true nodes.old nodes.new (expression_places x.0.value) (tokens_view tokens.now) (tokens_view x.2.now)) }
+    ensures gives { ReadsExpression (reading.function_code_by (below room) (start (head_of (tokens_view tokens.now))) (tokens_view tokens.now)) result }
+    ensures height { ExpressionWithin (room + 1) result }
+    ensures placed { ExpressionPlaced nodes.old nodes.new (tokens_view tokens.now) result }
 {
     match start_of(tokens) {
         Start::Function => {
@@ -65,9 +62,9 @@ fn arrow_of_parameters<'t, 's>(
     tokens: &'t [Token<'s>],
 ) -> Parsed<'t, 's>
     requires { room < MOST_ROOM }
-    ensures gives { Gives (λ x. (expression_view x.0.value, tokens_view x.2.now)) result (reading.function_code_by (below room) parenthesis (tokens_view tokens.now)) }
-    ensures height { IfOk result (λ x. (x.1 ≡ height (expression_view x.0.value)) × (x.1 ≤ room + 1)) }
-    ensures placed { IfOk result (λ x. Placed true nodes.old nodes.new (expression_places x.0.value) (tokens_view tokens.now) (tokens_view x.2.now)) }
+    ensures gives { ReadsExpression (reading.function_code_by (below room) parenthesis (tokens_view tokens.now)) result }
+    ensures height { ExpressionWithin (room + 1) result }
+    ensures placed { ExpressionPlaced nodes.old nodes.new (tokens_view tokens.now) result }
 {
     let (parameters, names, rest) = parameters_at(nodes.alloc(), tokens)?;
     arrow_rest(
