@@ -3,15 +3,13 @@ use Rattle.std.proofs.Common.{◌≡◌, ℕ, zero, suc, ◌-◌, List, [], ◌�
 use Rattle.std.specs.List.{slice_get}
 use Rattle.std.proofs.lemmas.Option.{slice_get-get_or}
 use Rattle.js_tree.specs.declared.tree.Expr.{Expr}
-use Rattle.js_tree.specs.declared.tree.Exprs.{Exprs}
 use Rattle.js_tree.specs.declared.tree.Declarator.{Declarator}
-use Rattle.js_tree.specs.declared.tree.Declarators.{Declarators, out-Declarators}
+use Rattle.js_tree.specs.declared.tree.Declarators.{Declarators}
 use Rattle.js_tree.proofs.ViewLemmas.{declarator_of}
 use Rattle.js_language.specs.Tokens.{End, after_expression, after_word, plain}
 use Rattle.js_tree.specs.Trees as trees
-use Rattle.js_tree.specs.Trees.{Expression, Expressions, Property, Properties, Key, Statement, Statements, Handler}
 use Rattle.js_language.specs.Flat.{edge, edge_of_last, end_of_declarators}
-use Rattle.js_tree.specs.Views.{expressions, declarators, optional_view, expression_view, property_view, key_view, statement_view, block_view, catch_view, declarator_view, declarators_view, expressions_view, properties_view, statements_view, expression_step, property_step, key_step, statement_step, block_step, catch_step, declarator_step, declarators_step, expressions_step, properties_step, statements_step}
+use Rattle.js_tree.specs.Views.{expressions, declarators, expression_view, declarator_view}
 
 last_at : (xs : List Expr) (i : ℕ) (x : Expr)
     → suc i ≡ length xs

@@ -9,7 +9,7 @@ use Rattle.js_language.specs.Tokens.{Token, Symbol, End, fixed, identifier, iden
 use Rattle.js_language.specs.Flat.{let_or_const, flat_boolean}
 use Rattle.js_language.specs.Places.{stands, stands_maybe, plain}
 use Rattle.js_language.specs.Kinds.{is_kind}
-use Rattle.js_syntax.specs.Reading.{Fault, stuck, Read, text_of, expect, expect_near, name_at, word_at, fresh_name, is_word_next, semicolon_at}
+use Rattle.js_syntax.specs.Reading.{Fault, stuck, text_of, expect, expect_near, name_at, word_at, fresh_name, is_word_next, semicolon_at}
 use Rattle.js_syntax.specs.Classes.{is_name}
 use Rattle.js_syntax.specs.Productions.{expect_name}
 use Rattle.js_syntax.specs.Parsing.{let_kind}

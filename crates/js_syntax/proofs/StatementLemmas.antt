@@ -8,7 +8,7 @@ use Rattle.js_tree.specs.Trees as trees
 use Rattle.js_tree.specs.Trees.{Identifier, Statement}
 use Rattle.js_language.specs.Tokens.{Token, head_of, tail_of}
 use Rattle.js_language.specs.Well.{Context}
-use Rattle.js_tree.specs.Views.{handler_view, catch_view, block_view}
+use Rattle.js_tree.specs.Views.{handler_view}
 use Rattle.js_tree.proofs.ViewLemmas.{catch_of}
 use Rattle.js_syntax.specs.declared.fault.ParseError.{ParseError}
 use Rattle.js_syntax.specs.Giving.{Gives}
