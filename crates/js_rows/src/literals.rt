@@ -29,23 +29,22 @@ use cdp_text::units::Units;
 use js_code::node::{FunctionEntry, MemberEntry};
 use js_code::op::Op;
 use js_code::table::NodeTable;
-use js_heap::built_in::ErrorClass;
 use js_heap::cell::Values;
 use js_heap::value::{Addr, Value};
 use js_operations::action_end::ActionEnd;
 use js_operations::built_ins::new_array;
-use js_operations::cells::make;
 use js_operations::context::Context;
-use js_operations::errors::{bad_key, fail_with};
+use js_operations::errors::bad_key;
 use js_operations::functions::{make_function, named_function};
 use js_operations::lists::last_of;
+use js_operations::objects::object_or_fail;
 use js_operations::seen::Seen;
 use js_steps::reduced::Reduced;
 use js_steps::task::Redex;
 use js_values::operators::key_of;
 use js_world::names::Names;
 use js_world::properties::PropertyMap;
-use js_world::stored::{FunctionName, Stored};
+use js_world::stored::FunctionName;
 use js_world::world::World;
 use std::alloc::{AllocError, Global};
 
@@ -223,29 +222,6 @@ fn properties_from<W: World>(
     Ok(Some(properties))
 }
 
-fn object_or_fail<W: World>(
-    alloc: Global,
-    names: &Names,
-    world: &mut W,
-    properties: Option<PropertyMap>,
-) -> Result<Value, ActionEnd>
-    ensures { Gives (object_or_fail properties) (W.world names.now world.old) result (W.world names.now world.new) }
-{
-    match properties {
-        Some(properties) => {
-            let a = make(world, names, Stored::Object { properties })?;
-            Ok(Value::Object(a))
-        }
-        None => Err(fail_with(
-            alloc,
-            world,
-            names,
-            ErrorClass::TypeError,
-            b"Property key must be a string or a number",
-        )),
-    }
-}
-
 /// Makes the object of an object literal of values.
 fn object_of<W: World>(
     alloc: Global,
@@ -257,7 +233,7 @@ fn object_of<W: World>(
     ensures { Gives (object_or_fail (properties_from (W.world names.now world.old) [] (members_of names.now members.now) values.now)) (W.world names.now world.old) result (W.world names.now world.new) }
 {
     let properties = properties_from(alloc, names, &*world, members, values)?;
-    object_or_fail(alloc, names, world, properties)
+    object_or_fail(alloc, world, names, properties)
 }
 
 // ---- methods with computed keys
