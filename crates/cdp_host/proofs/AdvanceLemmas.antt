@@ -36,7 +36,7 @@ use Rattle.cdp_host.specs.Watching.{prints_last}
 use Rattle.cdp_host.proofs.EndingLemmas.{ending-none, ending-taken}
 use Rattle.cdp_host.proofs.PartLemmas.{arrives}
 use Rattle.cdp_host.proofs.StandingLemmas.{standing-taken}
-use Rattle.cdp_host.proofs.StepLemmas.{either}
+use Rattle.cdp_text.proofs.TestLemmas.{or_false}
 
 pub nexts-suc : (k : ℕ) (scripts : List Script) (r : Run) → nexts scripts (suc k) r ≡ next scripts (nexts scripts k r)
 nexts-suc zero scripts r = refl
@@ -61,7 +61,7 @@ named_seat : (scripts : List Script) (t : Step) (seat : Seat Session)
     → t.first ≡ false
     → names_seat (protocol scripts) t seat ≡ stops_seat t.standing t.arrival seat
 named_seat scripts t (Attached x) first =
-    ap (λ b. is_some (cause_of t.standing t.arrival x) || (b && (x.rules.enabled && not t.standing.over))) first ∙ either (is_some (cause_of t.standing t.arrival x))
+    ap (λ b. is_some (cause_of t.standing t.arrival x) || (b && (x.rules.enabled && not t.standing.over))) first ∙ or_false (is_some (cause_of t.standing t.arrival x))
 named_seat scripts t (Lost loss is_reported is_told) first = refl
 named_seat scripts t Left first = refl
 

@@ -307,11 +307,6 @@ stands-fails scripts input wait old new history moment same works fails seats st
 
 -- ---- where there was no memory
 
--- what holds at an error
-pub at-error : {A E : Type 0} (r : Result A E) (P : Type 0) → P → OnErr r P
-at-error (Ok value) P holds = tt
-at-error (Err error) P holds = holds
-
 -- and what holds at none
 pub at-none : {A E : Type 0} (r : Result A E) (P : Type 0) → P → OnOk r P
 at-none (Ok value) P holds = holds

@@ -30,6 +30,7 @@ use Rattle.cdp_host.specs.Steps.{Step, names, seen_behind, step_of}
 use Rattle.cdp_host.proofs.ProgramLemmas.{plain-next}
 use Rattle.cdp_host.proofs.ProtocolLemmas.{plain-same}
 use Rattle.cdp_host.proofs.WatchLemmas.{names-same, told-asks}
+use Rattle.cdp_text.proofs.TestLemmas.{or_false}
 
 -- ---- one step alone
 
@@ -52,10 +53,6 @@ pub causes-step : (x : Session) (kind : StepKind) (depth : ℕ) (s : Standing) (
     → is_some (cause_of s a x) ≡ ends_step kind depth a
 causes-step x kind depth s a alone = rw (alone.rules.enabled, alone.rules.heeded, alone.rules.no_throws) (by_place x kind depth s a a.place alone)
 
-pub either : (b : Bool) → (b || false) ≡ b
-either true = refl
-either false = refl
-
 -- and so does the session, where the start rule has no say
 names-alone : (t : Step) (x : Session) (kind : StepKind) (depth : ℕ)
     → t.first ≡ false
@@ -63,7 +60,7 @@ names-alone : (t : Step) (x : Session) (kind : StepKind) (depth : ℕ)
     → names t x ≡ ends_step kind depth t.arrival
 names-alone t x kind depth first alone =
     ap (λ b. is_some (cause_of t.standing t.arrival x) || (b && (x.rules.enabled && not t.standing.over))) first
-    ∙ either (is_some (cause_of t.standing t.arrival x))
+    ∙ or_false (is_some (cause_of t.standing t.arrival x))
     ∙ causes-step x kind depth t.standing t.arrival alone
 
 -- ---- others

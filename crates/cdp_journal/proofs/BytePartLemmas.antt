@@ -1,5 +1,5 @@
 -- The parts of bytes are those of texts.
-use Rattle.std.proofs.Common.{◌≡◌, ◌≢◌, ℕ, suc, ◌+◌, ◌-◌, ◌<◌, List, [], ◌∷◌, ◌++◌, length, take, drop, get_or, nat_eq, Bool, true, false, cond, ◌==◌, ltb, Option, Some, None, refl, ap, sym, ◌∙◌, arith, Bor}
+use Rattle.std.proofs.Common.{◌≡◌, ◌≢◌, ℕ, suc, ◌+◌, ◌-◌, ◌<◌, List, [], ◌∷◌, ◌++◌, length, take, drop, get_or, nat_eq, true, false, ◌==◌, ltb, Option, Some, None, refl, ap, sym, ◌∙◌, arith, Bor}
 use Rattle.std.specs.Cmp.Lexicographic.{pointwise}
 use Rattle.std.specs.List.{position, position_or_len}
 use Rattle.std.specs.Option.{MatchOption, option_map}
@@ -10,19 +10,16 @@ use Rattle.std.proofs.lemmas.List.Quantifiers.{position-Some}
 use Rattle.std.proofs.lemmas.List.Sums.{fails_before_first}
 use Rattle.std.proofs.lemmas.Slice.Eq.{strip_prefix_is}
 use Rattle.cdp_text.specs.Parts.{behind, halves}
-use Rattle.cdp_text.proofs.PartsLemmas.{behind-append, behind-some, halves-append}
+use Rattle.cdp_text.proofs.PartsLemmas.{behind-append, behind-some, halves-append, none_from_some}
+use Rattle.cdp_text.proofs.LinesLemmas.{position-None}
 
 -- ---- a front
-
-none-from-some : {A : Type 0} → (o : Option A) → ((x : A) → o ≢ Some x) → o ≡ None
-none-from-some None lacks = refl
-none-from-some (Some x) lacks = absurd (lacks x refl)
 
 behind-stripped : (front bytes : List ℕ) (r : Option (Bor (List ℕ)))
     → MatchOption r ((rest : List ℕ) → bytes ≢ front ++ rest) (λ x. bytes ≡ front ++ x.now)
     → option_map (λ rest. rest.now) r ≡ behind front bytes
 behind-stripped front bytes None lacks =
-    sym (none-from-some (behind front bytes) (λ rest is. lacks rest (behind-some front bytes rest is)))
+    sym (none_from_some (behind front bytes) (λ rest is. lacks rest (behind-some front bytes rest is)))
 behind-stripped front bytes (Some x) is = sym (rw is (behind-append front x.now))
 
 -- what the bytes' own call says
@@ -51,11 +48,6 @@ halves-found separator bytes end found =
     λ i below. let before : i < end = omega (arith, simp length-take at below) in
     rw (get_or-take end bytes i 0 before) (eqb-false (get_or bytes i 0) separator (there.2 i before)) in
     sym (ap (halves separator) whole ∙ halves-append separator front back lacks)
-
--- with no place found, the list ends first
-position-None : (b : Bool) (n : ℕ) → cond b (Some n) None ≡ None → b ≡ false
-position-None true n is = cc
-position-None false n is = refl
 
 lacks-halves : (separator : ℕ) (bytes : List ℕ) → ((i : ℕ) → i < length bytes → get_or bytes i 0 ≢ separator)
     → halves separator bytes ≡ None

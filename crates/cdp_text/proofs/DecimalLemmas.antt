@@ -11,8 +11,8 @@ use Rattle.std.proofs.lemmas.Fmt.{digits_decimal, digits_value-decimal, decimal_
 use Rattle.cdp_text.specs.Decimal.{decimal_value, digits_number, begins_shortest}
 
 -- the texts of digits, and their value
-own : IsNumeralModel (λ ds. all_ascii_digits ds ≡ true) (digits_value 10)
-own = numerals_by_value _ tells_all_ascii_digits
+pub digits_are_numerals : IsNumeralModel (λ ds. all_ascii_digits ds ≡ true) (digits_value 10)
+digits_are_numerals = numerals_by_value _ tells_all_ascii_digits
 
 -- more digits make no smaller number
 digits_value_after-ge : (n : ℕ) (digits : List ℕ) → n ≤ digits_value_after 10 n digits
@@ -46,7 +46,7 @@ decimal_value-some digits n h =
     let full : 0 < length digits = grind (arith, nat_tests, outer.0) in
     let first : get_or digits 0 0 ≡ 48 → length digits ≡ 1 = λ e. grind (arith, nat_tests, outer.0) in
     let is : digits_value 10 digits ≡ n = cc (inner.1) in
-    let text = decimal-digits_value own digits tests.0 full first small in
+    let text = decimal-digits_value digits_are_numerals digits tests.0 full first small in
     (cc, omega arith)
 
 -- only the text of 0 begins with 0
@@ -65,7 +65,7 @@ pub decimal_value-decimal : (n : ℕ) → n < 2 ^ 64 → decimal_value (decimal 
 unfolding decimal_value
 decimal_value-decimal n h =
     let small : nat_lt n (2 ^ 64) ≡ true = lt-ltb n (2 ^ 64) h in
-    rw (begins_shortest-decimal n h, digits_decimal own n h, digits_value-decimal own n h, small)
+    rw (begins_shortest-decimal n h, digits_decimal digits_are_numerals n h, digits_value-decimal digits_are_numerals n h, small)
 
 -- what the value tells of the text
 pub shortest_from_value : (digits : List ℕ) (r : Option ℕ)

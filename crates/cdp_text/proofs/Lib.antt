@@ -4,3 +4,4 @@ pub mod LinesLemmas
 pub mod PartsLemmas
 pub mod PositionLemmas
 pub mod UnitsLemmas
+pub mod TestLemmas

@@ -118,7 +118,7 @@ cuts-found text end h =
     ap lines_of (cuts-parts text end h) ∙ lines_of-line (take end text) _ one
 
 -- with no place found, the list ends first
-position-None : (b : Bool) (n : ℕ) → cond b (Some n) None ≡ None → b ≡ false
+pub position-None : (b : Bool) (n : ℕ) → cond b (Some n) None ≡ None → b ≡ false
 position-None true n h = cc
 position-None false n h = refl
 

@@ -28,7 +28,7 @@ behind-some (byte ∷ front) [] rest is = cc
 behind-some (byte ∷ front) (first ∷ text) rest is =
     behind_step (eqb byte first) byte first front text rest (eqb-true byte first) (behind-some front text rest) is
 
-none_from_some : {A : Type 0} → (o : Option A) → ((x : A) → o ≢ Some x) → o ≡ None
+pub none_from_some : {A : Type 0} → (o : Option A) → ((x : A) → o ≢ Some x) → o ≡ None
 none_from_some None lacks = refl
 none_from_some (Some x) lacks = absurd (lacks x refl)
 

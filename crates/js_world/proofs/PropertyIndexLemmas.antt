@@ -4,7 +4,6 @@ use Rattle.std.specs.Prelude.{insert, remove, slice_index, slice_get, ◌&&◌}
 use Rattle.std.specs.Str.{all_ascii_digits}
 use Rattle.std.specs.Str.Parse.{digits_value}
 use Rattle.std.proofs.lemmas.Bool.{eq-eqb, ne_eqb, cases_eq, and_parts, ltb-true, lt-ltb, le-ltb, cases_lt}
-use Rattle.std.proofs.lemmas.Str.Parse.{IsNumeralModel, numerals_by_value, tells_all_ascii_digits}
 use Rattle.std.proofs.lemmas.Fmt.{decimal-digits_value}
 use Rattle.js_heap.specs.declared.cell.Property.{Property}
 use Rattle.js_heap.specs.Keys.{same_units, has_key, is_shortest, index_within, index_of_key, stands_before}
@@ -13,11 +12,9 @@ use Rattle.js_heap.proofs.PlaceLemmas.{has-place}
 use Rattle.js_world.specs.PropertyOrder.{AreIndicesOf, AreAbove, Ascend, IsSearched}
 use Rattle.js_world.proofs.PropertyKeyLemmas.{zip-length}
 use Rattle.js_world.proofs.TableLemmas.{same-only, same-refl}
+use Rattle.cdp_text.proofs.DecimalLemmas.{digits_are_numerals}
 
 -- ---- a key is the decimal text of its index
-
-own : IsNumeralModel (λ ds. all_ascii_digits ds ≡ true) (digits_value 10)
-own = numerals_by_value _ tells_all_ascii_digits
 
 if_some : (b : Bool) (o : Option ℕ) (n : ℕ) → (if b then o else None) ≡ Some n → (b ≡ true) × (o ≡ Some n)
 if_some true o n h = (refl, h)
@@ -42,7 +39,7 @@ index-text key i h =
     let tests = and_parts (is_shortest key) (all_ascii_digits key) outer.0 in
     let low = ltb-true (digits_value 10 key) (2 ^ 32 - 1) inner.0 in
     let small : digits_value 10 key < 2 ^ 64 = omega arith in
-    let text = decimal-digits_value own key tests.1 (shortest_full key tests.0) (shortest_first key tests.0) small in
+    let text = decimal-digits_value digits_are_numerals key tests.1 (shortest_full key tests.0) (shortest_first key tests.0) small in
     let is : digits_value 10 key ≡ i = cc (inner.1) in
     cc
 

@@ -66,11 +66,6 @@ module _ (g : List ℕ) (old new : BTreeMap (Vec ℕ) (BTreeSet ℕ)) (w : Optio
       (λ n. ap numbers_of (set-elsewhere u q n))
       (same-name g q)
 
--- a fact at the exit of an error
-pub on-err : {A E : Type 0} (r : Result A E) (P : Type 0) → P → OnErr r P
-on-err (Ok x) P p = tt
-on-err (Err e) P p = p
-
 -- a group gets its first number, under a copy of its name
 pub numbers-begun : (g name : List ℕ) (before old new : BTreeMap (Vec ℕ) (BTreeSet ℕ)) (set : BTreeSet ℕ) (n : ℕ)
     → name ≡ g

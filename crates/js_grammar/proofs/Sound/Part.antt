@@ -24,6 +24,7 @@ use Rattle.js_grammar.proofs.TokenLemmas.{ok_is, test_ok, expect_sound, expect_n
 use Rattle.js_grammar.proofs.Sound.List.{behind_commas, up_to, in_a_row, AllGood, Reads, elements_sound, others_sound, items_sound}
 use Rattle.js_syntax.proofs.ShorterLemmas.{bind_ok}
 use Rattle.std.proofs.lemmas.Bool.{and_parts}
+use Rattle.cdp_text.proofs.TestLemmas.{or_false}
 
 -- ---- names
 
@@ -45,10 +46,6 @@ pub fresh_same : (known taken ns : List Identifier)
     → AreFresh taken ns
 fresh_same known taken [] same f = tt
 fresh_same known taken (n ∷ ns) same f = (sym (same n) ∙ f.0, fresh_same (n ∷ known) (n ∷ taken) ns (λ m. ap (λ (b : Bool). pointwise nat_eq n m || b) (same m)) f.1)
-
-or_false : (b : Bool) → (b || false) ≡ b
-or_false true = refl
-or_false false = refl
 
 -- the order of the names before doesn't matter
 pub fresh_behind : (ps ns : List Identifier) → AreFresh (with_names [] ps) ns → AreFresh ps ns

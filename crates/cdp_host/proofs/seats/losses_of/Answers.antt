@@ -2,9 +2,9 @@ use Rattle.std.proofs.Common.{rules, ◌+◌, ◌∷◌, [], ap, sym, ◌∙◌,
 use Rattle.isolation.specs.Seats.{waits_for_report}
 use Rattle.isolation.proofs.SomeLemmas.{some-found}
 use Rattle.cdp_host.specs.Watching.{losses_from}
-use Rattle.cdp_host.proofs.RunLemmas.{at-error}
 use Rattle.cdp_host.proofs.SeatLemmas.{listed-waits, losses-done, losses-more}
 use Rattle.cdp_host.proofs.seats.losses_of.Goals as goal
+use Rattle.cdp_text.proofs.TestLemmas.{on-err}
 
 pub loop-seat-init : goal.loop-seat-init
 loop-seat-init c = record { counted = search rules; items = c.new-losses.ensures.items }
@@ -30,7 +30,7 @@ returns-clause-losses c = losses-done c.loop-seat.seat-index c.args.seats.now c.
 -- there is no memory for a loss that waits
 pub returns-in_err-push_loss-clause-err : goal.returns-in_err-push_loss-clause-err
 returns-in_err-push_loss-clause-err c =
-    at-error c.from_residual.result _
+    on-err c.from_residual.result _
     (some-found waits_for_report c.loop-seat.seat-index c.args.seats.now c.seat-item.result c.loop-seat-test.true
     (ap waits_for_report (sym c.seat-item.is)
     ∙ listed-waits (c.loop-seat.session + 1) c.seat-item.result c.loss_waiting.result c.loss_waiting.ensures c.in_err-push_loss.ensures.err))

@@ -1,16 +1,16 @@
 use Rattle.std.proofs.Common.{map, string_bytes, refl, ap, ◌∙◌, sym}
 use Rattle.cdp_edge.specs.Outside.{gains}
-use Rattle.cdp_host.proofs.RunLemmas.{at-error}
 use Rattle.command_line.proofs.ActLemmas.{less-as, offers, part-as, plays, refuses}
 use Rattle.cdp_journal.specs.LineRead.{line_held}
 use Rattle.command_line.specs.Output.{joined}
 use Rattle.command_line.proofs.journal.play_line.Goals as goal
+use Rattle.cdp_text.proofs.TestLemmas.{on-err}
 
 pub returns-in_err-put_lines-clause-part : goal.returns-in_err-put_lines-clause-part
 returns-in_err-put_lines-clause-part g c =
     let reads = rw c.in-Ok-Some.field-0-is at c.in-Ok-Some.ensures.value in
     let acts = rw c.in-Ok-Some-act.field-0-is at c.in-Ok-Some-act.ensures.acts in
-    at-error c.from_residual.result _ λ s i w h stood.
+    on-err c.from_residual.result _ λ s i w h stood.
     part-as _ _ _ _ (offers c.args.text.now (line_held c.in-Ok-Some.line) (map string_bytes c.in-Ok-Some-act.lines.items) c.args.host.now c.act.new.host reads acts s i w h stood
     ∙ ap (λ xs. joined (map string_bytes xs)) (sym c.deref.ensures.value)) c.in_err-put_lines.ensures.err
 

@@ -3,8 +3,9 @@ use Rattle.isolation.specs.Meanings.{is_ready}
 use Rattle.cdp_host.specs.Hosts.{meaning_with}
 use Rattle.cdp_host.specs.Protocols.{protocol}
 use Rattle.cdp_host.proofs.StateLemmas.{may-parts}
-use Rattle.cdp_host.proofs.RunLemmas.{at-error, at-none, keeps-none, ran-nothing, some-longest}
+use Rattle.cdp_host.proofs.RunLemmas.{at-none, keeps-none, ran-nothing, some-longest}
 use Rattle.cdp_host.proofs.host.Host.make.Goals as goal
+use Rattle.cdp_text.proofs.TestLemmas.{on-err}
 
 pub returns-then-may_step-clause-still : goal.returns-then-may_step-clause-still
 returns-then-may_step-clause-still c =
@@ -17,7 +18,7 @@ returns-then-may_step-clause-still c =
 
 pub returns-then-may_step-clause-err_steps : goal.returns-then-may_step-clause-err_steps
 returns-then-may_step-clause-err_steps c =
-    at-error c.make_steps.result _ (λ taken.
+    on-err c.make_steps.result _ (λ taken.
     let now = c.args.self.now in
     let P = protocol now.scripts in
     let m = meaning_with now taken in

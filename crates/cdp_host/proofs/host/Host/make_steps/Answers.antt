@@ -5,8 +5,9 @@ use Rattle.isolation.specs.Meanings.{is_ready}
 use Rattle.cdp_host.specs.Hosts.{meaning_with}
 use Rattle.cdp_host.specs.Protocols.{protocol}
 use Rattle.cdp_host.proofs.StateLemmas.{may-parts}
-use Rattle.cdp_host.proofs.RunLemmas.{at-error, falls-from, keeps-more, keeps-none, ran-longest, ran-more, ran-none, ran-prints}
+use Rattle.cdp_host.proofs.RunLemmas.{falls-from, keeps-more, keeps-none, ran-longest, ran-more, ran-none, ran-prints}
 use Rattle.cdp_host.proofs.host.Host.make_steps.Goals as goal
+use Rattle.cdp_text.proofs.TestLemmas.{on-err}
 
 -- ---- the loop
 
@@ -100,7 +101,7 @@ returns-clause-keeps c = c.loop-self.invariant.keeps
 
 pub returns-in_err-left-clause-back : goal.returns-in_err-left-clause-back
 returns-in_err-left-clause-back c =
-    at-error c.from_residual.result _
+    on-err c.from_residual.result _
     (falls-from c.args.self.now c.loop-self.self c.advance.new.self c.loop-self.invariant.keeps
     c.in_err-left.ensures.back)
 

@@ -8,8 +8,9 @@ use Rattle.isolation.specs.Standing.{fallen_in}
 use Rattle.cdp_host.specs.Hosts.{meaning_with}
 use Rattle.cdp_host.specs.Protocols.{protocol}
 use Rattle.cdp_host.specs.Watching.{losses_from}
-use Rattle.cdp_host.proofs.RunLemmas.{at-error, falls-from, listed-by, reported-fit, reported-none, settled-as}
+use Rattle.cdp_host.proofs.RunLemmas.{falls-from, listed-by, reported-fit, reported-none, settled-as}
 use Rattle.cdp_host.proofs.host.Host.try_run.Goals as goal
+use Rattle.cdp_text.proofs.TestLemmas.{on-err}
 
 pub invariant_of-self : goal.invariant_of-self
 invariant_of-self c =
@@ -57,7 +58,7 @@ returns-in-Ok-clause-runs c = λ taken.
 -- ---- where there is no memory
 
 pub returns-in_err-steps-clause-err_steps : goal.returns-in_err-steps-clause-err_steps
-returns-in_err-steps-clause-err_steps c = at-error c.from_residual.result _ (λ taken. inl (c.in_err-steps.ensures.err_steps taken))
+returns-in_err-steps-clause-err_steps c = on-err c.from_residual.result _ (λ taken. inl (c.in_err-steps.ensures.err_steps taken))
 
 pub returns-in-Err-clause-err_steps : goal.returns-in-Err-clause-err_steps
 returns-in-Err-clause-err_steps c =

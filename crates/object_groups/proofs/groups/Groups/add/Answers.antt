@@ -2,8 +2,9 @@ use Rattle.std.proofs.Common.{◌∙◌, ap, rules, nat_cmp}
 use Rattle.std.specs.Prelude.{Some}
 use Rattle.std.specs.BTreeSet.{insert_key}
 use Rattle.object_groups.specs.Groups.{numbers_of}
-use Rattle.object_groups.proofs.GroupLemmas.{numbers-changed, numbers-same, numbers-begun, on-err}
+use Rattle.object_groups.proofs.GroupLemmas.{numbers-changed, numbers-same, numbers-begun}
 use Rattle.object_groups.proofs.groups.Groups.add.Goals as goal
+use Rattle.cdp_text.proofs.TestLemmas.{on-err}
 
 pub returns-in_err-insert-clause-kept : goal.returns-in_err-insert-clause-kept
 returns-in_err-insert-clause-kept c =
