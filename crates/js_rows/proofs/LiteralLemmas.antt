@@ -3,24 +3,21 @@ use Rattle.std.proofs.Common.{◌≡◌, ℕ, refl, sym, subst, ap, ◌∙◌, B
 use Rattle.js_heap.specs.declared.value.Addr.{Addr}
 use Rattle.js_heap.specs.declared.value.Value.{Value}
 use Rattle.js_heap.specs.declared.value.Value.TheVariants as values
-use Rattle.js_heap.specs.declared.cell.Property.{Property}
 use Rattle.js_heap.specs.declared.cell.Cell.TheVariants as cells
-use Rattle.js_heap.specs.declared.built_in.ErrorClass.TheVariants as classes
 use Rattle.js_heap.specs.Values.{key_of}
 use Rattle.js_heap.specs.World.{World}
-use Rattle.std.specs.Prelude.{codes}
 use Rattle.js_semantics.specs.declared.form.Form.{Form}
 use Rattle.js_semantics.specs.declared.form.Form.TheVariants.{Method as method, Object as object}
 use Rattle.js_semantics.specs.declared.form.FunctionForm.{FunctionForm}
 use Rattle.js_semantics.specs.declared.form.Member.{Member}
 use Rattle.js_semantics.specs.Terms.{Term, Terms, done, part, more, joined, dones}
-use Rattle.js_semantics.specs.State.{State, with_world, Action, go, give, make, fail, top_this, goes, went}
+use Rattle.js_semantics.specs.State.{State, with_world, Action, go, give, make, top_this, goes, went}
 use Rattle.js_semantics.specs.BuiltIns.{last_of}
 use Rattle.js_semantics.specs.Functions.{function_cell, function_row, named_function, receiver_of}
 use Rattle.js_semantics.specs.Rows.{object_row, object_or_fail, properties_from}
 use Rattle.js_world.specs.Names.{name_of}
 use Rattle.js_operations.specs.declared.action_end.ActionEnd.{ActionEnd}
-use Rattle.js_operations.specs.Flow.{performed, Stops, Ends, Yields, Gives}
+use Rattle.js_operations.specs.Flow.{performed, Yields, Gives}
 use Rattle.js_operations.specs.Functions.{named_of}
 use Rattle.js_operations.specs.Contexts.{Context, state_of}
 use Rattle.js_code.specs.declared.node.Node.{Node}
@@ -94,14 +91,6 @@ function-reply ts f scope u c v r w q h g j =
     λ t e. in-context ts t e (function_row (state_of v c []) scope f) v q w c (replies-by ts (function_row (state_of v c []) scope f) v r w q (subst P h g) j t e)
 
 -- ---- object literals
-
-pub no-key : (o : Option (List Property)) (v w : World) (x : ActionEnd)
-    → o ≡ None
-    → Ends (fail classes.TypeError (codes "Property key must be a string or a number")) v x w
-    → (s : State)
-    → Stops (object_or_fail o) (with_world s v) x (with_world s w)
-no-key None v w x h g s = g s
-no-key (Some ps) v w x h g s = cc
 
 adds_does : (ts : List (List ℕ)) (t : NodeTable) (e : Wide) (ms : List Member) (vs : List Value) (now rest : Terms) (u : Value) (s : State)
     → AddsTo ts t e ms vs now rest →

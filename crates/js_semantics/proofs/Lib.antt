@@ -5,7 +5,7 @@ pub mod Reports
 pub mod Steps
 pub mod Cases
 pub mod Places
-pub mod FullRuns
+pub mod Limits
 pub mod Evaluations
 pub mod FollowLemmas
 pub mod SoundTerms

@@ -19,7 +19,7 @@ use Rattle.js_semantics.specs.Functions.{Program}
 use Rattle.js_semantics.specs.Makers.{Made}
 use Rattle.js_semantics.specs.Sources.{expression_source}
 use Rattle.js_semantics.specs.Literals.{source_literals}
-use Rattle.js_semantics.specs.declared.limits.TheConstants.{MOST_STEPS}
+use Rattle.js_semantics.specs.declared.bounds.TheConstants.{MOST_STEPS}
 use Rattle.js_semantics.specs.Run.{ended, threw, by_effect, by_full, Run, running, over, run_of, steps_in, literals, with_literals}
 
 -- ---- the world of an evaluation

@@ -16,7 +16,7 @@ use Rattle.js_heap.specs.World.{read_cell}
 use Rattle.js_semantics.specs.Terms.{Source, script_source, kept_source, Mark, start, FunctionForm, Form, function, method, frame, Term, done, standing, part, Terms, end, more, one, settle}
 use Rattle.js_heap.specs.Values.{same_address}
 use Rattle.js_semantics.specs.State.{State, Action, go, make, write, set_here, push_frame, give, fail, this_of}
-use Rattle.js_semantics.specs.declared.limits.TheConstants.{MOST_FRAMES}
+use Rattle.js_semantics.specs.declared.bounds.TheConstants.{MOST_FRAMES}
 use Rattle.js_semantics.specs.BuiltIns.{built_in_call}
 pub use Rattle.js_heap.specs.Arguments.{parameters_from}
 

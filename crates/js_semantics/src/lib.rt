@@ -15,7 +15,7 @@
 //!   Waiting (`RunWaits`): what takes no step is done at once. Listed (`RunListsFrames`): the frames of the state are those of the term.
 #![tactic(auto)]
 
+pub mod bounds;
 pub mod form;
 pub mod laws;
-pub mod limits;
 pub mod offsets;

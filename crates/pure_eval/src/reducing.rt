@@ -15,7 +15,7 @@ use crate::evaluated::{Evaluated, end_at, end_of};
 use js_code::table::NodeTable;
 use js_heap::value::{Addr, Value};
 use js_operations::context::Context;
-use js_semantics::limits::MOST_STEPS;
+use js_semantics::bounds::MOST_STEPS;
 use js_steps::rows::Rows;
 use js_steps::run::{Asks, run};
 use js_steps::settling::uncover;
